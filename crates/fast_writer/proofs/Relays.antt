@@ -1,6 +1,6 @@
 -- A part that was read and written at once.
-use Rattle.std.proofs.Common.{IfSome, IfNone, ◌≡◌, ℕ, ◌+◌, Bool, List, ◌++◌, ◌∷◌, Option, Some, None, Ok, true, false, [], drop, refl, sym, ap, ◌∙◌, append-nil}
-use Rattle.std.specs.Prelude.{slice_index}
+use Rattle.std.proofs.Common.{◌≡◌, ◌<◌, ℕ, ◌+◌, Bool, List, ◌++◌, ◌∷◌, Option, Some, None, Ok, true, false, [], drop, length, refl, sym, ap, subst, ◌∙◌, append-nil, arith}
+use Rattle.std.specs.Prelude.{MatchOption, slice_index}
 use Rattle.fast_template.specs.declared.resolved.FieldPart.{FieldPart}
 use Rattle.fast_value.specs.declared.scalar.Scalar.{Scalar}
 use Rattle.fast_template.specs.Resolved.{part_needs_bit}
@@ -17,25 +17,24 @@ use Rattle.fast_relay.specs.declared.run.Run.{Run}
 use Rattle.fast_relay.proofs.Runs.{settled}
 use Rattle.fast_walk.specs.Received.{Took, length_of}
 use Rattle.fast_walk.proofs.Putting.{set_written}
-use Rattle.fast_writer.specs.Levels.{level_in, level_of}
 use Rattle.fast_stream.specs.Bits.{bit_for}
 use Rattle.fast_field.specs.Passed.{Passes as FieldPasses}
-use Rattle.fast_writer.specs.Quick.{Relayed}
+use Rattle.fast_writer.specs.Quick.{Relayed, RelaysEntry, RelaysPart, StopsEntry, StopsPart}
 use Rattle.fast_writer.specs.Takings.{TookEntry}
+use Rattle.fast_writer.proofs.MapRoom.{asked_room}
+use Rattle.fast_field.specs.declared.fault.FieldFault.{FieldFault}
 use Rattle.fast_writer.specs.Written.{Segment, AppendsForm, Asked, Spelt}
-use Rattle.fast_writer.specs.declared.segment.Segment.{Segment as LevelNow}
 
-pub took_of : (level : Level) (p : FieldPart) (bit : Bool) (d e : Dictionary) (old new : Entry) (v : Option Scalar) (bytes rest : List ℕ)
-    → old ≡ entry_at d p.key → e ≡ set_entry d p.key new → new ≡ next p old v
+pub took_of : {level : Level} {p : FieldPart} {bit : Bool} {d e : Dictionary} {old new : Entry} {v : Option Scalar} {bytes rest : List ℕ} → old ≡ entry_at d p.key → e ≡ set_entry d p.key new → new ≡ next p old v
     → ((more : List ℕ) → field_at level p old bit (bytes ++ more) ≡ Ok (v, rest ++ more)) → Took level p bit d e v bytes rest
-took_of level p bit d e old new v bytes rest is put after goes = record {
+took_of {p = p} {d = d} {v = v} is put after goes = record {
   value = λ more. rw (is) at (goes more);
   entry = put ∙ ap (set_entry d p.key) (after ∙ ap (λ (x : Entry). next p x v) is) ∙ set_written p d v;
 }
 
-pub spelt_entry : (p : FieldPart) (old : Entry) (v : Option Scalar) (bit needed : Bool) (l k : Segment) (bytes : List ℕ) → needed ≡ part_needs_bit p
-    → AppendsForm p old v bit l.bytes bytes → Asked needed bit (record { bits = l.bits; own = l.own; bytes = bytes }) k → Spelt p old v l k
-spelt_entry p old v bit needed l k bytes needs form asked = record {
+spelt_entry : {p : FieldPart} {old : Entry} {v : Option Scalar} {bit needed : Bool} {l k : Segment} {bytes : List ℕ} → needed ≡ part_needs_bit p → AppendsForm p old v bit l.bytes bytes
+    → Asked needed bit (record { bits = l.bits; own = l.own; bytes = bytes }) k → Spelt p old v l k
+spelt_entry {bit = bit} needs form asked = record {
   bit = bit;
   form = form.form;
   bits = rw (needs) at asked.bits;
@@ -46,73 +45,70 @@ spelt_entry p old v bit needed l k bytes needs form asked = record {
 }
 
 -- a part that was relayed and whose bit was asked for
-pub took_entry : (level : Level) (p : FieldPart) (old new : Entry) (bits : List Bool) (bit best needed : Bool) (v : Option Scalar) (bytes rest middle : List ℕ) (l k : Segment)
+pub took_entry : {level : Level} {p : FieldPart} {old new : Entry} {bits : List Bool} {bit best needed : Bool} {v : Option Scalar} {bytes rest middle : List ℕ} {l k : Segment}
     → bit_for (part_needs_bit p) bits ≡ bit → needed ≡ part_needs_bit p → (bit ≡ false → best ≡ false)
     → Relayed level p old new bit best v bytes rest l.bytes middle → Asked needed best (record { bits = l.bits; own = l.own; bytes = middle }) k → TookEntry level p old new bits v bytes rest l k
 unfolding spelt_entry
-took_entry level p old new bits bit best needed v bytes rest middle l k is needs low r asked = record {
+took_entry is needs low r asked = record {
   value = λ more. rw (is) (r.read more);
   entry = r.entry;
-  spelt = spelt_entry p old v best needed l k middle needs r.form asked;
+  spelt = spelt_entry needs r.form asked;
   lower = λ zero. low (sym is ∙ zero);
 }
 
 -- what stands in its best form is relayed by its bytes
-pub stands_relayed : (level : Level) (i : FieldPart) (old new : Entry) (v : Scalar) (bytes rest before after all : List ℕ) → ReadsAsUsual level i bytes → Relays i old new v bytes rest before after → all ≡ after
+pub stands_relayed : {level : Level} {i : FieldPart} {old new : Entry} {v : Scalar} {bytes rest before after all : List ℕ} → ReadsAsUsual level i bytes → Relays i old new v bytes rest before after → all ≡ after
     → Relayed level i old new true true (Some v) bytes rest before all
-stands_relayed level i old new v bytes rest before after all usual r same = record {
+stands_relayed {old = old} usual r same = record {
   read = λ more. usual old more ∙ r.read more;
   entry = r.entry;
   form = record { form = r.best.bytes; appended = same ∙ r.best.appended; best = r.best.best; needs = λ none. refl };
 }
 
 -- what bit 0 gives is relayed by nothing
-pub passes_relayed : (level : Level) (i : FieldPart) (old new : Entry) (v : Option Scalar) (bytes before : List ℕ) → part_needs_bit i ≡ true → FieldPasses i old new v → Relayed level i old new false false v bytes bytes before before
-passes_relayed level i old new v bytes before needs p = record {
+pub passes_relayed : {level : Level} {i : FieldPart} {old new : Entry} {v : Option Scalar} {bytes before : List ℕ} → part_needs_bit i ≡ true → FieldPasses i old new v → Relayed level i old new false false v bytes bytes before before
+passes_relayed {level = level} {bytes = bytes} {before = before} needs p = record {
   read = λ more. p.read level (bytes ++ more);
   entry = p.entry;
   form = record { form = []; appended = sym (append-nil before); best = p.best; needs = λ none. absurd (let both = sym needs ∙ none in cc) };
 }
 
--- what bit 0 repeats under a key
+-- what bit 0 repeats under a key, or that it was left as it is
 pub repeated_put : (p : FieldPart) (d e : Dictionary) (old new : Entry) (r : Option (Option ℕ)) → old ≡ entry_at d p.key → e ≡ set_entry d p.key new
-    → IfSome r (λ count. FieldPasses p old new (length_of count)) → IfSome r (λ count. (x : Entry) × FieldPasses p (entry_at d p.key) x (length_of count) × (e ≡ set_entry d p.key x))
-repeated_put p d e old new None is put passes = tt
+    → MatchOption r (new ≡ old) (λ count. FieldPasses p old new (length_of count))
+    → MatchOption r (e ≡ d) (λ count. (x : Entry) × FieldPasses p (entry_at d p.key) x (length_of count) × (e ≡ set_entry d p.key x))
+repeated_put p d e old new None is put same = put ∙ ap (set_entry d p.key) (same ∙ is) ∙ set_entry-there d p.key
 repeated_put p d e old new (Some count) is put passes = (new, rw (is) at passes, put)
-
--- and where it was left as it is
-pub nothing_put : (p : FieldPart) (d e : Dictionary) (old new : Entry) (r : Option (Option ℕ)) → old ≡ entry_at d p.key → e ≡ set_entry d p.key new → IfNone r (new ≡ old) → IfNone r (e ≡ d)
-nothing_put p d e old new (Some count) is put same = tt
-nothing_put p d e old new None is put same = put ∙ ap (set_entry d p.key) (same ∙ is) ∙ set_entry-there d p.key
-
-pub spelt_of : (p : FieldPart) (d : Dictionary) (old : Entry) (v : Option Scalar) (bit needed : Bool) (l k : Segment) (bytes : List ℕ)
-    → old ≡ entry_at d p.key → needed ≡ part_needs_bit p
-    → AppendsForm p old v bit l.bytes bytes → Asked needed bit (record { bits = l.bits; own = l.own; bytes = bytes }) k → Spelt p (entry_at d p.key) v l k
-spelt_of p d old v bit needed l k bytes is needs form asked = record {
-  bit = bit;
-  form = form.form;
-  bits = rw (needs) at asked.bits;
-  own = asked.own;
-  bytes = asked.bytes ∙ form.appended;
-  needs = form.needs;
-  best = rw (is) at form.best;
-}
 
 pub level_bytes : (l : Segment) (bytes : List ℕ) → bytes ≡ l.bytes → record { bits = l.bits; own = l.own; bytes = bytes } ≡ l
 level_bytes l bytes is = rw (is) refl
-
--- what is noted of the bytes that are read stays noted
-pub asked_in : (bytes : List ℕ) (needed bit : Bool) (l k : LevelNow) → Asked needed bit (level_of l) (level_of k) → k.bytes ≡ l.bytes → Asked needed bit (level_in bytes l) (level_in bytes k)
-asked_in bytes needed bit l k asked same = record { bits = asked.bits; own = asked.own; bytes = ap (written bytes) same }
 
 -- where nothing is noted yet
 pub begun : (bytes : List ℕ) (r s : Run) (at : ℕ) → s.out.items ≡ r.out.items → s.from ≡ at → s.place ≡ at → written bytes s ≡ r.out.items
 begun bytes r s at out from place = rw (out, from, place) (settled bytes r.out.items at)
 
--- what is behind what was read, as it is called otherwise
-pub took_behind : (level : Level) (p : FieldPart) (old new : Entry) (bits : List Bool) (v : Option Scalar) (bytes rest later : List ℕ) (l k : Segment) → later ≡ rest
-    → TookEntry level p old new bits v bytes rest l k → TookEntry level p old new bits v bytes later l k
-took_behind level p old new bits v bytes rest later l k same t = rw (same) t
+-- ---- under a key
+
+-- what was relayed into the entry that is put, and its bit asked for
+pub relays_under : {level : Level} {p : FieldPart} {d e : Dictionary} {old new : Entry} {bit best needed : Bool} {v : Option Scalar} {bytes : List ℕ} {at next : ℕ} {l k : Segment} {after : List ℕ}
+    → old ≡ entry_at d p.key → e ≡ set_entry d p.key new → needed ≡ part_needs_bit p
+    → RelaysEntry level p old new bit best v bytes at next l.bytes after → Asked needed best (record { bits = l.bits; own = l.own; bytes = after }) k → RelaysPart level p d e bit v bytes at next l k
+relays_under {p = p} {bit = bit} {best = best} {v = v} {l = l} {k = k} is put needs r asked = record {
+  place = r.place;
+  took = took_of is put r.relayed.entry r.relayed.read;
+  spelt = subst (λ (x : Entry). Spelt p x v l k) is (spelt_entry needs r.relayed.form asked);
+  room = λ left left_is room. asked_room (part_needs_bit p) bit best l k left left_is r.lower (rw (needs) at asked.bits) asked.own room;
+}
+
+pub stops_under : (level : Level) (p : FieldPart) (d e : Dictionary) (old new : Entry) (bit : Bool) (bytes : List ℕ) (l : Segment) (after : List ℕ) (f : FieldFault)
+    → old ≡ entry_at d p.key → e ≡ set_entry d p.key new → StopsEntry level p old new bit bytes l.bytes after f → StopsPart level p d e bit bytes l (record { bits = l.bits; own = l.own; bytes = after }) f
+stops_under level p d e old new bit bytes l after f is put s other =
+    (rw (is) at (s.fault other), put ∙ ap (set_entry d p.key) (s.entry ∙ is) ∙ set_entry-there d p.key, level_bytes l after s.out)
+
+-- a part without a bit is read under bit 1
+pub needs_one : (needs bit : Bool) → (needs ≡ false → bit ≡ true) → bit ≡ false → needs ≡ true
+needs_one true bit one zero = refl
+needs_one false bit one zero = absurd (let both = sym zero ∙ one refl in cc)
 
 -- a length in one byte, whose entry stays
 pub byte_relayed : (level : Level) (i : FieldPart) (count : Option ℕ) (bytes : List ℕ) (at : ℕ) → ReadsAsUsual level i (drop at bytes) → RelaysByte i count bytes at → (e : Entry) (out : List ℕ)
@@ -124,17 +120,12 @@ byte_relayed level i None bytes at usual relays e out =
     let r = relays e out in
     record { read = λ more. usual e more ∙ r.read more; entry = r.entry; form = record { form = r.best.bytes; appended = r.best.appended; best = r.best.best; needs = λ none. refl } }
 
-pub byte_took : (level : Level) (p : FieldPart) (bit : Bool) (d : Dictionary) (count : Option ℕ) (bytes : List ℕ) (at : ℕ) → bit ≡ true → ReadsAsUsual level p (drop at bytes) → RelaysByte p count bytes at
-    → Took level p bit d d (length_of count) (drop at bytes) (drop (at + 1) bytes)
-byte_took level p bit d count bytes at is usual relays =
-    let e = entry_at d p.key in
-    let r = byte_relayed level p count bytes at usual relays e [] in
-    took_of level p bit d d e e (length_of count) (drop at bytes) (drop (at + 1) bytes) refl (sym (set_entry-there d p.key)) r.entry (rw (is) r.read)
-
 -- where no bit is asked for
-pub byte_spelt : (level : Level) (p : FieldPart) (d : Dictionary) (count : Option ℕ) (bytes : List ℕ) (at : ℕ) (l k : Segment) → part_needs_bit p ≡ false → ReadsAsUsual level p (drop at bytes) → RelaysByte p count bytes at
-    → k.bits ≡ l.bits → k.own ≡ l.own → k.bytes ≡ l.bytes ++ slice_index bytes at ∷ [] → Spelt p (entry_at d p.key) (length_of count) l k
-byte_spelt level p d count bytes at l k none usual relays bits own pushed =
+pub byte_relays : (level : Level) (p : FieldPart) (bit : Bool) (d : Dictionary) (count : Option ℕ) (bytes : List ℕ) (at : ℕ) (l k : Segment)
+    → part_needs_bit p ≡ false → bit ≡ true → at < length bytes → ReadsAsUsual level p (drop at bytes) → RelaysByte p count bytes at
+    → k.bits ≡ l.bits → k.own ≡ l.own → k.bytes ≡ l.bytes ++ slice_index bytes at ∷ [] → RelaysPart level p d d bit (length_of count) bytes at (at + 1) l k
+byte_relays level p bit d count bytes at l k none is within usual relays bits own pushed =
     let e = entry_at d p.key in
-    let r = byte_relayed level p count bytes at usual relays e l.bytes in
-    spelt_of p d e (length_of count) true false l k (l.bytes ++ slice_index bytes at ∷ []) refl (sym none) r.form (record { bits = bits ∙ sym (append-nil l.bits); own = own; bytes = pushed })
+    relays_under {best = true} {after = l.bytes ++ slice_index bytes at ∷ []} refl (sym (set_entry-there d p.key)) (sym none)
+    (record { place = (omega arith, omega (arith, within)); relayed = rw (is) (byte_relayed level p count bytes at usual relays e l.bytes); lower = λ zero. absurd (let both = sym is ∙ zero in cc) })
+    (record { bits = bits ∙ sym (append-nil l.bits); own = own; bytes = pushed })

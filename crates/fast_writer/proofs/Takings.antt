@@ -1,28 +1,45 @@
 -- Fields that are taken one after the other into the segment that is open.
-use Rattle.std.proofs.Common.{◌≡◌, ◌≤◌, ◌<◌, ◌-◌, ◌+◌, ℕ, zero, suc, ℤ, pos, Bool, true, false, List, [], ◌∷◌, ◌++◌, length, get_or, Option, Some, None, drop, refl, sym, ap, ◌∙◌, subst, arith}
+use Rattle.std.proofs.Common.{◌≡◌, ◌≤◌, ◌<◌, ◌-◌, ◌+◌, ℕ, zero, suc, ℤ, pos, Bool, true, false, List, [], ◌∷◌, ◌++◌, length, get_or, Option, Some, None, drop, take, refl, sym, ap, ◌∙◌, subst, arith}
+use Rattle.std.proofs.lemmas.List.{take_all}
 use Rattle.std.specs.Option.{is_some}
 use Rattle.std.specs.List.{slice_get}
 use Rattle.std.specs.Borrow.{Bor}
+use Rattle.std.specs.Prelude.{slice_range}
 use Rattle.fast_value.specs.declared.scalar.Scalar.{Scalar}
 use Rattle.fast_value.specs.declared.scalar.Scalar.TheVariants.{I64, Decimal}
 use Rattle.fast_value.specs.declared.kind.Presence.{Presence}
 use Rattle.fast_template.specs.declared.resolved.FieldPart.{FieldPart}
 use Rattle.fast_template.specs.declared.resolved.Flat.{Flat}
 use Rattle.fast_template.specs.Resolved.{Instruction, Instructions, instruction_of, whole_field, field_in_parts, group_of, sequence_of, then_instruction, list_of, part_needs_bit}
-use Rattle.fast_dictionary.specs.Dictionary.{Dictionary, entry_at}
+use Rattle.fast_dictionary.specs.Dictionary.{Dictionary, entry_at, set_entry, set_entry-there}
+use Rattle.fast_dictionary.specs.declared.entry.Entry.{Entry}
 use Rattle.fast_wire.specs.declared.level.Level.{Level}
 use Rattle.fast_stream.specs.Nodes.{single}
 use Rattle.fast_stream.specs.Bits.{bit_for, after_bit}
-use Rattle.fast_walk.specs.OpenSegments.{Next, at_instruction, at_mantissa, cursor}
+use Rattle.fast_walk.specs.OpenSegments.{Next, at_mantissa, cursor}
 use Rattle.fast_walk.specs.Received.{Received, Took, moved, passed, exponent_of}
 use Rattle.fast_walk.specs.Passing.{Passes, next_behind}
+use Rattle.fast_walk.specs.Walks.{AreServed, IsNextServed, IsServed}
+use Rattle.fast_value.specs.declared.key.Key.{Key}
 use Rattle.fast_walk.proofs.Steps.{count_goes, part_goes}
 use Rattle.fast_walk.proofs.Walking.{field_on, exponent_on, no_exponent_on, mantissa_on_goes, is_instruction, is_mantissa}
-use Rattle.fast_writer.specs.Written.{Segment, IsOpened, Spelt}
-use Rattle.fast_writer.specs.Takings.{BeginsWith, Front, IfElsewhere, IfTaken, Takes, at_place, behind, front_at}
+use Rattle.fast_writer.specs.Written.{Segment, Spelt}
+use Rattle.fast_writer.specs.Takings.{BeginsWith, EndsPart, Front, MatchTaken, Takes, TakesPart, TakesUnder, TookEntry, TookFields, TookUnder, behind, front_at}
+use Rattle.fast_writer.specs.Levels.{level_in, level_of}
+use Rattle.fast_writer.specs.Quick.{Relayed}
+use Rattle.fast_writer.specs.declared.segment.Segment.{Segment as LevelNow}
 use Rattle.fast_writer.specs.declared.fields.Taken.{Taken}
 use Rattle.fast_writer.specs.declared.fields.Taken.TheVariants.{Part, Elsewhere, Refused}
 use Rattle.fast_relay.specs.Relayed.{IsThere}
+use Rattle.fast_relay.specs.Judged.{Judges}
+use Rattle.fast_relay.specs.Runs.{IsRun, written}
+use Rattle.fast_relay.specs.declared.run.Run.{Run}
+use Rattle.fast_field.specs.AsUsual.{ReadsAsUsual}
+use Rattle.fast_field.specs.Parts.{IsFieldPart}
+use Rattle.fast_walk.specs.Told.{KeepScalars}
+use Rattle.fast_writer.proofs.MapRoom.{asked_room}
+use Rattle.fast_writer.proofs.Relays.{stands_relayed, took_entry, took_of}
+use Rattle.fast_writer.proofs.SpeltParts.{mantissa_taken, spelt_keeps}
 use Rattle.fast_writer.proofs.QuickWays.{exponent_there}
 use Rattle.fast_writer.proofs.Writers.{has_field, has_exponent, has_mantissa}
 
@@ -48,13 +65,16 @@ in_front (g ∷ flats) (suc i) f later front =
     let more : suc i + 1 ≡ suc (i + 1) = omega arith in
     record { within = omega (arith, on.within); is = on.is; later_is = rw more on.later_is }
 
+abbrev behind_first : List Flat → List Flat
+behind_first others = take (length others - 1) (drop 1 others)
+
 -- the instruction in front of what is left of a body, told by how many are left, and what is left behind it
 pub record Ahead (flats others : List Flat) (f : Flat) : Type 0 where
   pub within : length flats - length others < length flats
   pub is : f ≡ get_or flats (length flats - length others) f
-  pub fewer : length (drop 1 others) ≤ length flats
-  pub next : length flats - length (drop 1 others) ≡ length flats - length others + 1
-  pub later_is : drop 1 others ≡ drop (length flats - length others + 1) flats
+  pub fewer : length (behind_first others) ≤ length flats
+  pub next : length flats - length (behind_first others) ≡ length flats - length others + 1
+  pub later_is : behind_first others ≡ drop (length flats - length others + 1) flats
 
 first_of : (others : List Flat) (f : Flat) → Some f ≡ slice_get others 0 → others ≡ f ∷ drop 1 others
 first_of [] f is = absurd cc
@@ -65,33 +85,29 @@ pub none_ahead : (flats others : List Flat) → None ≡ slice_get others 0 → 
 none_ahead flats [] none = omega arith
 none_ahead flats (g ∷ others) none = absurd cc
 
-pub ahead : (flats others : List Flat) (f : Flat) → length others ≤ length flats → others ≡ drop (length flats - length others) flats → Some f ≡ slice_get others 0 → Ahead flats others f
-ahead flats others f few is first =
+pub ahead : (flats : List Flat) {others : List Flat} {f : Flat} → length others ≤ length flats → others ≡ drop (length flats - length others) flats → Some f ≡ slice_get others 0 → Ahead flats others f
+ahead flats {others} {f} few is first =
     let whole = first_of others f first in
     let front = in_front flats (length flats - length others) f (drop 1 others) (sym is ∙ whole) in
     let one : length others ≡ suc (length (drop 1 others)) = ap length whole in
+    let all : behind_first others ≡ drop 1 others = take_all (length others - 1) (drop 1 others) (omega (arith, one)) in
     record {
       within = front.within;
       is = front.is;
-      fewer = omega (arith, one, few);
-      next = omega (arith, one, few);
-      later_is = front.later_is;
+      fewer = rw all (omega (arith, one, few));
+      next = rw all (omega (arith, one, few));
+      later_is = rw all front.later_is;
     }
 
--- what is next behind the exponent of a decimal in parts, whether it is there
-abbrev pub behind_exponent : Bool → FieldPart → Next
-behind_exponent true q = at_mantissa (pos 0) q
-behind_exponent false q = at_instruction
+-- the parts that it may come to are served
+pub served_ahead : (serves : Key → Bool) {flats others : List Flat} {f : Flat} → Ahead flats others f → AreServed serves (list_of (drop (length flats - length others) flats))
+    → IsServed serves (instruction_of f) × AreServed serves (list_of (drop (length flats - length others + 1) flats))
+served_ahead serves {flats} {others} {f} front served = subst (AreServed serves) (next_flat flats (length flats - length others) f front.is front.within) served
 
 -- what is next behind a field's first part: nothing behind a field's own
 pub behind_whole : (there : Bool) (m : Option (Bor FieldPart)) → m ≡ None → behind there m ≡ None
 behind_whole true m none = none
 behind_whole false m none = refl
-
--- and the mantissa behind an exponent that is there
-behind_parts : (there : Bool) (m : Option (Bor FieldPart)) (r : Bor FieldPart) (q : FieldPart) → m ≡ Some r → r.now ≡ q → next_behind (behind there m) ≡ behind_exponent there q
-behind_parts true m r q some is = ap next_behind some ∙ ap (at_mantissa (pos 0)) is
-behind_parts false m r q some is = refl
 
 -- of another receiver
 pub passes_with : (level : Level) (Has Had : Received → Type 0) (o : Received) (next : Next) (left : Instructions) (d e : Dictionary) (bits later : List Bool) (spare fewer : ℕ) (bytes rest : List ℕ)
@@ -107,214 +123,269 @@ passes_with level Has Had o next left d e bits later spare fewer bytes rest f p 
   reads = p.reads;
 }
 
--- what holds of a part that was taken, by what holds of it
-pub taken_on : (t : Taken) (P Q R S : Bool → Type 0) → ((b : Bool) → P b → Q b → R b → S b) → IfTaken t P → IfTaken t Q → IfTaken t R → IfTaken t S
-taken_on (Part b) P Q R S f p q r = f b p q r
-taken_on Elsewhere P Q R S f p q r = tt
-taken_on Refused P Q R S f p q r = tt
+-- ---- a part
 
-pub taken_so : (t : Taken) (P Q : Bool → Type 0) → ((b : Bool) → P b → Q b) → IfTaken t P → IfTaken t Q
-taken_so (Part b) P Q f p = f b p
-taken_so Elsewhere P Q f p = tt
-taken_so Refused P Q f p = tt
+-- its form is written, and its bit taken and asked for
+pub ended : (level : Level) (p : FieldPart) (old new : Entry) (bit best needed there : Bool) (v : Option Scalar) (bits later : List Bool) (bytes : List ℕ) (at next : ℕ) (l k : LevelNow) (r : Run) (t : Taken)
+    → bit_for (part_needs_bit p) bits ≡ bit → needed ≡ part_needs_bit p → (bit ≡ false → best ≡ false) → at ≤ next → IsRun bytes next r → IsThere p.kind there v
+    → Relayed level p old new bit best v (drop at bytes) (drop next bytes) (written bytes l.bytes) (written bytes r)
+    → MatchTaken t (λ is. (is ≡ there) × EndsPart needed best bits later (record { bits = l.bits; own = l.own; bytes = r.out.items }) (level_of k) × (k.bytes ≡ r)) ⊥
+    → TakesPart level p old new bits later bytes at l k t
+ended level p old new bit best needed there v bits later bytes at next l k r (Part there_now) is needs low forward run value relayed e =
+    let asked = e.1.asked in
+    let place : k.bytes.place ≡ next = ap (λ (s : Run). s.place) e.2 ∙ run.place in
+    record {
+      place = rw (place) forward;
+      run = subst (λ (s : Run). IsRun bytes s.place s) (sym e.2) (subst (λ (n : ℕ). IsRun bytes n r) (sym run.place) run);
+      value = v;
+      is_there = rw (e.0) value;
+      took = subst (λ (n : ℕ). TookEntry level p old new bits v (drop at bytes) (drop n bytes) (level_in bytes l) (level_in bytes k)) (sym place)
+          (took_entry is needs low relayed (record { bits = asked.bits; own = asked.own; bytes = ap (written bytes) e.2 }));
+      left = rw (needs) at e.1.left;
+    }
+ended level p old new bit best needed there v bits later bytes at next l k r Elsewhere is needs low forward run value relayed e = absurd e
+ended level p old new bit best needed there v bits later bytes at next l k r Refused is needs low forward run value relayed e = tt
 
--- and where nothing was done
-pub elsewhere_on : (t : Taken) (P Q : Type 0) → (P → Q) → IfElsewhere t P → IfElsewhere t Q
-elsewhere_on (Part b) P Q f p = tt
-elsewhere_on Elsewhere P Q f p = f p
-elsewhere_on Refused P Q f p = tt
+-- it stands in its best form
+pub stood : (level : Level) (p : FieldPart) (old new : Entry) (needed : Bool) (bits later : List Bool) (bytes : List ℕ) (at next : ℕ) (l k : LevelNow) (r : Run) (t : Taken)
+    → bit_for (part_needs_bit p) bits ≡ true → needed ≡ part_needs_bit p → ReadsAsUsual level p (drop at bytes) → at ≤ next → (v : Scalar) × Judges true p old new v bytes at next
+    → IsRun bytes next r → written bytes r ≡ written bytes l.bytes ++ slice_range bytes at next
+    → MatchTaken t (λ is. (is ≡ true) × EndsPart needed true bits later (record { bits = l.bits; own = l.own; bytes = r.out.items }) (level_of k) × (k.bytes ≡ r)) ⊥
+    → TakesPart level p old new bits later bytes at l k t
+stood level p old new needed bits later bytes at next l k r t is needs usual forward judged run noted e =
+    let v = judged.0 in
+    let relays = judged.1 (written bytes l.bytes) in
+    ended level p old new true true needed true (Some v) bits later bytes at next l k r t is needs (λ low. low) forward run (v, refl, relays.of_kind)
+    (stands_relayed usual relays noted) e
 
--- at the beginning of a body
-front_begins : (flats : List Flat) (spare place : ℕ) → front_at flats spare 0 None place ≡ record { mantissa = None; rest = list_of flats; spare = spare; place = place }
-front_begins flats spare place =
-    let whole : spare - 0 ≡ spare = omega arith in
-    ap (λ (n : ℕ). let f : Front = record { mantissa = None; rest = list_of flats; spare = n; place = place } in f) whole
+-- its entry is put under its key
+pub taken_under : (level : Level) (p : FieldPart) (d e : Dictionary) (old new : Entry) (bits later : List Bool) (bytes : List ℕ) (at : ℕ) (l k : LevelNow) (t : Taken)
+    → IsFieldPart p → KeepScalars d → old ≡ entry_at d p.key → e ≡ set_entry d p.key new
+    → TakesPart level p old new bits later bytes at l k t → TakesUnder level p d e bits later bytes at l k t
+taken_under level p d e old new bits later bytes at l k (Part there) part kept is put t =
+    let needs = part_needs_bit p in
+    let v = t.value in
+    let took : Took level p (bit_for needs bits) d e v (drop at bytes) (drop k.bytes.place bytes) = took_of is put t.took.entry t.took.value in
+    let spelt = subst (λ (x : Entry). Spelt p x v (level_in bytes l) (level_in bytes k)) is t.took.spelt in
+    record {
+      place = t.place;
+      run = t.run;
+      value = v;
+      is_there = t.is_there;
+      took = took;
+      spelt = spelt;
+      left = t.left;
+      room = λ room. rw (t.left)
+          (asked_room needs (bit_for needs bits) t.took.spelt.bit (level_in bytes l) (level_in bytes k) bits refl t.took.lower t.took.spelt.bits t.took.spelt.own room);
+      kept = spelt_keeps p d e v (level_in bytes l) (level_in bytes k) part kept took.entry spelt;
+    }
+taken_under level p d e old new bits later bytes at l k Elsewhere part kept is put s =
+    record { same = put ∙ ap (set_entry d p.key) (s.same ∙ is) ∙ set_entry-there d p.key; segment = s.segment; left = s.left; run = s.run }
+taken_under level p d e old new bits later bytes at l k Refused part kept is put t = tt
 
-module _ (level : Level) (bytes : List ℕ) where
+-- ---- fields
+
+module _ {level : Level} {bytes : List ℕ} where
   -- where nothing was taken
-  pub takes_none : (l : Segment) (d : Dictionary) (bits : List Bool) (f : Front) → Takes level bytes l d bits f l d bits f
-  takes_none l d bits f outer o next first opened = record {
-    received = o;
-    has = opened;
-    same = record { set = refl; before = refl; template = refl; members = refl; start = refl };
-    around = refl;
-    next_is = next;
-    left_is = first;
-    reads = λ more. refl;
+  takes_none : {l : Segment} {d : Dictionary} {bits : List Bool} {f : Front} → Takes level bytes l d bits f l d bits f
+  takes_none = record {
+    passes = λ outer o next first opened. record {
+      received = o;
+      has = opened;
+      same = record { set = refl; before = refl; template = refl; members = refl; start = refl };
+      around = refl;
+      next_is = next;
+      left_is = first;
+      reads = λ more. refl;
+    };
   }
 
-  pub takes_same : (l k : Segment) (d e : Dictionary) (bits later : List Bool) (f : Front) → e ≡ d → k ≡ l → later ≡ bits → Takes level bytes l d bits f k e later f
-  takes_same l k d e bits later f entries segment map = rw (entries, segment, map) (takes_none l d bits f)
-
-  -- the same segments, as they are called otherwise
-  pub takes_between : (l m k j : Segment) (d e : Dictionary) (bits later : List Bool) (f g : Front) → m ≡ l → j ≡ k → Takes level bytes m d bits f k e later g → Takes level bytes l d bits f j e later g
-  takes_between l m k j d e bits later f g one other t = subst (λ (x : Segment). Takes level bytes x d bits f j e later g) one (subst (λ (x : Segment). Takes level bytes m d bits f x e later g) (sym other) t)
-
-  -- and the same places
-  pub takes_at : (l m k j : Segment) (d e : Dictionary) (bits later : List Bool) (f g : Front) (a x b y : ℕ) → m ≡ l → j ≡ k → a ≡ x → y ≡ b
-      → Takes level bytes m d bits (at_place f a) k e later (at_place g b) → Takes level bytes l d bits (at_place f x) j e later (at_place g y)
-  takes_at l m k j d e bits later f g a x b y one other begins ends t =
-      takes_between l m k j d e bits later (at_place f x) (at_place g y) one other
-      (subst (λ (n : ℕ). Takes level bytes m d bits (at_place f n) k e later (at_place g y)) begins (subst (λ (n : ℕ). Takes level bytes m d bits (at_place f a) k e later (at_place g n)) (sym ends) t))
-
   -- one behind the other
-  pub takes_on : (l k j : Segment) (d e c : Dictionary) (bits later last : List Bool) (f g h : Front) → Takes level bytes l d bits f k e later g → Takes level bytes k e later g j c last h → Takes level bytes l d bits f j c last h
-  takes_on l k j d e c bits later last f g h one two outer o next first opened =
-      let p = one outer o next first opened in
-      let q = two outer p.received p.next_is p.left_is p.has in
-      record {
-        received = q.received;
-        has = q.has;
-        same = record {
-          set = q.same.set ∙ p.same.set;
-          before = q.same.before ∙ p.same.before;
-          template = q.same.template ∙ p.same.template;
-          members = q.same.members ∙ p.same.members;
-          start = q.same.start ∙ p.same.start;
+  takes_on : {l k j : Segment} {d e c : Dictionary} {bits later last : List Bool} {f g h : Front} → Takes level bytes l d bits f k e later g → Takes level bytes k e later g j c last h → Takes level bytes l d bits f j c last h
+  takes_on one two = record {
+    passes = λ outer o next first opened.
+        let p = one.passes outer o next first opened in
+        let q = two.passes outer p.received p.next_is p.left_is p.has in
+        record {
+          received = q.received;
+          has = q.has;
+          same = record {
+            set = q.same.set ∙ p.same.set;
+            before = q.same.before ∙ p.same.before;
+            template = q.same.template ∙ p.same.template;
+            members = q.same.members ∙ p.same.members;
+            start = q.same.start ∙ p.same.start;
+          };
+          around = q.around ∙ p.around;
+          next_is = q.next_is;
+          left_is = q.left_is;
+          reads = λ more. p.reads more ∙ q.reads more;
         };
-        around = q.around ∙ p.around;
-        next_is = q.next_is;
-        left_is = q.left_is;
-        reads = λ more. p.reads more ∙ q.reads more;
-      }
+  }
 
   -- a field
-  pub takes_field : (l k : Segment) (d e : Dictionary) (bits later : List Bool) (f g : Front) (name : List ℕ) (number : ℕ) (presence : Presence) (p : FieldPart) (is : Instructions) (v : Option Scalar) (next : ℕ)
-      → f.mantissa ≡ None → f.rest ≡ then_instruction (whole_field name number presence p) is → g.mantissa ≡ None → g.rest ≡ is → g.spare + 1 ≡ f.spare → g.place ≡ next
-      → Took level p (bit_for (part_needs_bit p) bits) d e v (drop f.place bytes) (drop next bytes) → Spelt p (entry_at d p.key) v l k → later ≡ after_bit (part_needs_bit p) bits
-      → Takes level bytes l d bits f k e later g
-  takes_field l k d e bits later f g name number presence p is v next none first none_behind rest spare place took spelt map outer o at left opened =
-      let here = is_instruction o.next (at ∙ ap next_behind none) in
-      let begins = left ∙ first in
-      let less : f.spare - 1 ≡ g.spare = omega (arith, spare) in
-      record {
-        received = passed o is (single v);
-        has = has_field outer l k o name number presence p is d e v here begins took.entry spelt opened;
-        same = record { set = refl; before = refl; template = refl; members = refl; start = refl };
-        around = refl;
-        next_is = sym (ap next_behind none_behind);
-        left_is = sym rest;
-        reads = λ more.
-            rw (map, took.entry, sym less, place)
-            (field_on level [] o.next o.body name number presence p is (cursor d bits f.spare (drop f.place bytes ++ more)) (cursor d bits (f.spare - 1) (drop f.place bytes ++ more)) _ v here begins
-            (count_goes number f.spare d bits (drop f.place bytes ++ more) (omega (arith, spare)))
-            (part_goes level p d bits (f.spare - 1) (drop f.place bytes ++ more) (drop next bytes ++ more) v (took.value more)));
-      }
+  takes_field : {l k : Segment} {d e : Dictionary} {bits later : List Bool} {p : FieldPart} {v : Option Scalar} (name : List ℕ) (number : ℕ) (presence : Presence) (is : Instructions) (spare place next : ℕ) → 0 < spare
+      → Took level p (bit_for (part_needs_bit p) bits) d e v (drop place bytes) (drop next bytes) → Spelt p (entry_at d p.key) v l k → later ≡ after_bit (part_needs_bit p) bits
+      → Takes level bytes l d bits (record { mantissa = None; rest = then_instruction (whole_field name number presence p) is; spare = spare; place = place }) k e later (record { mantissa = None; rest = is; spare = spare - 1; place = next })
+  takes_field {l} {k} {d} {e} {bits} {later} {p} {v} name number presence is spare place next some took spelt map = record {
+    passes = λ outer o at left opened.
+        let here = is_instruction o.next at in
+        record {
+          received = passed o is (single v);
+          has = has_field outer l k o name number presence p is d e v here left took.entry spelt opened;
+          same = record { set = refl; before = refl; template = refl; members = refl; start = refl };
+          around = refl;
+          next_is = refl;
+          left_is = refl;
+          reads = λ more.
+              rw (map, took.entry)
+              (field_on level [] o.next o.body name number presence p is (cursor d bits spare (drop place bytes ++ more)) (cursor d bits (spare - 1) (drop place bytes ++ more)) _ v here left
+              (count_goes number spare d bits (drop place bytes ++ more) some)
+              (part_goes level p d bits (spare - 1) (drop place bytes ++ more) (drop next bytes ++ more) v (took.value more)));
+        };
+  }
 
   -- the exponent of a decimal in parts
-  exponent_passes : (z : Option ℤ) (there : Bool) (l k : Segment) (d e : Dictionary) (bits later : List Bool) (f g : Front) (name : List ℕ) (number : ℕ) (presence : Presence) (p q : FieldPart) (is : Instructions) (next : ℕ)
-      → is_some z ≡ there → f.rest ≡ then_instruction (field_in_parts name number presence p q) is → next_behind g.mantissa ≡ behind_exponent there q → g.rest ≡ is → g.spare + 1 ≡ f.spare → g.place ≡ next
-      → Took level p (bit_for (part_needs_bit p) bits) d e (exponent_of z) (drop f.place bytes) (drop next bytes) → Spelt p (entry_at d p.key) (exponent_of z) l k → later ≡ after_bit (part_needs_bit p) bits
-      → (outer : List Segment) (o : Received) → o.next ≡ at_instruction → o.body.rest ≡ f.rest → IsOpened outer l o d
-      → Passes level (λ r. IsOpened outer k r e) o (next_behind g.mantissa) (g.rest) d bits f.spare (drop f.place bytes) e later g.spare (drop g.place bytes)
-  exponent_passes None true l k d e bits later f g name number presence p q is next some first behind rest spare place took spelt map outer o here left opened = absurd cc
-  exponent_passes (Some z) false l k d e bits later f g name number presence p q is next some first behind rest spare place took spelt map outer o here left opened = absurd cc
-  exponent_passes None false l k d e bits later f g name number presence p q is next some first behind rest spare place took spelt map outer o here left opened =
-      let begins = left ∙ first in
-      let less : f.spare - 1 ≡ g.spare = omega (arith, spare) in
-      record {
-        received = passed o is (single None);
-        has = has_exponent None outer l k o name number presence p q is d e here begins took.entry spelt opened;
-        same = record { set = refl; before = refl; template = refl; members = refl; start = refl };
-        around = refl;
-        next_is = sym behind;
-        left_is = sym rest;
-        reads = λ more.
-            rw (map, took.entry, sym less, place)
-            (no_exponent_on level [] o.next o.body name number presence p q is (cursor d bits f.spare (drop f.place bytes ++ more)) (cursor d bits (f.spare - 1) (drop f.place bytes ++ more)) _ None here begins refl
-            (count_goes number f.spare d bits (drop f.place bytes ++ more) (omega (arith, spare)))
-            (part_goes level p d bits (f.spare - 1) (drop f.place bytes ++ more) (drop next bytes ++ more) None (took.value more)));
-      }
-  exponent_passes (Some z) true l k d e bits later f g name number presence p q is next some first behind rest spare place took spelt map outer o here left opened =
-      let begins = left ∙ first in
-      let less : f.spare - 1 ≡ g.spare = omega (arith, spare) in
-      record {
-        received = moved o (at_mantissa z q) (record { rest = is; done = o.body.done }) o.around;
-        has = has_exponent (Some z) outer l k o name number presence p q is d e here begins took.entry spelt opened;
-        same = record { set = refl; before = refl; template = refl; members = refl; start = refl };
-        around = refl;
-        next_is = sym behind;
-        left_is = sym rest;
-        reads = λ more.
-            rw (map, took.entry, sym less, place)
-            (exponent_on level [] o.next o.body name number presence p q is (cursor d bits f.spare (drop f.place bytes ++ more)) (cursor d bits (f.spare - 1) (drop f.place bytes ++ more)) _ (exponent_of (Some z)) z here begins refl
-            (count_goes number f.spare d bits (drop f.place bytes ++ more) (omega (arith, spare)))
-            (part_goes level p d bits (f.spare - 1) (drop f.place bytes ++ more) (drop next bytes ++ more) (exponent_of (Some z)) (took.value more)));
-      }
-
-  pub takes_exponent : (z : Option ℤ) (there : Bool) (l k : Segment) (d e : Dictionary) (bits later : List Bool) (f g : Front) (name : List ℕ) (number : ℕ) (presence : Presence) (p q : FieldPart) (is : Instructions) (next : ℕ)
-      → is_some z ≡ there → f.mantissa ≡ None → f.rest ≡ then_instruction (field_in_parts name number presence p q) is → next_behind g.mantissa ≡ behind_exponent there q → g.rest ≡ is → g.spare + 1 ≡ f.spare → g.place ≡ next
-      → Took level p (bit_for (part_needs_bit p) bits) d e (exponent_of z) (drop f.place bytes) (drop next bytes) → Spelt p (entry_at d p.key) (exponent_of z) l k → later ≡ after_bit (part_needs_bit p) bits
-      → Takes level bytes l d bits f k e later g
-  takes_exponent z there l k d e bits later f g name number presence p q is next some none first behind rest spare place took spelt map outer o at left opened =
-      exponent_passes z there l k d e bits later f g name number presence p q is next some first behind rest spare place took spelt map outer o (is_instruction o.next (at ∙ ap next_behind none)) left opened
+  takes_exponent : {l k : Segment} {d e : Dictionary} {bits later : List Bool} {p : FieldPart} (z : Option ℤ) (there : Bool) (name : List ℕ) (number : ℕ) (presence : Presence) (q : Bor FieldPart) (is : Instructions) (spare place next : ℕ)
+      → is_some z ≡ there → 0 < spare
+      → Took level p (bit_for (part_needs_bit p) bits) d e (exponent_of z) (drop place bytes) (drop next bytes) → Spelt p (entry_at d p.key) (exponent_of z) l k → later ≡ after_bit (part_needs_bit p) bits
+      → Takes level bytes l d bits (record { mantissa = None; rest = then_instruction (field_in_parts name number presence p q.now) is; spare = spare; place = place })
+      k e later (record { mantissa = behind there (Some q); rest = is; spare = spare - 1; place = next })
+  takes_exponent None true name number presence q is spare place next there_is some took spelt map = absurd cc
+  takes_exponent (Some z) false name number presence q is spare place next there_is some took spelt map = absurd cc
+  takes_exponent {l} {k} {d} {e} {bits} {later} {p} None false name number presence q is spare place next there_is some took spelt map = record {
+    passes = λ outer o at left opened.
+        let here = is_instruction o.next at in
+        record {
+          received = passed o is (single None);
+          has = has_exponent None outer l k o name number presence p q.now is d e here left took.entry spelt opened;
+          same = record { set = refl; before = refl; template = refl; members = refl; start = refl };
+          around = refl;
+          next_is = refl;
+          left_is = refl;
+          reads = λ more.
+              rw (map, took.entry)
+              (no_exponent_on level [] o.next o.body name number presence p q.now is (cursor d bits spare (drop place bytes ++ more)) (cursor d bits (spare - 1) (drop place bytes ++ more)) _ None here left refl
+              (count_goes number spare d bits (drop place bytes ++ more) some)
+              (part_goes level p d bits (spare - 1) (drop place bytes ++ more) (drop next bytes ++ more) None (took.value more)));
+        };
+  }
+  takes_exponent {l} {k} {d} {e} {bits} {later} {p} (Some z) true name number presence q is spare place next there_is some took spelt map = record {
+    passes = λ outer o at left opened.
+        let here = is_instruction o.next at in
+        record {
+          received = moved o (at_mantissa z q.now) (record { rest = is; done = o.body.done }) o.around;
+          has = has_exponent (Some z) outer l k o name number presence p q.now is d e here left took.entry spelt opened;
+          same = record { set = refl; before = refl; template = refl; members = refl; start = refl };
+          around = refl;
+          next_is = refl;
+          left_is = refl;
+          reads = λ more.
+              rw (map, took.entry)
+              (exponent_on level [] o.next o.body name number presence p q.now is (cursor d bits spare (drop place bytes ++ more)) (cursor d bits (spare - 1) (drop place bytes ++ more)) _ (exponent_of (Some z)) z here left refl
+              (count_goes number spare d bits (drop place bytes ++ more) some)
+              (part_goes level p d bits (spare - 1) (drop place bytes ++ more) (drop next bytes ++ more) (exponent_of (Some z)) (took.value more)));
+        };
+  }
 
   -- the mantissa of a decimal whose exponent is there
-  pub takes_mantissa : (l k : Segment) (d e : Dictionary) (bits later : List Bool) (f g : Front) (q : Bor FieldPart) (m : ℤ) (next : ℕ)
-      → f.mantissa ≡ Some q → g.mantissa ≡ None → g.rest ≡ f.rest → g.spare ≡ f.spare → g.place ≡ next
-      → Took level q.now (bit_for (part_needs_bit q.now) bits) d e (Some (I64 m)) (drop f.place bytes) (drop next bytes) → Spelt q.now (entry_at d q.now.key) (Some (I64 m)) l k → later ≡ after_bit (part_needs_bit q.now) bits
-      → Takes level bytes l d bits f k e later g
-  takes_mantissa l k d e bits later f g q m next some none rest spare place took spelt map outer o at left opened =
-      let here = is_mantissa o.next (pos 0) q.now (at ∙ ap next_behind some) in
-      record {
-        received = passed o o.body.rest (single (Some (Decimal here.exponent m)));
-        has = has_mantissa outer l k o here.exponent m q.now d e here.is took.entry spelt opened;
-        same = record { set = refl; before = refl; template = refl; members = refl; start = refl };
-        around = refl;
-        next_is = sym (ap next_behind none);
-        left_is = left ∙ sym rest;
-        reads = λ more.
-            rw (map, took.entry, spare, place)
-            (mantissa_on_goes level [] o.next here.exponent m q.now o.body (cursor d bits f.spare (drop f.place bytes ++ more)) _ here.is
-            (part_goes level q.now d bits f.spare (drop f.place bytes ++ more) (drop next bytes ++ more) (Some (I64 m)) (took.value more)));
-      }
+  takes_mantissa : {l k : Segment} {d e : Dictionary} {bits later : List Bool} (q : Bor FieldPart) (m : ℤ) (is : Instructions) (spare place next : ℕ)
+      → Took level q.now (bit_for (part_needs_bit q.now) bits) d e (Some (I64 m)) (drop place bytes) (drop next bytes) → Spelt q.now (entry_at d q.now.key) (Some (I64 m)) l k → later ≡ after_bit (part_needs_bit q.now) bits
+      → Takes level bytes l d bits (record { mantissa = Some q; rest = is; spare = spare; place = place }) k e later (record { mantissa = None; rest = is; spare = spare; place = next })
+  takes_mantissa {l} {k} {d} {e} {bits} {later} q m is spare place next took spelt map = record {
+    passes = λ outer o at left opened.
+        let here = is_mantissa o.next (pos 0) q.now at in
+        record {
+          received = passed o o.body.rest (single (Some (Decimal here.exponent m)));
+          has = has_mantissa outer l k o here.exponent m q.now d e here.is took.entry spelt opened;
+          same = record { set = refl; before = refl; template = refl; members = refl; start = refl };
+          around = refl;
+          next_is = refl;
+          left_is = left;
+          reads = λ more.
+              rw (map, took.entry)
+              (mantissa_on_goes level [] o.next here.exponent m q.now o.body (cursor d bits spare (drop place bytes ++ more)) _ here.is
+              (part_goes level q.now d bits spare (drop place bytes ++ more) (drop next bytes ++ more) (Some (I64 m)) (took.value more)));
+        };
+  }
 
   -- an instruction that is a field, or begins with the exponent of a decimal in parts
-  pub takes_first : (i : Instruction) (there : Bool) (l k : Segment) (d e : Dictionary) (bits later : List Bool) (f g : Front) (p : FieldPart) (m : Option (Bor FieldPart)) (is : Instructions) (v : Option Scalar) (next : ℕ)
-      → BeginsWith i p m → IsThere p.kind there v → f.mantissa ≡ None → f.rest ≡ then_instruction i is → g.mantissa ≡ behind there m → g.rest ≡ is → g.spare + 1 ≡ f.spare → g.place ≡ next
-      → Took level p (bit_for (part_needs_bit p) bits) d e v (drop f.place bytes) (drop next bytes) → Spelt p (entry_at d p.key) v l k → later ≡ after_bit (part_needs_bit p) bits
-      → Takes level bytes l d bits f k e later g
-  takes_first (whole_field name number presence whole) there l k d e bits later f g p m is v next begins value none first after rest spare place took spelt map =
-      takes_field l k d e bits later f g name number presence whole is v next none first (after ∙ behind_whole there m begins.1) rest spare place
-      (rw (begins.0) at took) (rw (begins.0) at spelt) (map ∙ ap (λ (p : FieldPart). after_bit (part_needs_bit p) bits) begins.0)
-  takes_first (field_in_parts name number presence exponent q) there l k d e bits later f g p m is v next begins value none first after rest spare place took spelt map =
-      let x = exponent_there p.kind there v begins.1 value in
-      takes_exponent x.0 there l k d e bits later f g name number presence exponent q is next x.2 none first
-      (ap next_behind after ∙ behind_parts there m begins.2.0 q begins.2.1 begins.2.2) rest spare place
-      (rw (begins.0, x.1) at took) (rw (begins.0, x.1) at spelt) (map ∙ ap (λ (p : FieldPart). after_bit (part_needs_bit p) bits) begins.0)
-  takes_first (group_of name number presence members) there l k d e bits later f g p m is v next begins value none first after rest spare place took spelt map = absurd begins
-  takes_first (sequence_of name number presence part members) there l k d e bits later f g p m is v next begins value none first after rest spare place took spelt map = absurd begins
+  takes_first : (i : Instruction) {there : Bool} {p : FieldPart} {d e : Dictionary} {bits later : List Bool} {k j : LevelNow} (m : Option (Bor FieldPart)) (is : Instructions) (spare : ℕ)
+      → BeginsWith i p m → 0 < spare → TookUnder level p there d e bits later bytes k.bytes.place k j
+      → Takes level bytes (level_in bytes k) d bits (record { mantissa = None; rest = then_instruction i is; spare = spare; place = k.bytes.place })
+      (level_in bytes j) e later (record { mantissa = behind there m; rest = is; spare = spare - 1; place = j.bytes.place })
+  takes_first (whole_field name number presence whole) {there} m is spare begins some t =
+      rw (behind_whole there m begins.1, sym begins.0) (takes_field name number presence is spare _ _ some t.took t.spelt t.left)
+  takes_first (field_in_parts name number presence exponent q) {there} {p} m is spare begins some t =
+      let x = exponent_there p.kind there t.value begins.1 t.is_there in
+      rw (begins.2.1, sym begins.0, sym begins.2.2) (takes_exponent x.0 there name number presence begins.2.0 is spare _ _ x.2 some (rw (x.1) at t.took) (rw (x.1) at t.spelt) t.left)
+  takes_first (group_of name number presence members) m is spare begins some t = absurd begins
+  takes_first (sequence_of name number presence part members) m is spare begins some t = absurd begins
 
-  -- the first part of the instruction behind so many of a body
-  pub takes_next : (l k j : Segment) (d e c : Dictionary) (bits later last : List Bool) (from : Front) (flats : List Flat) (spare i : ℕ) (f : Flat) (there : Bool) (p : FieldPart) (m n : Option (Bor FieldPart)) (v : Option Scalar) (place next : ℕ)
-      → length flats ≤ spare → f ≡ get_or flats i f → i < length flats → BeginsWith (instruction_of f) p m → IsThere p.kind there v → n ≡ behind there m
-      → Takes level bytes l d bits from k e later (front_at flats spare i None place)
-      → Took level p (bit_for (part_needs_bit p) later) e c v (drop place bytes) (drop next bytes) → Spelt p (entry_at e p.key) v k j → last ≡ after_bit (part_needs_bit p) later
-      → Takes level bytes l d bits from j c last (front_at flats spare (i + 1) n next)
-  takes_next l k j d e c bits later last from flats spare i f there p m n v place next few is within begins value after so_far took spelt map =
-      let less : spare - (i + 1) + 1 ≡ spare - i = omega (arith, few, within) in
-      takes_on l k j d e c bits later last from (front_at flats spare i None place) (front_at flats spare (i + 1) n next) so_far
-      (takes_first (instruction_of f) there k j e c later last (front_at flats spare i None place) (front_at flats spare (i + 1) n next) p m (list_of (drop (i + 1) flats)) v next
-      begins value refl (next_flat flats i f is within) after refl less refl took spelt map)
+  -- from the beginning of a body on, the segment and the place as they are called otherwise
+  pub takes_from : (l m k : Segment) (d e : Dictionary) (bits later : List Bool) (flats : List Flat) (spare a at : ℕ) (g : Front) → m ≡ l → a ≡ at
+      → Takes level bytes m d bits (front_at flats spare 0 None a) k e later g → Takes level bytes l d bits (record { mantissa = None; rest = list_of flats; spare = spare; place = at }) k e later g
+  takes_from l m k d e bits later flats spare a at g same place t =
+      let whole : spare - 0 ≡ spare = omega arith in
+      rw (sym same, sym place) (subst (λ (n : ℕ). Takes level bytes m d bits (record { mantissa = None; rest = list_of flats; spare = n; place = a }) k e later g) whole t)
 
-  -- the mantissa of the decimal behind which so many instructions are passed
-  pub takes_behind : (l k j : Segment) (d e c : Dictionary) (bits later last : List Bool) (from : Front) (flats : List Flat) (spare i : ℕ) (q : Bor FieldPart) (m : ℤ) (place next : ℕ)
-      → Takes level bytes l d bits from k e later (front_at flats spare i (Some q) place)
-      → Took level q.now (bit_for (part_needs_bit q.now) later) e c (Some (I64 m)) (drop place bytes) (drop next bytes) → Spelt q.now (entry_at e q.now.key) (Some (I64 m)) k j → last ≡ after_bit (part_needs_bit q.now) later
-      → Takes level bytes l d bits from j c last (front_at flats spare i None next)
-  takes_behind l k j d e c bits later last from flats spare i q m place next so_far took spelt map =
-      takes_on l k j d e c bits later last from (front_at flats spare i (Some q) place) (front_at flats spare i None next) so_far
-      (takes_mantissa k j e c later last (front_at flats spare i (Some q) place) (front_at flats spare i None next) q m next refl refl refl refl refl took spelt map)
+  -- ---- fields from the front of a body
 
-  -- nothing more was taken
-  pub takes_stays : (l k j : Segment) (d e c : Dictionary) (bits later last : List Bool) (from : Front) (flats : List Flat) (spare i : ℕ) (n : Option (Bor FieldPart)) (place next : ℕ)
+  pub took_none : {serves : Key → Bool} {rest : List Flat} {l : Segment} {d : Dictionary} {bits : List Bool} {at : ℕ} → AreServed serves (list_of rest) → KeepScalars d
+      → TookFields level serves rest bytes l d bits at 0 None l d bits at
+  took_none served kept = record {
+    place = omega arith;
+    within = omega arith;
+    some = λ one. absurd cc;
+    served = served;
+    next_served = tt;
+    takes = λ spare few. takes_none;
+    room = λ room. room;
+    kept = kept;
+  }
+
+  -- the first part of the instruction behind those that were taken
+  pub took_next : {serves : Key → Bool} {rest others : List Flat} {l : Segment} {d e c : Dictionary} {bits later last : List Bool} {at : ℕ} {f : Flat} {there : Bool} {p : FieldPart} {k j : LevelNow} (m n : Option (Bor FieldPart)) → Ahead rest others f
+      → TookUnder level p there e c later last bytes k.bytes.place k j → TookFields level serves rest bytes l d bits at (length rest - length others) None (level_in bytes k) e later k.bytes.place
+      → BeginsWith (instruction_of f) p m → n ≡ behind there m → IsNextServed serves (next_behind n)
+      → TookFields level serves rest bytes l d bits at (length rest - length others + 1) n (level_in bytes j) c last j.bytes.place
+  took_next {serves = serves} {rest = rest} {others = others} {f = f} m n front t so_far begins after next =
+      let count = length rest - length others in
+      record {
+        place = omega (arith, so_far.place, t.place);
+        within = omega (arith, front.within);
+        some = λ one. omega arith;
+        served = (served_ahead serves front so_far.served).1;
+        next_served = next;
+        takes = λ spare few.
+            let less : spare - (count + 1) ≡ spare - count - 1 = omega arith in
+            takes_on (so_far.takes spare few)
+            (rw (after, less, next_flat rest count f front.is front.within) (takes_first (instruction_of f) m (list_of (drop (count + 1) rest)) (spare - count) begins (omega (arith, few, front.within)) t));
+        room = λ room. t.room (so_far.room room);
+        kept = t.kept;
+      }
+
+  -- the mantissa that is next
+  pub took_mantissa : {serves : Key → Bool} {rest : List Flat} {l : Segment} {d e c : Dictionary} {bits later last : List Bool} {at count : ℕ} {there : Bool} {q : Bor FieldPart} {k j : LevelNow}
+      → TookUnder level q.now there e c later last bytes k.bytes.place k j
+      → TookFields level serves rest bytes l d bits at count (Some q) (level_in bytes k) e later k.bytes.place
+      → TookFields level serves rest bytes l d bits at count None (level_in bytes j) c last j.bytes.place
+  took_mantissa {rest = rest} {e = e} {count = count} {there = there} {q = q} {k = k} {j = j} t so_far =
+      let told = so_far.next_served in
+      let x = mantissa_taken q.now (entry_at e q.now.key) there t.value (level_in bytes k) (level_in bytes j) told.0.1 told.1 t.is_there t.spelt in
+      record {
+        place = omega (arith, so_far.place, t.place);
+        within = so_far.within;
+        some = λ one. absurd cc;
+        served = so_far.served;
+        next_served = tt;
+        takes = λ spare few. takes_on (so_far.takes spare few) (takes_mantissa q x.0 (list_of (drop count rest)) (spare - count) _ _ (rw (x.1) at t.took) (rw (x.1) at t.spelt) t.left);
+        room = λ room. t.room (so_far.room room);
+        kept = t.kept;
+      }
+
+  -- nothing more
+  pub took_stays : {serves : Key → Bool} {rest : List Flat} {l k j : Segment} {d e c : Dictionary} {bits later last : List Bool} {at count : ℕ} {n : Option (Bor FieldPart)} {place next : ℕ}
       → c ≡ e → j ≡ k → last ≡ later → next ≡ place
-      → Takes level bytes l d bits from k e later (front_at flats spare i n place) → Takes level bytes l d bits from j c last (front_at flats spare i n next)
-  takes_stays l k j d e c bits later last from flats spare i n place next entries segment map at so_far = rw (entries, segment, map, at) so_far
-
-  -- from the beginning of a body on, the segments and places as they are called otherwise
-  pub takes_from : (l m k j : Segment) (d e : Dictionary) (bits later : List Bool) (flats : List Flat) (spare : ℕ) (g : Front) (a x b y : ℕ) → m ≡ l → j ≡ k → a ≡ x → y ≡ b
-      → Takes level bytes m d bits (front_at flats spare 0 None a) k e later (at_place g b) → Takes level bytes l d bits (record { mantissa = None; rest = list_of flats; spare = spare; place = x }) j e later (at_place g y)
-  takes_from l m k j d e bits later flats spare g a x b y one other begins ends t =
-      takes_at l m k j d e bits later (record { mantissa = None; rest = list_of flats; spare = spare; place = x }) g a x b y one other begins ends
-      (subst (λ (f : Front). Takes level bytes m d bits f k e later (at_place g b)) (front_begins flats spare a) t)
+      → TookFields level serves rest bytes l d bits at count n k e later place → TookFields level serves rest bytes l d bits at count n j c last next
+  took_stays entries segment map at_it so_far = rw (entries, segment, map, at_it) so_far

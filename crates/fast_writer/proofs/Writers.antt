@@ -18,7 +18,7 @@ use Rattle.fast_stream.specs.Streams.{identifier, members_of}
 use Rattle.fast_walk.specs.OpenSegments.{Sequel, Inside, in_group, in_sequence, Waiting, Next, at_instruction, at_mantissa, at_element}
 use Rattle.fast_walk.specs.Received.{Received, IsExponent, opened, passed, entered, after_exponent, after_length, in_element, after_sequence, ended_in, content_received, exponent_of, length_of, bytes_in}
 use Rattle.fast_writer.specs.Canonical.{CanonFrom, CanonMessage}
-use Rattle.fast_writer.specs.Written.{Segment, state, bits_for, Opening, of_message, IsWritten, with_bytes, IsTop, IsBehind, Chain, IsOpened, IsFinished, Spelt, Asked, Ended, Closes}
+use Rattle.fast_writer.specs.Written.{Segment, IsEmpty, state, bits_for, Opening, of_message, IsWritten, with_bytes, IsTop, IsBehind, Chain, IsOpened, IsFinished, Spelt, Asked, Ended, Closes}
 use Rattle.fast_writer.proofs.Leavings.{closed}
 use Rattle.fast_writer.proofs.Writings.{part_by, chain_on, field_written, no_decimal, exponent_waits, mantissa_written, left_out_written, group_entered, ended, segment_left, no_sequence, length_waits, element_entered, elements_written}
 
@@ -92,17 +92,17 @@ has_left_out outer l k o name number presence members is d next first optional a
 
 pub has_entered : (outer later : List Segment) (l k j : Segment) (o : Received) (name : List ℕ) (number : ℕ) (presence : Presence) (members is : Instructions) (bits : List Bool) (d : Dictionary) (optional : Bool)
     → o.next ≡ at_instruction → o.body.rest ≡ then_instruction (group_of name number presence members) is → optional ≡ is_optional presence → Asked optional true l k
-    → later ≡ outer ++ k ∷ [] → j.bits ≡ [] → j.own ≡ has_map members → j.bytes ≡ []
+    → later ≡ outer ++ k ∷ [] → IsEmpty (has_map members) j
     → IsOpened outer l o d → IsOpened later j (entered o number bits members is) d
-has_entered outer later l k j o name number presence members is bits d optional next first is_it asked pushed jbits jown jbytes c =
+has_entered outer later l k j o name number presence members is bits d optional next first is_it asked pushed empty c =
     rw (pushed)
-    (group_entered (message_of o) o.around outer l k j o.body name number presence members is bits d first (rw (is_it) at asked) jbits jown jbytes (at_next outer l o d at_instruction next c))
+    (group_entered (message_of o) o.around outer l k j o.body name number presence members is bits d first (rw (is_it) at asked) empty (at_next outer l o d at_instruction next c))
 
 pub has_element : (outer later : List Segment) (l j : Segment) (o : Received) (s : Sequel) (bits : List Bool) (d : Dictionary) (own : Bool)
-    → o.next ≡ at_element s → own ≡ s.own_map → 0 < s.left → later ≡ outer ++ l ∷ [] → j.bits ≡ [] → j.own ≡ own → j.bytes ≡ []
+    → o.next ≡ at_element s → own ≡ s.own_map → 0 < s.left → later ≡ outer ++ l ∷ [] → IsEmpty own j
     → IsOpened outer l o d → IsOpened later j (in_element o bits s) d
-has_element outer later l j o s bits d own next is some pushed jbits jown jbytes c =
-    rw (pushed) (element_entered (message_of o) o.around outer l j o.body s bits d some jbits (jown ∙ is) jbytes (at_next outer l o d (at_element s) next c))
+has_element outer later l j o s bits d own next is some pushed empty c =
+    rw (pushed) (element_entered (message_of o) o.around outer l j o.body s bits d some (rw (is) at empty) (at_next outer l o d (at_element s) next c))
 
 -- the segment around has what ended
 abbrev EndsIn : List Segment → Segment → Received → List Waiting → Waiting → Dictionary → Inside → Type 0
@@ -131,18 +131,18 @@ has_elements outer l o d s next none c =
 -- ---- messages
 
 pub has_opened : (outer : List Segment) (l k : Segment) (set : List Resolved) (ms : List Content) (id : ℕ) (members : Instructions) (d e : Dictionary)
-    → outer ≡ [] → l.bits ≡ [] → l.own ≡ true → l.bytes ≡ [] → e ≡ written identifier d (Some (U32 id)) → Spelt identifier (entry_at d identifier.key) (Some (U32 id)) l k
+    → outer ≡ [] → IsEmpty true l → e ≡ written identifier d (Some (U32 id)) → Spelt identifier (entry_at d identifier.key) (Some (U32 id)) l k
     → IsOpened outer k (opened set ms id members d) e
-has_opened outer l k set ms id members d e none bits own bytes entry s = rw (none) top
+has_opened outer l k set ms id members d e none empty entry s = rw (none) top
   where
     true_false : true ≡ false → ⊥
     true_false h = absurd cc
 
     asked : k.bits ≡ bits_for (part_needs_bit identifier) s.bit
-    asked = s.bits ∙ ap (λ (t : List Bool). t ++ bits_for (part_needs_bit identifier) s.bit) bits
+    asked = s.bits ∙ ap (λ (t : List Bool). t ++ bits_for (part_needs_bit identifier) s.bit) empty.bits
 
     form : k.bytes ≡ s.form
-    form = s.bytes ∙ ap (λ (t : List ℕ). t ++ s.form) bytes
+    form = s.bytes ∙ ap (λ (t : List ℕ). t ++ s.form) empty.bytes
 
     top : IsWritten (of_message id members d) k (record { rest = members; done = [] }) e
     top = record {
@@ -154,7 +154,7 @@ has_opened outer l k set ms id members d e none bits own bytes entry s = rw (non
         first = rw (entry) (part_by identifier d (Some (U32 id)) s.bit s.form all later s.needs s.best (rw (asked) at leaves));
         second = body;
       };
-      own = s.own ∙ own;
+      own = s.own ∙ empty.own_is;
       asked = λ h. absurd (true_false h);
       none = λ h. absurd (true_false h);
     }

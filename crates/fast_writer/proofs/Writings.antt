@@ -16,7 +16,7 @@ use Rattle.fast_stream.specs.Bodies.{State, SegmentBy, PartBy, PieceBy, Each, wr
 use Rattle.fast_walk.specs.OpenSegments.{Body, Sequel, in_group, in_sequence, Waiting, at_instruction, at_element, with_item, fewer}
 use Rattle.fast_walk.proofs.Steps.{items_before-more, items_before-end, elements_before-more, elements_before-end}
 use Rattle.fast_writer.specs.Canonical.{CanonBody, IsShortestMap}
-use Rattle.fast_writer.specs.Written.{Segment, state, bits_for, Leaves, Opening, of_segment, Whole, IsWritten, with_bytes, more_of, WaitsMantissa, CanonSegment, WaitsElements, IsTop, IsBehind, Waits, Chain, Spelt, Asked}
+use Rattle.fast_writer.specs.Written.{Segment, IsEmpty, state, bits_for, Leaves, Opening, of_segment, Whole, IsWritten, with_bytes, more_of, WaitsMantissa, CanonSegment, WaitsElements, IsTop, IsBehind, Waits, Chain, Spelt, Asked}
 use Rattle.fast_writer.proofs.Leavings.{leaves_split, bit_of, behind_of, no_bits, closed}
 
 or_false : (a b : Bool) → (a || b) ≡ false → (a ≡ false) × (b ≡ false)
@@ -182,16 +182,15 @@ begun inner d = record {
   none = λ h. refl;
 }
 
-pub new_segment : (inner : Instructions) (d : Dictionary) (l : Segment) → l.bits ≡ [] → l.own ≡ has_map inner → l.bytes ≡ [] → IsWritten (of_segment inner d) l (record { rest = inner; done = [] }) d
-new_segment inner d l bits own bytes = rw (sym bits, sym own, sym bytes) at (begun inner d)
+pub new_segment : (inner : Instructions) (d : Dictionary) (l : Segment) → IsEmpty (has_map inner) l → IsWritten (of_segment inner d) l (record { rest = inner; done = [] }) d
+new_segment inner d l empty = rw (sym empty.bits, sym empty.own_is, sym empty.bytes) at (begun inner d)
 
 -- in a group
 pub group_entered : (g : Opening) (ws : List Waiting) (ls : List Segment) (l k j : Segment) (b : Body) (name : List ℕ) (number : ℕ) (presence : Presence) (inner is : Instructions) (bits : List Bool) (d : Dictionary)
-    → b.rest ≡ then_instruction (group_of name number presence inner) is → Asked (is_optional presence) true l k
-    → j.bits ≡ [] → j.own ≡ has_map inner → j.bytes ≡ []
+    → b.rest ≡ then_instruction (group_of name number presence inner) is → Asked (is_optional presence) true l k → IsEmpty (has_map inner) j
     → Chain g ws ls (IsTop at_instruction l b d)
     → Chain g (ws ++ record { bits = bits; number = number; body = record { rest = is; done = b.done }; inside = in_group } ∷ []) (ls ++ k ∷ []) (IsTop at_instruction j (record { rest = inner; done = [] }) d)
-group_entered g ws ls l k j b name number presence inner is bits d first asked jbits jown jbytes c =
+group_entered g ws ls l k j b name number presence inner is bits d first asked empty c =
     let w : Waiting = record { bits = bits; number = number; body = record { rest = is; done = b.done }; inside = in_group } in
     chain_push g ws ls w k (IsTop at_instruction j (record { rest = inner; done = [] }) d)
     (chain_on g ws ls (IsTop at_instruction l b d) (Inner k w (IsTop at_instruction j (record { rest = inner; done = [] }) d)) (λ h top. (
@@ -200,7 +199,7 @@ group_entered g ws ls l k j b name number presence inner is bits d first asked j
       (λ y ns e segment. level_is h (with_bytes (more_of l (bits_for (is_optional presence) true) []) y) (with_bytes k y) (with_item w.body (group_items ns)) e
           (sym asked.bits) (sym asked.own) (ap (λ (t : List ℕ). t ++ y) (append-nil l.bytes ∙ sym asked.bytes))
           (group_waits h l name number presence inner is b.done bits d (body_is h l b (then_instruction (group_of name number presence inner) is) d first top) y ns e segment)),
-      new_segment inner d j jbits jown jbytes,
+      new_segment inner d j empty,
     )) c)
 
 -- ---- the end of a segment
@@ -281,14 +280,14 @@ element_waits g l b s d bits some h y ns e one = record {
 }
 
 pub element_entered : (g : Opening) (ws : List Waiting) (ls : List Segment) (l j : Segment) (b : Body) (s : Sequel) (bits : List Bool) (d : Dictionary)
-    → 0 < s.left → j.bits ≡ [] → j.own ≡ s.own_map → j.bytes ≡ []
+    → 0 < s.left → IsEmpty s.own_map j
     → Chain g ws ls (IsTop (at_element s) l b d)
     → Chain g (ws ++ record { bits = bits; number = s.number; body = b; inside = in_sequence (fewer s) } ∷ []) (ls ++ l ∷ []) (IsTop at_instruction j (record { rest = s.members; done = [] }) d)
-element_entered g ws ls l j b s bits d some jbits jown jbytes c =
+element_entered g ws ls l j b s bits d some empty c =
     let w : Waiting = record { bits = bits; number = s.number; body = b; inside = in_sequence (fewer s) } in
     chain_push g ws ls w l (IsTop at_instruction j (record { rest = s.members; done = [] }) d)
     (chain_on g ws ls (IsTop (at_element s) l b d) (Inner l w (IsTop at_instruction j (record { rest = s.members; done = [] }) d)) (λ h top.
-    (s.members, d, element_waits h l b s d bits some top, new_segment s.members d j jbits (jown ∙ top.own) jbytes)) c)
+    (s.members, d, element_waits h l b s d bits some top, new_segment s.members d j (rw (top.own) at empty))) c)
 
 -- behind the last element
 pub elements_written : (g : Opening) (l : Segment) (b : Body) (s : Sequel) (d : Dictionary) → s.left ≡ 0

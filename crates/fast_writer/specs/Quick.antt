@@ -1,14 +1,23 @@
 -- A part that was relayed with no value in between. (Own.)
-use Rattle.std.specs.Prelude.{◌≡◌, ◌≢◌, ℕ, Bool, List, ◌++◌, Option, Ok, Err}
+use Rattle.std.specs.Prelude.{◌≡◌, ◌≢◌, ◌≤◌, ℕ, Bool, true, false, List, ◌++◌, length, drop, Option, Result, Ok, Err, MatchResult}
 use Rattle.fast_template.specs.declared.resolved.FieldPart.{FieldPart}
 use Rattle.fast_value.specs.declared.scalar.Scalar.{Scalar}
 use Rattle.fast_dictionary.specs.declared.entry.Entry.{Entry}
+use Rattle.fast_dictionary.specs.Dictionary.{Dictionary, entry_at}
 use Rattle.fast_wire.specs.declared.level.Level.{Level}
+use Rattle.fast_wire.specs.declared.level.Level.TheVariants.{Usual}
 use Rattle.fast_field.specs.Bases.{next}
 use Rattle.fast_field.specs.FieldReading.{field_at}
+use Rattle.fast_field.specs.Found.{value_found}
 use Rattle.fast_field.specs.declared.fault.FieldFault.{FieldFault}
 use Rattle.fast_field.specs.declared.fault.FieldFault.TheVariants.{Memory}
-use Rattle.fast_writer.specs.Written.{AppendsForm}
+use Rattle.fast_field.specs.declared.found.Found.{Found}
+use Rattle.fast_relay.specs.Relayed.{IsThere}
+use Rattle.fast_relay.specs.Runs.{IsRun, written}
+use Rattle.fast_relay.specs.declared.run.Run.{Run}
+use Rattle.fast_walk.specs.Received.{Took, length_of}
+use Rattle.fast_writer.specs.Room.{KeepsRoom}
+use Rattle.fast_writer.specs.Written.{AppendsForm, Segment, Spelt}
 
 -- at a level the bytes before `rest` give the value under a bit, the entry is the one that it leaves, and its best form was
 -- appended, which has the other bit
@@ -18,6 +27,51 @@ pub record Relayed (level : Level) (p : FieldPart) (old new : Entry) (bit best :
   pub entry : new ≡ next p old v
   pub form : AppendsForm p old v best before after
 
+-- the same between two places in the bytes; what bit 0 gave is best with bit 0
+pub record RelaysEntry (level : Level) (p : FieldPart) (old new : Entry) (bit best : Bool) (v : Option Scalar) (bytes : List ℕ) (at next : ℕ)
+    (before after : List ℕ) : Type 0 where
+  pub place : (at ≤ next) × (next ≤ length bytes)
+  pub relayed : Relayed level p old new bit best v (drop at bytes) (drop next bytes) before after
+  pub lower : bit ≡ false → best ≡ false
+
+-- nothing has changed, and unless memory was refused, the bytes stop at this fault
+pub record StopsEntry (level : Level) (p : FieldPart) (old new : Entry) (bit : Bool) (bytes before after : List ℕ) (f : FieldFault) : Type 0 where
+  pub fault : f ≢ Memory → field_at level p old bit bytes ≡ Err f
+  pub entry : new ≡ old
+  pub out : after ≡ before
+
+-- where the value lies in the entry is answered, the bit of its best form, and the place behind what was read; or a fault
+abbrev pub RelaysFound : Level → FieldPart → Entry → Entry → Bool → List ℕ → ℕ → List ℕ → List ℕ → Result (Found × Bool × ℕ) FieldFault → Type 0
+RelaysFound level p old new bit bytes at before after result =
+    MatchResult result (λ x. RelaysEntry level p old new bit x.1 (value_found p new x.0) bytes at x.2 before after) (StopsEntry level p old new bit (drop at bytes) before after)
+
+-- the same under bit 1 and as at the usual level, behind what is noted: whether the value is there
+pub record RelaysRun (p : FieldPart) (old new : Entry) (there best : Bool) (bytes : List ℕ) (at : ℕ) (r s : Run) : Type 0 where
+  pub place : at ≤ s.place
+  pub run : IsRun bytes s.place s
+  pub value : Option Scalar
+  pub is_there : IsThere p.kind there value
+  pub relayed : Relayed Usual p old new true best value (drop at bytes) (drop s.place bytes) (written bytes r) (written bytes s)
+
+-- ---- under a key
+
+-- the value of a part was taken between two places, its best form stands behind a segment, and its map has room as before
+pub record RelaysPart (level : Level) (p : FieldPart) (d e : Dictionary) (bit : Bool) (v : Option Scalar) (bytes : List ℕ) (at next : ℕ) (l k : Segment) : Type 0 where
+  pub place : (at ≤ next) × (next ≤ length bytes)
+  pub took : Took level p bit d e v (drop at bytes) (drop next bytes)
+  pub spelt : Spelt p (entry_at d p.key) v l k
+  pub room : KeepsRoom p bit l k
+
 -- unless memory was refused, the bytes stop at this fault, and what is kept and what is written are as they were
-abbrev pub StopsPart : {A B : Type 0} → Level → FieldPart → Entry → Bool → List ℕ → A → A → B → B → FieldFault → Type 0
-StopsPart level p e bit bytes old new before after f = f ≢ Memory → (field_at level p e bit bytes ≡ Err f) × (new ≡ old) × (after ≡ before)
+abbrev pub StopsPart : Level → FieldPart → Dictionary → Dictionary → Bool → List ℕ → Segment → Segment → FieldFault → Type 0
+StopsPart level p d e bit bytes l k f = f ≢ Memory → (field_at level p (entry_at d p.key) bit bytes ≡ Err f) × (e ≡ d) × (k ≡ l)
+
+-- whether the value is there is answered, and the place behind it; or a fault
+abbrev pub RelaysField : Level → FieldPart → Dictionary → Dictionary → Bool → List ℕ → ℕ → Segment → Segment → Result (Bool × ℕ) FieldFault → Type 0
+RelaysField level p d e bit bytes at l k result =
+    MatchResult result (λ x. (v : Option Scalar) × IsThere p.kind x.0 v × RelaysPart level p d e bit v bytes at x.1 l k) (StopsPart level p d e bit (drop at bytes) l k)
+
+-- the number that it is, and the place behind it; or a fault
+abbrev pub RelaysCount : Level → FieldPart → Dictionary → Dictionary → Bool → List ℕ → ℕ → Segment → Segment → Result (Option ℕ × ℕ) FieldFault → Type 0
+RelaysCount level p d e bit bytes at l k result =
+    MatchResult result (λ x. RelaysPart level p d e bit (length_of x.0) bytes at x.1 l k) (StopsPart level p d e bit (drop at bytes) l k)

@@ -1,5 +1,6 @@
 -- Fields that are taken one after the other into the segment that is open.
-use Rattle.std.specs.Prelude.{◌≡◌, ℕ, ◌+◌, ◌-◌, Bool, true, false, List, ◌++◌, Option, Some, None, Ok, drop}
+use Rattle.std.specs.Prelude.{◌≡◌, ◌≤◌, ◌<◌, ℕ, ◌+◌, ◌-◌, Bool, true, false, List, ◌++◌, Option, Some, None, Ok, IsSome, IsTrue, drop, length}
+use Rattle.fast_value.specs.declared.key.Key.{Key}
 use Rattle.fast_value.specs.declared.kind.Kind.TheVariants as kind
 use Rattle.fast_value.specs.declared.kind.Part.TheVariants as part
 use Rattle.std.specs.Borrow.{Bor}
@@ -7,18 +8,23 @@ use Rattle.fast_template.specs.declared.resolved.FieldPart.{FieldPart}
 use Rattle.fast_template.specs.declared.resolved.Flat.{Flat}
 use Rattle.fast_template.specs.Resolved.{Instruction, Instructions, whole_field, field_in_parts, group_of, sequence_of, list_of, part_needs_bit}
 use Rattle.fast_value.specs.declared.scalar.Scalar.{Scalar}
-use Rattle.fast_dictionary.specs.Dictionary.{Dictionary}
+use Rattle.fast_dictionary.specs.Dictionary.{Dictionary, entry_at}
 use Rattle.fast_dictionary.specs.declared.entry.Entry.{Entry}
 use Rattle.fast_field.specs.Bases.{next}
 use Rattle.fast_field.specs.FieldReading.{field_at}
-use Rattle.fast_stream.specs.Bits.{bit_for}
+use Rattle.fast_stream.specs.Bits.{after_bit, bit_for}
 use Rattle.fast_wire.specs.declared.level.Level.{Level}
 use Rattle.fast_walk.specs.declared.receiver.Fields.{Fields}
-use Rattle.fast_walk.specs.Received.{Received}
-use Rattle.fast_walk.specs.Told.{IsTold}
-use Rattle.fast_walk.specs.Walks.{bare_next}
+use Rattle.fast_walk.specs.Received.{Received, Took}
+use Rattle.fast_walk.specs.Told.{IsTold, KeepScalars}
+use Rattle.fast_walk.specs.Walks.{AreServed, IsNextServed, bare_next}
 use Rattle.fast_walk.specs.Passing.{Passes, next_behind}
-use Rattle.fast_writer.specs.Written.{Segment, IsOpened, Spelt}
+use Rattle.fast_relay.specs.Relayed.{IsThere}
+use Rattle.fast_relay.specs.Runs.{IsRun}
+use Rattle.fast_writer.specs.Levels.{level_in}
+use Rattle.fast_writer.specs.Room.{has_room}
+use Rattle.fast_writer.specs.Written.{Segment, Asked, IsOpened, Spelt}
+use Rattle.fast_writer.specs.declared.segment.Segment.{Segment as LevelNow}
 use Rattle.fast_relay.specs.declared.judged.Judged.{Judged}
 use Rattle.fast_relay.specs.declared.judged.Judged.TheVariants.{Stands, Behind, BehindTwo, Given, Elsewhere as NotJudged}
 use Rattle.fast_relay.specs.Judged.{Judges, JudgesFrom}
@@ -41,10 +47,9 @@ abbrev pub front_at : List Flat → ℕ → ℕ → Option (Bor FieldPart) → �
 front_at flats spare count mantissa place = record { mantissa = mantissa; rest = list_of (drop count flats); spare = spare - count; place = place }
 
 -- From one segment, dictionary, map and place to others: whatever is open around it, fields were passed.
-abbrev pub Takes : Level → List ℕ → Segment → Dictionary → List Bool → Front → Segment → Dictionary → List Bool → Front → Type 0
-Takes level bytes l d bits f k e later g =
-    (outer : List Segment) (o : Received) → bare_next o.next ≡ next_behind f.mantissa → o.body.rest ≡ f.rest → IsOpened outer l o d
-    → Passes level (λ p. IsOpened outer k p e) o (next_behind g.mantissa) g.rest d bits f.spare (drop f.place bytes) e later g.spare (drop g.place bytes)
+pub record Takes (level : Level) (bytes : List ℕ) (l : Segment) (d : Dictionary) (bits : List Bool) (f : Front) (k : Segment) (e : Dictionary) (later : List Bool) (g : Front) : Type 0 where
+  pub passes : (outer : List Segment) (o : Received) → bare_next o.next ≡ next_behind f.mantissa → o.body.rest ≡ f.rest → IsOpened outer l o d
+      → Passes level (λ p. IsOpened outer k p e) o (next_behind g.mantissa) g.rest d bits f.spare (drop f.place bytes) e later g.spare (drop g.place bytes)
 
 -- The part that a field begins with: its own, or the exponent of a decimal in parts, an integer, with its mantissa behind.
 abbrev pub BeginsWith : Instruction → FieldPart → Option (Bor FieldPart) → Type 0
@@ -64,22 +69,6 @@ abbrev pub behind : Bool → Option (Bor FieldPart) → Option (Bor FieldPart)
 behind true mantissa = mantissa
 behind false mantissa = None
 
--- the same, from a place on
-abbrev pub at_place : Front → ℕ → Front
-at_place f place = record { mantissa = f.mantissa; rest = f.rest; spare = f.spare; place = place }
-
--- what holds of a part that was taken: whether its value is there
-abbrev pub IfTaken : Taken → (Bool → Type 0) → Type 0
-IfTaken (Part there) holds = holds there
-IfTaken Elsewhere holds = Unit {0}
-IfTaken Refused holds = Unit {0}
-
--- what holds where nothing was done
-abbrev pub IfElsewhere : Taken → Type 0 → Type 0
-IfElsewhere (Part there) holds = Unit {0}
-IfElsewhere Elsewhere holds = holds
-IfElsewhere Refused holds = Unit {0}
-
 -- The next bit, or 1, and the bytes before `rest` give the value of a part, its entry is the one afterwards, and its best
 -- form was put into a segment.
 pub record TookEntry (level : Level) (p : FieldPart) (old new : Entry) (bits : List Bool) (v : Option Scalar)
@@ -88,6 +77,65 @@ pub record TookEntry (level : Level) (p : FieldPart) (old new : Entry) (bits : L
   pub entry : new ≡ next p old v
   pub spelt : Spelt p old v l k
   pub lower : bit_for (part_needs_bit p) bits ≡ false → spelt.bit ≡ false
+
+-- A part was taken from a place on: whether its value is there, which entry it leaves, and that it is written behind a segment.
+pub record TookThere (level : Level) (p : FieldPart) (there : Bool) (old new : Entry) (bits later : List Bool) (bytes : List ℕ) (at : ℕ) (l k : LevelNow) : Type 0 where
+  pub place : at ≤ k.bytes.place
+  pub run : IsRun bytes k.bytes.place k.bytes
+  pub value : Option Scalar
+  pub is_there : IsThere p.kind there value
+  pub took : TookEntry level p old new bits value (drop at bytes) (drop k.bytes.place bytes) (level_in bytes l) (level_in bytes k)
+  pub left : later ≡ after_bit (part_needs_bit p) bits
+
+-- the same of a part whose entry is put under its key; a map that had room for what was left still has
+pub record TookUnder (level : Level) (p : FieldPart) (there : Bool) (d e : Dictionary) (bits later : List Bool) (bytes : List ℕ) (at : ℕ) (l k : LevelNow) : Type 0 where
+  pub place : at ≤ k.bytes.place
+  pub run : IsRun bytes k.bytes.place k.bytes
+  pub value : Option Scalar
+  pub is_there : IsThere p.kind there value
+  pub took : Took level p (bit_for (part_needs_bit p) bits) d e value (drop at bytes) (drop k.bytes.place bytes)
+  pub spelt : Spelt p (entry_at d p.key) value (level_in bytes l) (level_in bytes k)
+  pub left : later ≡ after_bit (part_needs_bit p) bits
+  pub room : IsTrue (has_room (level_in bytes l) bits) → IsTrue (has_room (level_in bytes k) later)
+  pub kept : KeepScalars e
+
+-- Nothing has changed, of an entry or a dictionary, of the map and of what is written, and what is noted ends at that place.
+pub record StaysThere {X : Type 0} (old new : X) (bits later : List Bool) (bytes : List ℕ) (at : ℕ) (l k : LevelNow) : Type 0 where
+  pub same : new ≡ old
+  pub segment : level_in bytes k ≡ level_in bytes l
+  pub left : later ≡ bits
+  pub run : IsRun bytes at k.bytes
+
+-- what holds of a part that was taken, whether its value is there, and what holds where nothing was done
+abbrev pub MatchTaken : Taken → (Bool → Type 0) → Type 0 → Type 0
+MatchTaken (Part there) P Q = P there
+MatchTaken Elsewhere P Q = Q
+MatchTaken Refused P Q = Unit {0}
+
+-- what became of a part and its entry
+abbrev pub TakesPart : Level → FieldPart → Entry → Entry → List Bool → List Bool → List ℕ → ℕ → LevelNow → LevelNow → Taken → Type 0
+TakesPart level p old new bits later bytes at l k taken = MatchTaken taken (λ there. TookThere level p there old new bits later bytes at l k) (StaysThere old new bits later bytes at l k)
+
+-- and under its key
+abbrev pub TakesUnder : Level → FieldPart → Dictionary → Dictionary → List Bool → List Bool → List ℕ → ℕ → LevelNow → LevelNow → Taken → Type 0
+TakesUnder level p d e bits later bytes at l k taken = MatchTaken taken (λ there. TookUnder level p there d e bits later bytes at l k) (StaysThere d e bits later bytes at l k)
+
+-- the bit of a part is taken, and the one of its best form asked for
+pub record EndsPart (needs best : Bool) (bits later : List Bool) (l k : Segment) : Type 0 where
+  pub asked : Asked needs best l k
+  pub left : later ≡ after_bit needs bits
+
+-- Fields were taken from the front of a body: so many instructions, and the mantissa is next where only the exponent of the last one was.
+pub record TookFields (level : Level) (serves : Key → Bool) (rest : List Flat) (bytes : List ℕ) (l : Segment) (d : Dictionary) (bits : List Bool) (at : ℕ)
+    (count : ℕ) (mantissa : Option (Bor FieldPart)) (k : Segment) (e : Dictionary) (later : List Bool) (next : ℕ) : Type 0 where
+  pub place : at ≤ next
+  pub within : count ≤ length rest
+  pub some : IsSome mantissa → 0 < count
+  pub served : AreServed serves (list_of (drop count rest))
+  pub next_served : IsNextServed serves (next_behind mantissa)
+  pub takes : (spare : ℕ) → length rest ≤ spare → Takes level bytes l d bits (front_at rest spare 0 None at) k e later (front_at rest spare count mantissa next)
+  pub room : IsTrue (has_room l bits) → IsTrue (has_room k later)
+  pub kept : KeepScalars e
 
 -- What was judged of a part that was sent: what its best form is, and that its entry went on; or that nothing has changed.
 abbrev pub WasJudged : Judged → FieldPart → Entry → Entry → List ℕ → ℕ → Type 0

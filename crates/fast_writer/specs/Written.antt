@@ -115,6 +115,12 @@ Chain g ws ls Inner = ⊥
 abbrev pub IsOpened : List Segment → Segment → Received → Dictionary → Type 0
 IsOpened outer now o d = Chain (of_message o.template o.members o.start) o.around outer (IsTop o.next now o.body d)
 
+-- nothing is written of a segment, which has a map of its own or not
+pub record IsEmpty (own : Bool) (l : Segment) : Type 0 where
+  pub bits : l.bits ≡ []
+  pub own_is : l.own ≡ own
+  pub bytes : l.bytes ≡ []
+
 -- ---- what is appended to a segment
 
 -- the best form of a part's value, and its bit

@@ -1,6 +1,6 @@
 //! The identifier of a template or the length of a sequence, read and written at once: a part whose number is wanted.
 
-ghost use Rattle.std.specs.Prelude.{◌≡◌, ◌≤◌, IfNone, IfOk, IfErr, IfSome, OnOk, IsTrue, length, drop, false, true};
+ghost use Rattle.std.specs.Prelude.{◌≡◌, ◌≤◌, IfOk, IfSome, MatchOption, MatchResult, IsTrue, length, drop, false, true};
 ghost use Rattle.fast_template.specs.Resolved.{part_needs_bit as part_needs_bit_of};
 ghost use Rattle.fast_dictionary.specs.Dictionary.{entry_at, set_entry};
 ghost use Rattle.fast_dictionary.specs.declared.entry.Entry.{Entry as EntryOf};
@@ -10,13 +10,11 @@ ghost use Rattle.fast_value.specs.declared.kind.Kind.TheVariants.{UInt32};
 ghost use Rattle.fast_field.specs.Parts.{IsFieldPart};
 ghost use Rattle.fast_field.specs.Within.{HoldsScalar};
 ghost use Rattle.fast_field.specs.Passed.{Passes};
-ghost use Rattle.fast_walk.specs.Received.{Took, length_of};
+ghost use Rattle.fast_walk.specs.Received.{length_of};
 ghost use Rattle.fast_value.specs.declared.kind.Part.TheVariants.{Length};
 ghost use Rattle.fast_walk.specs.Told.{IsTold, KeepScalars};
 ghost use Rattle.fast_writer.specs.Levels.{level_of};
-ghost use Rattle.fast_writer.specs.Room.{KeepsRoom};
-ghost use Rattle.fast_writer.specs.Quick.{Relayed, StopsPart};
-ghost use Rattle.fast_writer.specs.Written.{Spelt};
+ghost use Rattle.fast_writer.specs.Quick.{RelaysCount, RelaysEntry, StopsEntry};
 
 use crate::relay::relay_entry;
 use crate::segment::Segment;
@@ -31,9 +29,7 @@ use std::alloc::{AllocError, Global};
 // the general way.
 #[inline(always)]
 fn repeat_count(part: &FieldPart, entry: &mut Entry) -> Option<Option<u32>>
-    ensures passed { IfSome result (λ count.
-        Passes part.now entry.old entry.new (length_of count)) }
-    ensures entry { IfNone result (entry.new ≡ entry.old) }
+    ensures { MatchOption result (entry.new ≡ entry.old) (λ count. Passes part.now entry.old entry.new (length_of count)) }
 {
     match (part.operator, part.kind) {
         (Operator::Copy, Kind::UInt32) => match pass_left_out(part, entry) {
@@ -79,13 +75,10 @@ fn count_generally(
     requires part { IsFieldPart part.now }
     requires entry { HoldsScalar entry.old }
     requires kind { part.now.kind ≡ UInt32 }
-    ensures place { IfOk result (λ x. (at ≤ x.2) × (x.2 ≤ length bytes.now)) }
-    ensures relayed { IfOk result (λ x.
-        Relayed level part.now entry.old entry.new bit x.1 (length_of x.0) (drop at bytes.now)
-        (drop x.2 bytes.now) out.old.items out.new.items) }
-    ensures lower { IfOk result (λ x. bit ≡ false → x.1 ≡ false) }
-    ensures stops { IfErr result (StopsPart level part.now entry.old bit (drop at bytes.now) entry.old entry.new
-        out.old.items out.new.items) }
+    ensures { MatchResult result
+        (λ x. RelaysEntry level part.now entry.old entry.new bit x.1 (length_of x.0) bytes.now at x.2
+        out.old.items out.new.items)
+        (StopsEntry level part.now entry.old entry.new bit (drop at bytes.now) out.old.items out.new.items) }
 {
     let (found, best, next) = relay_entry(alloc, part, entry, bit, level, bytes, at, out)?;
     let number = number_in(found.value(part, entry.view()));
@@ -115,15 +108,8 @@ pub(crate) fn relay_count<E: Entries>(
     requires part { IsFieldPart part.now }
     requires kept { KeepScalars (E.contents entries.now) }
     requires kind { part.now.kind ≡ UInt32 }
-    ensures place { IfOk result (λ x. (at ≤ x.1) × (x.1 ≤ length bytes.now)) }
-    ensures took { IfOk result (λ x. Took level part.now bit (E.contents entries.old) (E.contents
-        entries.new) (length_of x.0) (drop at bytes.now) (drop x.1 bytes.now)) }
-    ensures spelt { IfOk result (λ x.
-        Spelt part.now (entry_at (E.contents entries.old) part.now.key) (length_of x.0)
-        (level_of segment.old) (level_of segment.new)) }
-    ensures room { OnOk result (KeepsRoom part.now bit (level_of segment.old) (level_of segment.new)) }
-    ensures stops { IfErr result (StopsPart level part.now (entry_at (E.contents entries.old) part.now.key) bit (drop at bytes.now)
-        (E.contents entries.old) (E.contents entries.new) (level_of segment.old) (level_of segment.new)) }
+    ensures relays { RelaysCount level part.now (E.contents entries.old) (E.contents entries.new) bit
+        bytes.now at (level_of segment.old) (level_of segment.new) result }
     ensures same_keys { E.serves entries.new ≡ E.serves entries.old }
 {
     let entry = entries.entry_mut(&part.key)?;
@@ -141,11 +127,10 @@ fn repeat_kept<E: Entries>(
     part: &FieldPart,
 ) -> Result<Option<Option<u32>>, AllocError>
     requires served { IsTrue (E.serves entries.now part.now.key) }
-    ensures passed { IfOk result (λ repeated. IfSome repeated (λ count. (new : EntryOf)
+    ensures repeats { IfOk result (λ repeated. MatchOption repeated (E.contents entries.new ≡ E.contents entries.old)
+        (λ count. (new : EntryOf)
         × Passes part.now (entry_at (E.contents entries.old) part.now.key) new (length_of count)
         × (E.contents entries.new ≡ set_entry (E.contents entries.old) part.now.key new))) }
-    ensures nothing { IfOk result (λ repeated. IfNone repeated
-        (E.contents entries.new ≡ E.contents entries.old)) }
     ensures same_keys { E.serves entries.new ≡ E.serves entries.old }
 {
     let entry = entries.entry_mut(&part.key)?;
@@ -174,15 +159,8 @@ pub(crate) fn relay_identifier<E: Entries>(
     requires part { IsFieldPart part.now }
     requires kept { KeepScalars (E.contents entries.now) }
     requires kind { part.now.kind ≡ UInt32 }
-    ensures place { IfOk result (λ x. (at ≤ x.1) × (x.1 ≤ length bytes.now)) }
-    ensures took { IfOk result (λ x. Took level part.now bit (E.contents entries.old) (E.contents
-        entries.new) (length_of x.0) (drop at bytes.now) (drop x.1 bytes.now)) }
-    ensures spelt { IfOk result (λ x.
-        Spelt part.now (entry_at (E.contents entries.old) part.now.key) (length_of x.0)
-        (level_of segment.old) (level_of segment.new)) }
-    ensures room { OnOk result (KeepsRoom part.now bit (level_of segment.old) (level_of segment.new)) }
-    ensures stops { IfErr result (StopsPart level part.now (entry_at (E.contents entries.old) part.now.key) bit (drop at bytes.now)
-        (E.contents entries.old) (E.contents entries.new) (level_of segment.old) (level_of segment.new)) }
+    ensures relays { RelaysCount level part.now (E.contents entries.old) (E.contents entries.new) bit
+        bytes.now at (level_of segment.old) (level_of segment.new) result }
     ensures same_keys { E.serves entries.new ≡ E.serves entries.old }
 {
     if !bit && let Some(count) = repeat_kept(entries, part)? {
@@ -213,15 +191,8 @@ pub(crate) fn relay_length<E: Entries>(
     requires served { IsTrue (E.serves entries.now part.now.key) }
     requires told { IsTold Length UInt32 part.now }
     requires kept { KeepScalars (E.contents entries.now) }
-    ensures place { IfOk result (λ x. (at ≤ x.1) × (x.1 ≤ length bytes.now)) }
-    ensures took { IfOk result (λ x. Took level part.now bit (E.contents entries.old) (E.contents
-        entries.new) (length_of x.0) (drop at bytes.now) (drop x.1 bytes.now)) }
-    ensures spelt { IfOk result (λ x.
-        Spelt part.now (entry_at (E.contents entries.old) part.now.key) (length_of x.0)
-        (level_of segment.old) (level_of segment.new)) }
-    ensures room { OnOk result (KeepsRoom part.now bit (level_of segment.old) (level_of segment.new)) }
-    ensures stops { IfErr result (StopsPart level part.now (entry_at (E.contents entries.old) part.now.key) bit (drop at bytes.now)
-        (E.contents entries.old) (E.contents entries.new) (level_of segment.old) (level_of segment.new)) }
+    ensures relays { RelaysCount level part.now (E.contents entries.old) (E.contents entries.new) bit
+        bytes.now at (level_of segment.old) (level_of segment.new) result }
     ensures same_keys { E.serves entries.new ≡ E.serves entries.old }
 {
     if reads_as_usual(level, part, bytes, at)

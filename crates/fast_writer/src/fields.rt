@@ -1,18 +1,16 @@
 //! Fields that are taken one after the other, with no call of the walk between them.
 
-ghost use Rattle.std.specs.Prelude.{◌≡◌, ◌≤◌, ◌<◌, ◌+◌, ◌*◌, ℕ, Bool, true, false, Option, Some, None, IsSome, IfNone, IfOk, IfSome, OnOk, IsTrue, length, drop, slice_range};
-ghost use Rattle.fast_template.specs.Resolved.{instruction_of, list_of, part_needs_bit as part_needs_bit_of, then_instruction};
+ghost use Rattle.std.specs.Prelude.{◌≡◌, ◌≤◌, ◌<◌, ◌+◌, Bool, true, false, Option, None, IsSome, IfOk, IfSome, MatchOption, OnOk, IsTrue, length, drop, slice_range};
+ghost use Rattle.fast_template.specs.Resolved.{instruction_of, list_of, part_needs_bit as part_needs_bit_of};
 ghost use Rattle.fast_value.specs.declared.scalar.Scalar.{Scalar as ScalarOf};
-ghost use Rattle.fast_dictionary.specs.Dictionary.{entry_at};
 ghost use Rattle.fast_dictionary.specs.declared.entry.Entry.{Entry as EntryOf};
 ghost use Rattle.fast_stream.specs.Bits.{after_bit, bit_for};
-ghost use Rattle.fast_walk.specs.Received.{Took};
 ghost use Rattle.fast_field.specs.Parts.{IsFieldPart};
 ghost use Rattle.fast_field.specs.Passed.{Passes};
 ghost use Rattle.fast_field.specs.AsUsual.{ReadsAsUsual};
 ghost use Rattle.fast_field.specs.Within.{HoldsScalar};
-ghost use Rattle.fast_walk.specs.Told.{IsTold, KeepScalars};
-ghost use Rattle.fast_walk.specs.Walks.{AreServed, IsMantissaServed, IsNextServed, IsServed};
+ghost use Rattle.fast_walk.specs.Told.{KeepScalars};
+ghost use Rattle.fast_walk.specs.Walks.{AreServed, IsNextServed, IsServed};
 ghost use Rattle.fast_walk.specs.Passing.{next_behind};
 ghost use Rattle.fast_relay.specs.Relayed.{IsThere};
 ghost use Rattle.fast_relay.specs.Judged.{IfBehind, IfJudged, IfNotJudged};
@@ -20,8 +18,8 @@ ghost use Rattle.fast_relay.specs.Runs.{IsRun};
 ghost use Rattle.fast_writer.specs.Levels.{level_in, level_of};
 ghost use Rattle.fast_writer.specs.Room.{has_room};
 ghost use Rattle.fast_wire.specs.PresenceMap.{next_bit};
-ghost use Rattle.fast_writer.specs.Written.{Asked, Spelt, with_bytes};
-ghost use Rattle.fast_writer.specs.Takings.{BeginsWith, IfElsewhere, IsFirstTold, IfTaken, Takes, TookEntry, WasJudged, behind, front_at, front_of};
+ghost use Rattle.fast_writer.specs.Written.{with_bytes};
+ghost use Rattle.fast_writer.specs.Takings.{BeginsWith, EndsPart, IsFirstTold, MatchTaken, Takes, TakesPart, TakesUnder, TookFields, WasJudged, front_of};
 ghost use Rattle.fast_value.specs.declared.key.Key.{Key};
 ghost use Rattle.fast_value.specs.declared.kind.Kind.TheVariants.{Int32};
 ghost use Rattle.fast_value.specs.declared.kind.Part.TheVariants.{Exponent, Whole};
@@ -60,11 +58,9 @@ fn take_for(bits: &mut Bits, needed: bool)
 // Takes the bit of a part that was taken, and asks for the one of its best form.
 #[inline(always)]
 fn end_part(bits: &mut Bits, needs: bool, best: bool, segment: &mut Segment, there: bool) -> Taken
-    ensures part { IfTaken result (λ t. t ≡ there) }
-    ensures asked { IfTaken result (λ t. Asked needs best (level_of segment.old) (level_of segment.new)) }
-    ensures bits { IfTaken result (λ t. bits.new ≡ after_bit needs bits.old) }
-    ensures run { IfTaken result (λ t. segment.new.bytes ≡ segment.old.bytes) }
-    ensures done { IfElsewhere result ⊥ }
+    ensures { MatchTaken result (λ is. (is ≡ there)
+        × EndsPart needs best bits.old bits.new (level_of segment.old) (level_of segment.new)
+        × (segment.new.bytes ≡ segment.old.bytes)) ⊥ }
 {
     take_for(bits, needs);
     match segment.ask(needs, best) {
@@ -87,13 +83,9 @@ fn end_from(
     requires run { IsRun bytes.now segment.now.bytes.place segment.now.bytes }
     requires first { first ≤ next }
     requires within { next ≤ length bytes.now }
-    ensures part { IfTaken result (λ t. t ≡ true) }
-    ensures asked { IfTaken result (λ t. Asked needs best
+    ensures { MatchTaken result (λ is. (is ≡ true) × EndsPart needs best bits.old bits.new
         (with_bytes (level_in bytes.now segment.old) (slice_range bytes.now first next))
-        (level_in bytes.now segment.new)) }
-    ensures bits { IfTaken result (λ t. bits.new ≡ after_bit needs bits.old) }
-    ensures run { IfTaken result (λ t. IsRun bytes.now next segment.new.bytes) }
-    ensures done { IfElsewhere result ⊥ }
+        (level_in bytes.now segment.new) × IsRun bytes.now next segment.new.bytes) ⊥ }
 {
     match end_part(bits, needs, best, segment, true) {
         Taken::Part(there) => {
@@ -125,16 +117,8 @@ fn take_other(
     requires needs { needs ≡ part_needs_bit_of part.now }
     requires bit { bit_for (part_needs_bit_of part.now) bits.now ≡ true }
     requires usual { ReadsAsUsual level part.now (drop at bytes.now) }
-    ensures place { IfTaken result (λ there. at ≤ segment.new.bytes.place) }
-    ensures run { IfTaken result (λ there. IsRun bytes.now segment.new.bytes.place segment.new.bytes) }
-    ensures took { IfTaken result (λ there. (v : Option ScalarOf)
-        × IsThere part.now.kind there v × TookEntry level part.now entry.old entry.new bits.old v
-        (drop at bytes.now) (drop segment.new.bytes.place bytes.now)
-        (level_in bytes.now segment.old) (level_in bytes.now segment.new)) }
-    ensures bits { IfTaken result (λ there. bits.new ≡ after_bit needs bits.old) }
-    ensures nothing { IfElsewhere result ((entry.new ≡ entry.old)
-        × (level_in bytes.now segment.new ≡ level_in bytes.now segment.old) × (bits.new ≡ bits.old)
-        × IsRun bytes.now at segment.new.bytes) }
+    ensures { TakesPart level part.now entry.old entry.new bits.old bits.new bytes.now at
+        segment.old segment.new result }
 {
     match relay_other(alloc, part, entry, bytes, at, &mut segment.bytes) {
         Some((there, best)) => end_part(bits, needs, best, segment, there),
@@ -148,9 +132,8 @@ fn take_other(
 fn pass_given(which: Part, part: &FieldPart, entry: &mut Entry) -> Option<bool>
     requires which { which ≡ part.now.part }
     requires part { IsFieldPart part.now }
-    ensures passed { IfSome result (λ there. (v : Option ScalarOf)
+    ensures { MatchOption result (entry.new ≡ entry.old) (λ there. (v : Option ScalarOf)
         × IsThere part.now.kind there v × Passes part.now entry.old entry.new v) }
-    ensures entry { IfNone result (entry.new ≡ entry.old) }
 {
     match pass_quickly(which, part, entry) {
         Passed::Present => Some(true),
@@ -175,17 +158,8 @@ fn take_given<L: Leveled>(
     requires part { IsFieldPart part.now }
     requires needs { IsTrue (part_needs_bit_of part.now) }
     requires bit { next_bit bits.now ≡ false }
-    ensures place { IfTaken result (λ there. segment.old.bytes.place ≤ segment.new.bytes.place) }
-    ensures run { IfTaken result (λ there. IsRun bytes.now segment.new.bytes.place segment.new.bytes) }
-    ensures took { IfTaken result (λ there. (v : Option ScalarOf)
-        × IsThere part.now.kind there v × TookEntry L.at part.now entry.old entry.new bits.old v
-        (drop segment.old.bytes.place bytes.now) (drop segment.new.bytes.place bytes.now)
-        (level_in bytes.now segment.old) (level_in bytes.now segment.new)) }
-    ensures bits { IfTaken result (λ there.
-        bits.new ≡ after_bit (part_needs_bit_of part.now) bits.old) }
-    ensures nothing { IfElsewhere result ((entry.new ≡ entry.old)
-        × (level_in bytes.now segment.new ≡ level_in bytes.now segment.old) × (bits.new ≡ bits.old)
-        × IsRun bytes.now segment.old.bytes.place segment.new.bytes) }
+    ensures { TakesPart L.at part.now entry.old entry.new bits.old bits.new bytes.now
+        segment.old.bytes.place segment.old segment.new result }
 {
     let Some(there) = pass_given(which, part, entry) else {
         return Taken::Elsewhere;
@@ -215,18 +189,9 @@ fn take_judged(
     requires needs { needs ≡ part_needs_bit_of part.now }
     requires bit { bit_for (part_needs_bit_of part.now) bits.now ≡ true }
     requires usual { ReadsAsUsual level part.now (drop at bytes.now) }
-    ensures place { IfTaken result (λ there. at ≤ segment.new.bytes.place) }
-    ensures run { IfTaken result (λ there. IsRun bytes.now segment.new.bytes.place segment.new.bytes) }
-    ensures took { (before : EntryOf) → WasJudged judged part.now before entry.old bytes.now at
-        → IfTaken result (λ there. (v : Option ScalarOf)
-        × IsThere part.now.kind there v × TookEntry level part.now before entry.new bits.old v
-        (drop at bytes.now) (drop segment.new.bytes.place bytes.now)
-        (level_in bytes.now segment.old) (level_in bytes.now segment.new)) }
-    ensures bits { IfTaken result (λ there. bits.new ≡ after_bit needs bits.old) }
-    ensures nothing { (before : EntryOf) → WasJudged judged part.now before entry.old bytes.now at
-        → IfElsewhere result ((entry.new ≡ before)
-        × (level_in bytes.now segment.new ≡ level_in bytes.now segment.old) × (bits.new ≡ bits.old)
-        × IsRun bytes.now at segment.new.bytes) }
+    ensures { (before : EntryOf) → WasJudged judged part.now before entry.old bytes.now at
+        → TakesPart level part.now before entry.new bits.old bits.new bytes.now at
+        segment.old segment.new result }
 {
     match judged {
         Judged::Stands(next) => {
@@ -257,17 +222,8 @@ fn take_sent<L: Leveled>(
     requires kept { HoldsScalar entry.now }
     requires part { IsFieldPart part.now }
     requires bit { bit_for (part_needs_bit_of part.now) bits.now ≡ true }
-    ensures place { IfTaken result (λ there. segment.old.bytes.place ≤ segment.new.bytes.place) }
-    ensures run { IfTaken result (λ there. IsRun bytes.now segment.new.bytes.place segment.new.bytes) }
-    ensures took { IfTaken result (λ there. (v : Option ScalarOf)
-        × IsThere part.now.kind there v × TookEntry L.at part.now entry.old entry.new bits.old v
-        (drop segment.old.bytes.place bytes.now) (drop segment.new.bytes.place bytes.now)
-        (level_in bytes.now segment.old) (level_in bytes.now segment.new)) }
-    ensures bits { IfTaken result (λ there.
-        bits.new ≡ after_bit (part_needs_bit_of part.now) bits.old) }
-    ensures nothing { IfElsewhere result ((entry.new ≡ entry.old)
-        × (level_in bytes.now segment.new ≡ level_in bytes.now segment.old) × (bits.new ≡ bits.old)
-        × IsRun bytes.now segment.old.bytes.place segment.new.bytes) }
+    ensures { TakesPart L.at part.now entry.old entry.new bits.old bits.new bytes.now
+        segment.old.bytes.place segment.old segment.new result }
 {
     let at = segment.bytes.place;
     if !is_read_as_usual(level.level(), part, bytes, at) {
@@ -310,24 +266,8 @@ fn take_part<L: Leveled, E: Entries>(
     requires served { IsTrue (E.serves entries.now part.now.key) }
     requires part { IsFieldPart part.now }
     requires kept { KeepScalars (E.contents entries.now) }
-    ensures place { IfTaken result (λ there. segment.old.bytes.place ≤ segment.new.bytes.place) }
-    ensures run { IfTaken result (λ there. IsRun bytes.now segment.new.bytes.place segment.new.bytes) }
-    ensures took { IfTaken result (λ there. (v : Option ScalarOf)
-        × IsThere part.now.kind there v
-        × Took L.at part.now (bit_for (part_needs_bit_of part.now) bits.old)
-        (E.contents entries.old) (E.contents entries.new) v
-        (drop segment.old.bytes.place bytes.now) (drop segment.new.bytes.place bytes.now)
-        × Spelt part.now (entry_at (E.contents entries.old) part.now.key) v
-        (level_in bytes.now segment.old) (level_in bytes.now segment.new)) }
-    ensures bits { IfTaken result (λ there.
-        bits.new ≡ after_bit (part_needs_bit_of part.now) bits.old) }
-    ensures room { IfTaken result (λ there.
-        IsTrue (has_room (level_in bytes.now segment.old) bits.old)
-        → IsTrue (has_room (level_in bytes.now segment.new) bits.new)) }
-    ensures nothing { IfElsewhere result ((E.contents entries.new ≡ E.contents entries.old)
-        × (level_in bytes.now segment.new ≡ level_in bytes.now segment.old) × (bits.new ≡ bits.old)
-        × IsRun bytes.now segment.old.bytes.place segment.new.bytes) }
-    ensures kept { IfTaken result (λ there. KeepScalars (E.contents entries.new)) }
+    ensures taken { TakesUnder L.at part.now (E.contents entries.old) (E.contents entries.new) bits.old bits.new
+        bytes.now segment.old.bytes.place segment.old segment.new result }
     ensures same_keys { E.serves entries.new ≡ E.serves entries.old }
 {
     match entries.entry_mut(&part.key) {
@@ -379,20 +319,10 @@ fn take_all<'a, L: Leveled, E: Entries>(
     requires run { IsRun bytes.now segment.now.bytes.place segment.now.bytes }
     requires served { AreServed (E.serves entries.now) (list_of rest.now) }
     requires kept { KeepScalars (E.contents entries.now) }
-    ensures place { OnOk result (segment.old.bytes.place ≤ segment.new.bytes.place) }
     ensures run { OnOk result (IsRun bytes.now segment.new.bytes.place segment.new.bytes) }
-    ensures count { IfOk result (λ x. x.0 ≤ length rest.now) }
-    ensures some { IfOk result (λ x. IsSome x.1 → 0 < x.0) }
-    ensures served { IfOk result (λ x. AreServed (E.serves entries.old) (list_of (drop x.0 rest.now))
-        × IsNextServed (E.serves entries.old) (next_behind x.1)) }
-    ensures takes { IfOk result (λ x. (spare : ℕ) → length rest.now ≤ spare
-        → Takes L.at bytes.now (level_in bytes.now segment.old) (E.contents entries.old) bits.old
-        (front_at rest.now spare 0 None segment.old.bytes.place)
-        (level_in bytes.now segment.new) (E.contents entries.new) bits.new
-        (front_at rest.now spare x.0 x.1 segment.new.bytes.place)) }
-    ensures room { OnOk result (IsTrue (has_room (level_in bytes.now segment.old) bits.old)
-        → IsTrue (has_room (level_in bytes.now segment.new) bits.new)) }
-    ensures kept { OnOk result (KeepScalars (E.contents entries.new)) }
+    ensures took { IfOk result (λ x. TookFields L.at (E.serves entries.old) rest.now bytes.now
+        (level_in bytes.now segment.old) (E.contents entries.old) bits.old segment.old.bytes.place
+        x.0 x.1 (level_in bytes.now segment.new) (E.contents entries.new) bits.new segment.new.bytes.place) }
     ensures same_keys { E.serves entries.new ≡ E.serves entries.old }
 {
     // no function of its own: what it changes stays in registers here (the instructions go by a slice, since an index would not)
@@ -463,20 +393,10 @@ fn take_run<'a, L: Leveled, E: Entries>(
     requires run { IsRun bytes.now segment.now.bytes.place segment.now.bytes }
     requires served { AreServed (E.serves entries.now) (list_of rest.now) }
     requires kept { KeepScalars (E.contents entries.now) }
-    ensures place { OnOk result (segment.old.bytes.place ≤ segment.new.bytes.place) }
     ensures within { OnOk result (segment.new.bytes.place ≤ length bytes.now) }
-    ensures count { IfOk result (λ n. n ≤ length rest.now) }
-    ensures some { IfOk result (λ n. IsSome mantissa.new → 0 < n) }
-    ensures served { IfOk result (λ n. AreServed (E.serves entries.old) (list_of (drop n rest.now))
-        × IsNextServed (E.serves entries.old) (next_behind mantissa.new)) }
-    ensures takes { IfOk result (λ n. (spare : ℕ) → length rest.now ≤ spare
-        → Takes L.at bytes.now (level_in bytes.now segment.old) (E.contents entries.old) bits.old
-        (front_at rest.now spare 0 None segment.old.bytes.place)
-        (level_of segment.new) (E.contents entries.new) bits.new
-        (front_at rest.now spare n mantissa.new segment.new.bytes.place)) }
-    ensures room { OnOk result (IsTrue (has_room (level_in bytes.now segment.old) bits.old)
-        → IsTrue (has_room (level_of segment.new) bits.new)) }
-    ensures kept { OnOk result (KeepScalars (E.contents entries.new)) }
+    ensures took { IfOk result (λ n. TookFields L.at (E.serves entries.old) rest.now bytes.now
+        (level_in bytes.now segment.old) (E.contents entries.old) bits.old segment.old.bytes.place
+        n mantissa.new (level_of segment.new) (E.contents entries.new) bits.new segment.new.bytes.place) }
     ensures same_keys { E.serves entries.new ≡ E.serves entries.old }
 {
     let (count, next) = take_all(rest, alloc, entries, bits, level, bytes, segment)?;

@@ -1,20 +1,15 @@
 //! A part that is read and written at once, with no value in between.
 
-ghost use Rattle.std.specs.Prelude.{◌≡◌, ◌≤◌, IfNone, IfOk, IfErr, IfSome, OnOk, Option, IsTrue, length, drop, false, true};
+ghost use Rattle.std.specs.Prelude.{◌≡◌, ◌≤◌, MatchOption, MatchResult, Option, IsTrue, length, drop, false, true};
 ghost use Rattle.fast_template.specs.Resolved.{part_needs_bit as part_needs_bit_of};
 ghost use Rattle.fast_value.specs.declared.scalar.Scalar.{Scalar as ScalarOf};
-ghost use Rattle.fast_dictionary.specs.Dictionary.{entry_at};
-ghost use Rattle.fast_wire.specs.declared.level.Level.TheVariants.{Usual};
 ghost use Rattle.fast_field.specs.Parts.{IsFieldPart};
 ghost use Rattle.fast_field.specs.Within.{HoldsScalar};
-ghost use Rattle.fast_walk.specs.Received.{Took};
 ghost use Rattle.fast_walk.specs.Told.{KeepScalars};
-ghost use Rattle.fast_writer.specs.Levels.{level_of};
-ghost use Rattle.fast_writer.specs.Room.{KeepsRoom};
 ghost use Rattle.fast_relay.specs.Relayed.{IsThere};
-ghost use Rattle.fast_relay.specs.Runs.{IsRun, Stays, written};
-ghost use Rattle.fast_writer.specs.Quick.{Relayed, StopsPart};
-ghost use Rattle.fast_writer.specs.Written.{Spelt};
+ghost use Rattle.fast_relay.specs.Runs.{IsRun, Stays};
+ghost use Rattle.fast_writer.specs.Levels.{level_of};
+ghost use Rattle.fast_writer.specs.Quick.{RelaysEntry, RelaysField, RelaysRun, StopsEntry};
 
 use crate::relay::relay_entry;
 use crate::segment::Segment;
@@ -38,13 +33,8 @@ pub(crate) fn relay_other(
 ) -> Option<(bool, bool)>
     requires run { IsRun bytes.now at out.now }
     requires kept { HoldsScalar entry.now }
-    ensures place { IfSome result (λ x. at ≤ out.new.place) }
-    ensures run { IfSome result (λ x. IsRun bytes.now out.new.place out.new) }
-    ensures relayed { IfSome result (λ x. (v : Option ScalarOf) × IsThere part.now.kind x.0 v
-        × Relayed Usual part.now entry.old entry.new true x.1 v (drop at bytes.now)
-        (drop out.new.place bytes.now) (written bytes.now out.old) (written bytes.now out.new)) }
-    ensures entry { IfNone result (entry.new ≡ entry.old) }
-    ensures out { IfNone result (Stays bytes.now at out.old out.new) }
+    ensures { MatchOption result ((entry.new ≡ entry.old) × Stays bytes.now at out.old out.new)
+        (λ x. RelaysRun part.now entry.old entry.new x.0 x.1 bytes.now at out.old out.new) }
 {
     match relay_null(part, entry, bytes, at, out) {
         Answer::Sent(_next) => Some((false, true)),
@@ -73,13 +63,10 @@ fn relay_generally(
     requires bit { part_needs_bit_of part.now ≡ false → bit ≡ true }
     requires part { IsFieldPart part.now }
     requires entry { HoldsScalar entry.old }
-    ensures place { IfOk result (λ x. (at ≤ x.2) × (x.2 ≤ length bytes.now)) }
-    ensures relayed { IfOk result (λ x. (v : Option ScalarOf) × IsThere part.now.kind x.0 v
-        × Relayed level part.now entry.old entry.new bit x.1 v (drop at bytes.now) (drop x.2 bytes.now)
-        out.old.items out.new.items) }
-    ensures lower { IfOk result (λ x. bit ≡ false → x.1 ≡ false) }
-    ensures stops { IfErr result (StopsPart level part.now entry.old bit (drop at bytes.now) entry.old entry.new
-        out.old.items out.new.items) }
+    ensures { MatchResult result
+        (λ x. (v : Option ScalarOf) × IsThere part.now.kind x.0 v × RelaysEntry level part.now entry.old entry.new
+        bit x.1 v bytes.now at x.2 out.old.items out.new.items)
+        (StopsEntry level part.now entry.old entry.new bit (drop at bytes.now) out.old.items out.new.items) }
 {
     let (found, best, next) = relay_entry(alloc, part, entry, bit, level, bytes, at, out)?;
     let there = found.value(part, entry.view()).is_some();
@@ -108,15 +95,8 @@ pub(crate) fn relay_part<E: Entries>(
     requires served { IsTrue (E.serves entries.now part.now.key) }
     requires part { IsFieldPart part.now }
     requires kept { KeepScalars (E.contents entries.now) }
-    ensures place { IfOk result (λ x. (at ≤ x.1) × (x.1 ≤ length bytes.now)) }
-    ensures relays { IfOk result (λ x. (v : Option ScalarOf) × IsThere part.now.kind x.0 v
-        × Took level part.now bit (E.contents entries.old) (E.contents entries.new) v
-        (drop at bytes.now) (drop x.1 bytes.now)
-        × Spelt part.now (entry_at (E.contents entries.old) part.now.key) v
-        (level_of segment.old) (level_of segment.new)) }
-    ensures room { OnOk result (KeepsRoom part.now bit (level_of segment.old) (level_of segment.new)) }
-    ensures stops { IfErr result (StopsPart level part.now (entry_at (E.contents entries.old) part.now.key) bit (drop at bytes.now)
-        (E.contents entries.old) (E.contents entries.new) (level_of segment.old) (level_of segment.new)) }
+    ensures relays { RelaysField level part.now (E.contents entries.old) (E.contents entries.new) bit
+        bytes.now at (level_of segment.old) (level_of segment.new) result }
     ensures same_keys { E.serves entries.new ≡ E.serves entries.old }
 {
     let entry = entries.entry_mut(&part.key)?;

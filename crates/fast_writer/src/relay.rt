@@ -8,7 +8,7 @@ ghost use Rattle.fast_field.specs.FieldReading.{field_at};
 ghost use Rattle.fast_field.specs.Found.{value_found};
 ghost use Rattle.fast_field.specs.Parts.{HasDefault, IsFieldPart};
 ghost use Rattle.fast_field.specs.Within.{HoldsScalar};
-ghost use Rattle.fast_writer.specs.Written.{AppendsForm};
+ghost use Rattle.fast_writer.specs.Quick.{RelaysFound};
 
 use fast_dictionary::Entry;
 use fast_field::{FieldFault, FieldRefusal, Found, find_field, read_in_place, write_found};
@@ -68,18 +68,7 @@ fn rewrite(
     requires place { at ≤ length bytes.now }
     requires part { IsFieldPart part.now }
     requires entry { HoldsScalar entry.old }
-    ensures place { IfOk result (λ x. (at ≤ x.2) × (x.2 ≤ length bytes.now)) }
-    ensures goes { IfOk result (λ x. (more : List ℕ)
-        → field_at level part.now entry.old true (drop at bytes.now ++ more)
-        ≡ Ok (value_found part.now entry.new x.0, drop x.2 bytes.now ++ more)) }
-    ensures entry { IfOk result (λ x. entry.new
-        ≡ next part.now entry.old (value_found part.now entry.new x.0)) }
-    ensures best { IfOk result (λ x. AppendsForm part.now entry.old
-        (value_found part.now entry.new x.0) x.1 out.old.items out.new.items) }
-    ensures stops { IfErr result (λ f. f ≢ FieldFault.Memory
-        → field_at level part.now entry.old true (drop at bytes.now) ≡ Err f) }
-    ensures unchanged { OnErr result (entry.new ≡ entry.old) }
-    ensures nothing { OnErr result (out.new.items ≡ out.old.items) }
+    ensures { RelaysFound level part.now entry.old entry.new true bytes.now at out.old.items out.new.items result }
 {
     let (found, next) = find_field(alloc, part, entry.view(), true, level, bytes, at)?;
     match write_found(alloc, part, entry, found, out) {
@@ -109,19 +98,7 @@ pub(crate) fn relay_entry(
     requires bit { part_needs_bit_of part.now ≡ false → bit ≡ true }
     requires part { IsFieldPart part.now }
     requires entry { HoldsScalar entry.old }
-    ensures place { IfOk result (λ x. (at ≤ x.2) × (x.2 ≤ length bytes.now)) }
-    ensures goes { IfOk result (λ x. (more : List ℕ)
-        → field_at level part.now entry.old bit (drop at bytes.now ++ more)
-        ≡ Ok (value_found part.now entry.new x.0, drop x.2 bytes.now ++ more)) }
-    ensures entry { IfOk result (λ x. entry.new
-        ≡ next part.now entry.old (value_found part.now entry.new x.0)) }
-    ensures best { IfOk result (λ x. AppendsForm part.now entry.old
-        (value_found part.now entry.new x.0) x.1 out.old.items out.new.items) }
-    ensures lower { IfOk result (λ x. bit ≡ false → x.1 ≡ false) }
-    ensures stops { IfErr result (λ f. f ≢ FieldFault.Memory
-        → field_at level part.now entry.old bit (drop at bytes.now) ≡ Err f) }
-    ensures unchanged { OnErr result (entry.new ≡ entry.old) }
-    ensures nothing { OnErr result (out.new.items ≡ out.old.items) }
+    ensures { RelaysFound level part.now entry.old entry.new bit bytes.now at out.old.items out.new.items result }
 {
     if bit {
         return rewrite(alloc, part, entry, level, bytes, at, out);

@@ -26,13 +26,14 @@ pub struct Writer {
 }
 
 impl Writer {
-    ghost use Rattle.std.specs.Prelude.{◌≡◌, [], ◌∷◌, ◌++◌, List, Bool, ℕ, map, IsTrue, OnOk};
+    ghost use Rattle.std.specs.Prelude.{◌≡◌, [], ◌∷◌, ◌++◌, List, map, OnOk};
     ghost use Rattle.std.specs.FinMap as finite;
     ghost use Rattle.fast_template.specs.Resolved.{Resolved};
     ghost use Rattle.fast_walk.specs.Received.{handed_on};
+    ghost use Rattle.fast_walk.specs.Room.{HasRoomInside, HasRoomOutside};
     ghost use Rattle.fast_writer.specs.Levels.{level_of};
     ghost use Rattle.fast_writer.specs.Room.{writer_room};
-    ghost use Rattle.fast_writer.specs.Written.{Closes, ClosesIn};
+    ghost use Rattle.fast_writer.specs.Written.{Closes, ClosesIn, IsEmpty};
 
     /// With no message, and nothing handed on. Takes no memory.
     #[inline(always)]
@@ -53,9 +54,7 @@ impl Writer {
     fn open(&mut self, alloc: Global, own: bool) -> Result<(), AllocError>
         ensures outer { OnOk result (map level_of self.new.outer
             ≡ map level_of self.old.outer ++ level_of self.old.inner ∷ []) }
-        ensures bits { OnOk result (self.new.inner.bits ≡ []) }
-        ensures own { OnOk result (self.new.inner.own ≡ own) }
-        ensures bytes { OnOk result (self.new.inner.bytes.out.items ≡ []) }
+        ensures begun { OnOk result (IsEmpty own (level_of self.new.inner)) }
         ensures out { self.new.out ≡ self.old.out }
     {
         self.outer.push(alloc, &mut self.inner)?;
@@ -66,14 +65,11 @@ impl Writer {
     // Ends the segment that is open, in the one around it.
     #[inline(always)]
     fn close(&mut self) -> Result<(), AllocError>
-        requires room { (around : List (List Bool)) × (left : List Bool) × (bits : List Bool)
-            × IsTrue (writer_room self.now (around ++ left ∷ []) bits) }
+        requires room { HasRoomInside (writer_room self.now) }
         ensures closed { OnOk result (Closes (map level_of self.old.outer)
             (level_of self.old.inner) (map level_of self.new.outer)
             (level_of self.new.inner)) }
-        ensures room { OnOk result ((around : List (List Bool)) (left bits : List Bool)
-            → IsTrue (writer_room self.old (around ++ left ∷ []) bits)
-            → IsTrue (writer_room self.new around left)) }
+        ensures room { OnOk result (HasRoomOutside (writer_room self.old) (writer_room self.new)) }
         ensures out { self.new.out ≡ self.old.out }
     {
         self.outer.close(&mut self.inner)?;
@@ -83,13 +79,10 @@ impl Writer {
     // Ends the segment that is open, in the one around it, and begins another in the same memory.
     #[inline(always)]
     fn close_and_open(&mut self, own: bool) -> Result<(), AllocError>
-        requires room { (around : List (List Bool)) × (left : List Bool) × (bits : List Bool)
-            × IsTrue (writer_room self.now (around ++ left ∷ []) bits) }
+        requires room { HasRoomInside (writer_room self.now) }
         ensures closed { OnOk result (ClosesIn (map level_of self.old.outer)
             (level_of self.old.inner) (map level_of self.new.outer)) }
-        ensures bits { OnOk result (self.new.inner.bits ≡ []) }
-        ensures own { OnOk result (self.new.inner.own ≡ own) }
-        ensures bytes { OnOk result (self.new.inner.bytes.out.items ≡ []) }
+        ensures begun { OnOk result (IsEmpty own (level_of self.new.inner)) }
         ensures out { self.new.out ≡ self.old.out }
     {
         self.outer.end(&self.inner)?;

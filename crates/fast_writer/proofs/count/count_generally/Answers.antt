@@ -15,4 +15,4 @@ number_in-number-requires c =
     let v = value_found i c.relay_entry.new.entry c.in_ok-found.found in
     let value = c.value.ensures ∙ ap (λ (e : Entry). value_found i e c.in_ok-found.found) c.view.ensures in
     subst (λ (o : Option Scalar). IfSome o (λ w. IsTrue (is_of kind.UInt32 w))) (sym value)
-    (subst (λ (k : Kind). IfSome v (λ w. IsTrue (is_of k w))) c.requires.kind (appended_kinds i c.args.entry.now v c.in_ok-found.best c.args.out.now.items c.relay_entry.new.out.items c.requires.part.typed c.in_ok-found.ensures.best))
+    (subst (λ (k : Kind). IfSome v (λ w. IsTrue (is_of k w))) c.requires.kind (appended_kinds i c.args.entry.now v c.in_ok-found.best c.args.out.now.items c.relay_entry.new.out.items c.requires.part.typed c.in_ok-found.ensures.relayed.form))

@@ -1,4 +1,4 @@
-use Rattle.std.proofs.Common.{◌≡◌, ◌-◌, arith, drop, length, length-drop, refl, take}
+use Rattle.std.proofs.Common.{◌≡◌, ◌-◌, arith, drop, length, length-drop, take}
 use Rattle.std.proofs.lemmas.List.{take_all}
 use Rattle.fast_relay.specs.Runs.{written}
 use Rattle.fast_writer.specs.Levels.{level_of}
@@ -17,6 +17,6 @@ returns-clause-takes g c =
     let place = c.take_run.new.segment.bytes.place in
     let whole : take (length rest - count) (drop count rest) ≡ drop count rest = take_all (length rest - count) (drop count rest) (omega (arith, length-drop count rest)) in
     rw whole
-    (takes_from g.L.Leveled.at bytes _ _ _ _ d e c.args.bits.now c.take_run.new.bits rest c.args.spare (front_at rest c.args.spare count c.take_run.new.mantissa place) c.begin.new.self.place c.args.at place place
+    (takes_from _ _ _ d e c.args.bits.now c.take_run.new.bits rest c.args.spare c.begin.new.self.place c.args.at (front_at rest c.args.spare count c.take_run.new.mantissa place)
     (level_bytes (level_of c.args.segment.now) (written bytes c.begin.new.self) (begun bytes c.args.segment.now.bytes c.begin.new.self c.args.at c.begin.ensures.out c.begin.ensures.from c.begin.ensures.place))
-    refl c.begin.ensures.place refl (c.in_ok-count.ensures.takes c.args.spare (omega (arith, c.if-rest-spare.false))))
+    c.begin.ensures.place (c.in_ok-count.ensures.took.takes c.args.spare (omega (arith, c.if-rest-spare.false))))

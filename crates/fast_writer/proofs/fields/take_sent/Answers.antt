@@ -1,35 +1,11 @@
-use Rattle.std.proofs.Common.{true, Some, ap, drop, refl, ◌∙◌}
-use Rattle.fast_relay.specs.Runs.{written}
-use Rattle.fast_relay.specs.declared.run.Run.{Run}
-use Rattle.fast_writer.specs.Levels.{level_in}
-use Rattle.fast_writer.proofs.Relays.{asked_in, stands_relayed, took_behind, took_entry}
-use Rattle.fast_writer.proofs.Takings.{taken_on}
+use Rattle.fast_writer.proofs.Takings.{stood}
 use Rattle.fast_writer.proofs.fields.take_sent.Goals as goal
 
-pub returns-in-Stands-clause-took : goal.returns-in-Stands-clause-took
-returns-in-Stands-clause-took g c =
-    let level = g.L.Leveled.at in
-    let i = c.args.part.now in
+pub returns-in-Stands : goal.returns-in-Stands
+returns-in-Stands g c =
     let bytes = c.args.bytes.now in
-    let old = c.args.segment.now in
-    let now = c.end_part.new.segment in
-    let at = old.bytes.place in
-    let next = c.in-Stands.next in
-    let kept = c.keep.new.self in
-    let entry = c.judge_field-judged.new.entry in
+    let l = c.args.segment.now in
     let judged = c.in-Stands.ensures in
-    let v = judged.judged.0 in
-    let r = judged.judged.1 (written bytes old.bytes) in
-    let run = c.keep.ensures.run bytes at c.requires.run judged.place.1 in
-    taken_on c.end_part.result _ _ _ _
-    (λ there is asked same.
-    rw (is) (
-      Some v,
-      (v, refl, r.of_kind),
-      took_behind level i c.args.entry.now entry c.args.bits.now (Some v) (drop at bytes) (drop next bytes) (drop now.bytes.place bytes) (level_in bytes old) (level_in bytes now) (ap (λ n. drop n bytes) (ap (λ (r : Run). r.place) same ∙ run.place))
-          (took_entry level i c.args.entry.now entry c.args.bits.now true true c.part_needs_bit-needs.result (Some v) (drop at bytes) (drop next bytes) (written bytes kept) (level_in bytes old) (level_in bytes now)
-          c.requires.bit c.part_needs_bit-needs.ensures (λ low. low)
-          (stands_relayed level i c.args.entry.now entry v (drop at bytes) (drop next bytes) (written bytes old.bytes) _ (written bytes kept) (rw (c.level.ensures) at (c.is_read_as_usual.ensures c.if-not-is_read_as_usual.false)) r (c.keep.ensures.written bytes at c.requires.run))
-          (asked_in bytes c.part_needs_bit-needs.result true _ now asked same)),
-    ))
-    c.end_part.ensures.part c.end_part.ensures.asked c.end_part.ensures.run
+    stood g.L.Leveled.at c.args.part.now c.args.entry.now c.judge_field-judged.new.entry _ c.args.bits.now c.end_part.new.bits bytes l.bytes.place c.in-Stands.next l c.end_part.new.segment c.keep.new.self c.end_part.result
+    c.requires.bit c.part_needs_bit-needs.ensures (rw (c.level.ensures) at (c.is_read_as_usual.ensures c.if-not-is_read_as_usual.false)) judged.place.0 judged.judged
+    (c.keep.ensures.run bytes l.bytes.place c.requires.run judged.place.1) (c.keep.ensures.written bytes l.bytes.place c.requires.run) c.end_part.ensures

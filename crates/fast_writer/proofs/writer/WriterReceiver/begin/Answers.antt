@@ -10,16 +10,15 @@ returns-clause-goes g c =
     let d = g.E.Entries.contents c.args.entries.now in
     let e = g.E.Entries.contents c.relay_identifier.new.entries in
     let named : c.args.identifier.now ≡ identifier = search rules in
-    let took = rw (c.in-Some.is) at c.in_ok-id.ensures.took in
-    let spelt = rw (c.in-Some.is) at c.in_ok-id.ensures.spelt in (
-      took,
+    let relays = rw (c.in-Some.is) at c.in_ok-id.ensures.relays in (
+      relays.took,
       λ set ms members stands. (
         stands,
         has_opened (map level_of c.clear.new.self) (level_of c.begin.new.self) (level_of c.relay_identifier.new.segment) set ms c.in-Some.id members d e
-            (ap (map level_of) c.clear.ensures) c.begin.ensures.bits c.begin.ensures.own c.begin.ensures.bytes (rw (named) at took.entry) (rw (named) at spelt),
+            (ap (map level_of) c.clear.ensures) (record { bits = c.begin.ensures.bits; own_is = c.begin.ensures.own; bytes = c.begin.ensures.bytes }) (rw (named) at relays.took.entry) (rw (named) at relays.spelt),
       ),
     )
 
 pub returns-clause-room : goal.returns-clause-room
 returns-clause-room g c = λ left is few.
-    rw (c.in_ok-id.ensures.room left is (fresh_room (level_of c.begin.new.self) left c.begin.ensures.bits few), c.clear.ensures) refl
+    rw (c.in_ok-id.ensures.relays.room left is (fresh_room (level_of c.begin.new.self) left c.begin.ensures.bits few), c.clear.ensures) refl

@@ -1,6 +1,4 @@
-use Rattle.std.proofs.Common.{ℕ, true, subst, ◌∙◌, sym, map}
-use Rattle.std.specs.Global.{Vec}
-use Rattle.fast_writer.specs.Written.{IsFinished}
+use Rattle.std.proofs.Common.{true, sym, map}
 use Rattle.fast_writer.specs.Levels.{level_of}
 use Rattle.fast_writer.proofs.Writers.{has_entered}
 use Rattle.fast_stream.specs.Bits.{after_bit}
@@ -12,9 +10,9 @@ pub returns-clause-has : goal.returns-clause-has
 returns-clause-has c = λ number presence members is bits o d next first optional own has.
     let old = c.args.self.now in
     let new = c.open.new.self in (
-      subst (λ (v : Vec ℕ). IsFinished v.items o.set o.before o.start) (sym c.open.ensures.out) has.0,
+      rw (c.open.ensures.out) has.0,
       has_entered (map level_of old.outer) (map level_of new.outer) (level_of old.inner) (level_of c.ask.new.self) (level_of new.inner) o c.args._name.now number presence members is bits d c.args.optional
-          next first optional c.in_ok-ask.ensures.asked c.in_ok-open.ensures.outer c.in_ok-open.ensures.bits (c.in_ok-open.ensures.own ∙ own) c.in_ok-open.ensures.bytes has.1,
+          next first optional c.in_ok-ask.ensures.asked c.in_ok-open.ensures.outer (rw (own) at c.in_ok-open.ensures.begun) has.1,
     )
 
 pub returns-clause-room : goal.returns-clause-room
@@ -23,5 +21,5 @@ returns-clause-room c = λ around left bits bit few room.
     let new = c.open.new.self in
     let r = both_room (has_room (level_of old.inner) left) (have_room (map level_of old.outer) around) room in
     let asked = asked_room c.args.optional true true (level_of old.inner) (level_of c.ask.new.self) left (sym bit) (λ e. absurd cc) c.in_ok-ask.ensures.asked.bits c.in_ok-ask.ensures.asked.own r.0 in
-    rw (fresh_room (level_of new.inner) bits c.in_ok-open.ensures.bits few, c.in_ok-open.ensures.outer)
+    rw (fresh_room (level_of new.inner) bits c.in_ok-open.ensures.begun.bits few, c.in_ok-open.ensures.outer)
     (push_room (map level_of old.outer) around (level_of c.ask.new.self) (after_bit c.args.optional left) r.1 asked)

@@ -1,6 +1,4 @@
-use Rattle.std.proofs.Common.{ℕ, subst, sym, map}
-use Rattle.std.specs.Global.{Vec}
-use Rattle.fast_writer.specs.Written.{IsFinished}
+use Rattle.std.proofs.Common.{map}
 use Rattle.fast_writer.specs.Levels.{level_of}
 use Rattle.fast_writer.proofs.Writers.{has_element}
 use Rattle.fast_writer.specs.Room.{has_room, have_room}
@@ -11,9 +9,9 @@ pub returns-clause-has : goal.returns-clause-has
 returns-clause-has c = λ s bits o d next own some has.
     let old = c.args.self.now in
     let new = c.open.new.self in (
-      subst (λ (v : Vec ℕ). IsFinished v.items o.set o.before o.start) (sym c.open.ensures.out) has.0,
+      rw (c.open.ensures.out) has.0,
       has_element (map level_of old.outer) (map level_of new.outer) (level_of old.inner) (level_of new.inner) o s bits d c.args.own_map
-          next own some c.in_ok-open.ensures.outer c.in_ok-open.ensures.bits c.in_ok-open.ensures.own c.in_ok-open.ensures.bytes has.1,
+          next own some c.in_ok-open.ensures.outer c.in_ok-open.ensures.begun has.1,
     )
 
 pub returns-clause-room : goal.returns-clause-room
@@ -21,5 +19,5 @@ returns-clause-room c = λ around left bits few room.
     let old = c.args.self.now in
     let new = c.open.new.self in
     let r = both_room (has_room (level_of old.inner) left) (have_room (map level_of old.outer) around) room in
-    rw (fresh_room (level_of new.inner) bits c.in_ok-open.ensures.bits few, c.in_ok-open.ensures.outer)
+    rw (fresh_room (level_of new.inner) bits c.in_ok-open.ensures.begun.bits few, c.in_ok-open.ensures.outer)
     (push_room (map level_of old.outer) around (level_of old.inner) left r.1 r.0)

@@ -14,10 +14,10 @@ returns-clause-goes g c =
     let e = g.E.Entries.contents c.relay_part.new.entries in
     let r = c.in_ok-_there.ensures.relays in (
       r.0,
-      r.2,
+      r.2.took,
       λ number is o next first has. (
         has.0,
-        has_field (map level_of old.outer) (level_of old.inner) (level_of c.relay_part.new.segment) o c.args._name.now number c.args._presence c.args.part.now is d e r.0 next first r.2.entry r.3 has.1,
+        has_field (map level_of old.outer) (level_of old.inner) (level_of c.relay_part.new.segment) o c.args._name.now number c.args._presence c.args.part.now is d e r.0 next first r.2.took.entry r.2.spelt has.1,
       ),
     )
 
@@ -26,4 +26,4 @@ relay_part-requires-clause-part g c = told_part part.Whole c.args.part.now.kind 
 
 pub returns-clause-room : goal.returns-clause-room
 returns-clause-room g c = λ around left is.
-    inner_room _ _ (have_room (map level_of c.args.self.now.outer) around) (c.in_ok-_there.ensures.room left is)
+    inner_room _ _ (have_room (map level_of c.args.self.now.outer) around) (c.in_ok-_there.ensures.relays.2.room left is)

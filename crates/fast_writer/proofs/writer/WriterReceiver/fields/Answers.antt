@@ -10,7 +10,7 @@ use Rattle.fast_writer.proofs.writer.WriterReceiver.fields.Goals as goal
 pub returns-in-Usual-clause-goes : goal.returns-in-Usual-clause-goes
 returns-in-Usual-clause-goes g c = rw (c.in-Usual.is) (IfOk-weaker c.take_fields.result _ _ (λ fields takes o next first has.
     passes_with _ _ _ o _ _ _ _ _ _ _ _ _ _ (λ p set before start opened. (rw (set, before, start) has.0, opened))
-    (takes (map level_of c.args.self.now.outer) o (ap bare_next next) first has.1)) c.take_fields.ensures.takes)
+    (takes.passes (map level_of c.args.self.now.outer) o (ap bare_next next) first has.1)) c.take_fields.ensures.takes)
 
 pub returns-in-Usual-clause-room : goal.returns-in-Usual-clause-room
 returns-in-Usual-clause-room g c = on_ok_weaker c.take_fields.result (λ room around.
@@ -19,7 +19,7 @@ returns-in-Usual-clause-room g c = on_ok_weaker c.take_fields.result (λ room ar
 pub returns-in-Strict-clause-goes : goal.returns-in-Strict-clause-goes
 returns-in-Strict-clause-goes g c = rw (c.in-Strict.is) (IfOk-weaker c.take_fields-in-Strict.result _ _ (λ fields takes o next first has.
     passes_with _ _ _ o _ _ _ _ _ _ _ _ _ _ (λ p set before start opened. (rw (set, before, start) has.0, opened))
-    (takes (map level_of c.args.self.now.outer) o (ap bare_next next) first has.1)) c.take_fields-in-Strict.ensures.takes)
+    (takes.passes (map level_of c.args.self.now.outer) o (ap bare_next next) first has.1)) c.take_fields-in-Strict.ensures.takes)
 
 pub returns-in-Strict-clause-room : goal.returns-in-Strict-clause-room
 returns-in-Strict-clause-room g c = on_ok_weaker c.take_fields-in-Strict.result (λ room around.
