@@ -31,7 +31,7 @@ use Rattle.fast_writer.specs.declared.segment.Segment.{Segment as LevelNow}
 use Rattle.fast_writer.specs.declared.fields.Taken.{Taken}
 use Rattle.fast_writer.specs.declared.fields.Taken.TheVariants.{Part, Elsewhere, Refused}
 use Rattle.fast_relay.specs.Relayed.{IsThere}
-use Rattle.fast_relay.specs.Judged.{Judges}
+use Rattle.fast_relay.specs.Judged.{JudgedTo}
 use Rattle.fast_relay.specs.Runs.{IsRun, written}
 use Rattle.fast_relay.specs.declared.run.Run.{Run}
 use Rattle.fast_field.specs.AsUsual.{ReadsAsUsual}
@@ -148,14 +148,14 @@ ended level p old new bit best needed there v bits later bytes at next l k r Ref
 
 -- it stands in its best form
 pub stood : (level : Level) (p : FieldPart) (old new : Entry) (needed : Bool) (bits later : List Bool) (bytes : List ℕ) (at next : ℕ) (l k : LevelNow) (r : Run) (t : Taken)
-    → bit_for (part_needs_bit p) bits ≡ true → needed ≡ part_needs_bit p → ReadsAsUsual level p (drop at bytes) → at ≤ next → (v : Scalar) × Judges true p old new v bytes at next
+    → bit_for (part_needs_bit p) bits ≡ true → needed ≡ part_needs_bit p → ReadsAsUsual level p (drop at bytes) → JudgedTo true p old new bytes at at next
     → IsRun bytes next r → written bytes r ≡ written bytes l.bytes ++ slice_range bytes at next
     → MatchTaken t (λ is. (is ≡ true) × EndsPart needed true bits later (record { bits = l.bits; own = l.own; bytes = r.out.items }) (level_of k) × (k.bytes ≡ r)) ⊥
     → TakesPart level p old new bits later bytes at l k t
-stood level p old new needed bits later bytes at next l k r t is needs usual forward judged run noted e =
-    let v = judged.0 in
-    let relays = judged.1 (written bytes l.bytes) in
-    ended level p old new true true needed true (Some v) bits later bytes at next l k r t is needs (λ low. low) forward run (v, refl, relays.of_kind)
+stood level p old new needed bits later bytes at next l k r t is needs usual judged run noted e =
+    let v = judged.gives.0 in
+    let relays = judged.gives.1 (written bytes l.bytes) in
+    ended level p old new true true needed true (Some v) bits later bytes at next l k r t is needs (λ low. low) judged.place run (v, refl, relays.of_kind)
     (stands_relayed usual relays noted) e
 
 -- its entry is put under its key

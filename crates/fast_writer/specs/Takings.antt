@@ -25,9 +25,6 @@ use Rattle.fast_writer.specs.Levels.{level_in}
 use Rattle.fast_writer.specs.Room.{has_room}
 use Rattle.fast_writer.specs.Written.{Segment, Asked, IsOpened, Spelt}
 use Rattle.fast_writer.specs.declared.segment.Segment.{Segment as LevelNow}
-use Rattle.fast_relay.specs.declared.judged.Judged.{Judged}
-use Rattle.fast_relay.specs.declared.judged.Judged.TheVariants.{Stands, Behind, BehindTwo, Given, Elsewhere as NotJudged}
-use Rattle.fast_relay.specs.Judged.{Judges, JudgesFrom}
 use Rattle.fast_writer.specs.declared.fields.Taken.{Taken}
 use Rattle.fast_writer.specs.declared.fields.Taken.TheVariants.{Part, Elsewhere, Refused}
 
@@ -136,11 +133,3 @@ pub record TookFields (level : Level) (serves : Key → Bool) (rest : List Flat)
   pub takes : (spare : ℕ) → length rest ≤ spare → Takes level bytes l d bits (front_at rest spare 0 None at) k e later (front_at rest spare count mantissa next)
   pub room : IsTrue (has_room l bits) → IsTrue (has_room k later)
   pub kept : KeepScalars e
-
--- What was judged of a part that was sent: what its best form is, and that its entry went on; or that nothing has changed.
-abbrev pub WasJudged : Judged → FieldPart → Entry → Entry → List ℕ → ℕ → Type 0
-WasJudged (Stands next) p old new bytes at = (v : Scalar) × Judges true p old new v bytes at next
-WasJudged (Behind next) p old new bytes at = (v : Scalar) × JudgesFrom true p old new v bytes at (at + 1) next
-WasJudged (BehindTwo next) p old new bytes at = (v : Scalar) × JudgesFrom true p old new v bytes at (at + 2) next
-WasJudged (Given next) p old new bytes at = (v : Scalar) × Judges false p old new v bytes at next
-WasJudged NotJudged p old new bytes at = new ≡ old

@@ -13,13 +13,13 @@ ghost use Rattle.fast_walk.specs.Told.{KeepScalars};
 ghost use Rattle.fast_walk.specs.Walks.{AreServed, IsNextServed, IsServed};
 ghost use Rattle.fast_walk.specs.Passing.{next_behind};
 ghost use Rattle.fast_relay.specs.Relayed.{IsThere};
-ghost use Rattle.fast_relay.specs.Judged.{IfBehind, IfJudged, IfNotJudged};
+ghost use Rattle.fast_relay.specs.Judged.{IsJudged};
 ghost use Rattle.fast_relay.specs.Runs.{IsRun};
 ghost use Rattle.fast_writer.specs.Levels.{level_in, level_of};
 ghost use Rattle.fast_writer.specs.Room.{has_room};
 ghost use Rattle.fast_wire.specs.PresenceMap.{next_bit};
 ghost use Rattle.fast_writer.specs.Written.{with_bytes};
-ghost use Rattle.fast_writer.specs.Takings.{BeginsWith, EndsPart, IsFirstTold, MatchTaken, Takes, TakesPart, TakesUnder, TookFields, WasJudged, front_of};
+ghost use Rattle.fast_writer.specs.Takings.{BeginsWith, EndsPart, IsFirstTold, MatchTaken, Takes, TakesPart, TakesUnder, TookFields, front_of};
 ghost use Rattle.fast_value.specs.declared.key.Key.{Key};
 ghost use Rattle.fast_value.specs.declared.kind.Kind.TheVariants.{Int32};
 ghost use Rattle.fast_value.specs.declared.kind.Part.TheVariants.{Exponent, Whole};
@@ -183,13 +183,12 @@ fn take_judged(
     segment: &mut Segment,
 ) -> Taken
     requires run { IsRun bytes.now at segment.now.bytes }
-    requires judged_place { IfJudged judged (λ best next. (at ≤ next) × (next ≤ length bytes.now)) }
-    requires behind_place { IfBehind judged (λ needless next. (at + needless ≤ next) × (next ≤ length bytes.now)) }
-    requires kept { IfNotJudged judged (HoldsScalar entry.now) }
+    requires judged { (before : EntryOf) × IsJudged part.now before entry.now bytes.now at judged }
+    requires kept { judged ≡ Judged.Elsewhere → HoldsScalar entry.now }
     requires needs { needs ≡ part_needs_bit_of part.now }
     requires bit { bit_for (part_needs_bit_of part.now) bits.now ≡ true }
     requires usual { ReadsAsUsual level part.now (drop at bytes.now) }
-    ensures { (before : EntryOf) → WasJudged judged part.now before entry.old bytes.now at
+    ensures { (before : EntryOf) → IsJudged part.now before entry.old bytes.now at judged
         → TakesPart level part.now before entry.new bits.old bits.new bytes.now at
         segment.old segment.new result }
 {
