@@ -2,18 +2,14 @@
 use Rattle.std.proofs.Common.{◌≡◌, ℕ, true, false, List, [], Option, Result, Ok, Err, refl, sym, ◌∙◌}
 use Rattle.std.specs.Prelude.{IfOk}
 use Rattle.fast_wire.specs.Reader.{IsBytes}
-use Rattle.fast_value.specs.declared.kind.Operator.{Operator}
-use Rattle.fast_value.specs.declared.kind.Operator.TheVariants as operator
-use Rattle.fast_value.specs.declared.kind.Presence.{Presence}
-use Rattle.fast_value.specs.declared.kind.Presence.TheVariants.{Mandatory, Optional}
 use Rattle.fast_template.specs.declared.resolved.FieldPart.{FieldPart}
 use Rattle.fast_value.specs.declared.scalar.Scalar.{Scalar}
-use Rattle.fast_template.specs.Resolved.{operator_needs_bit, part_needs_bit}
+use Rattle.fast_template.specs.Resolved.{part_needs_bit}
 use Rattle.fast_dictionary.specs.declared.entry.Entry.{Entry}
 use Rattle.fast_wire.specs.declared.level.Level.{Level}
 use Rattle.fast_wire.specs.declared.level.Level.TheVariants.{Usual}
 use Rattle.fast_field.specs.Deltas.{Cut}
-use Rattle.fast_field.specs.Fields.{FormOf, FormBy}
+use Rattle.fast_field.specs.Fields.{FormBy}
 use Rattle.fast_field.specs.Best.{IsBest}
 use Rattle.fast_field.specs.Parts.{HasDefault}
 use Rattle.fast_field.specs.FieldReading.{field_at}
@@ -37,17 +33,3 @@ repeated_best level i e bytes rest v default fits needs is =
 
     best : (b : List ℕ) (cut : Cut) → FormBy Usual i e false cut b v → IsBest i e false [] v
     best b cut h = let z = bit_zero_row i.operator i e cut b v h.row in bit_zero_is_best i e v (rw (z.0, z.1) at h)
-
--- Where a part has no bit, that of a form is 1.
-no_bit : (o : Operator) (p : Presence) (i : FieldPart) (e : Entry) (c : Cut) (b : List ℕ) (v : Option Scalar) → i.presence ≡ p → operator_needs_bit o p ≡ false → FormOf Usual o i e false c b v → ⊥
-no_bit operator.Plain p i e c b v is h f = f
-no_bit operator.Constant Mandatory i e c b v is h f = absurd (other (sym is ∙ f.2))
-  where
-    other : Mandatory ≡ Optional → ⊥
-    other h = absurd cc
-no_bit operator.Constant Optional i e c b v is h f = absurd cc
-no_bit operator.Default p i e c b v is h f = absurd cc
-no_bit operator.Copy p i e c b v is h f = absurd cc
-no_bit operator.Increment p i e c b v is h f = absurd cc
-no_bit operator.Delta p i e c b v is h f = f
-no_bit operator.Tail p i e c b v is h f = absurd cc

@@ -1,11 +1,7 @@
 -- The bits for which a map has no room.
-use Rattle.std.proofs.Common.{◌≡◌, ℕ, zero, suc, Bool, true, false, ◌||◌, List, [], ◌∷◌, refl}
+use Rattle.std.proofs.Common.{◌≡◌, ℕ, zero, suc, Bool, true, false, List, [], ◌∷◌, refl}
 use Rattle.fast_wire.specs.PresenceMap.{bit_at, HasSetBit}
 use Rattle.fast_writer.specs.Written.{has_set}
-
-or_true : (b c : Bool) → c ≡ true → (b || c) ≡ true
-or_true true c h = refl
-or_true false c h = h
 
 set_at : (bits : List Bool) (i : ℕ) → bit_at bits i ≡ true → has_set bits ≡ true
 set_at [] i h = absurd cc
