@@ -1,6 +1,6 @@
 -- What numbers rest on that are judged as they stand.
-use Rattle.std.proofs.Common.{◌≡◌, ◌++◌, ◌≤◌, ◌+◌, inl, inr, ℕ, Bool, true, false, List, length, drop, slice_range, refl, rules, sym, ap, subst, ◌∙◌, arith}
-use Rattle.std.specs.Prelude.{ℤ, ◌+ℤ◌, Option, Some, None, IfSome, IfNone, IsTrue}
+use Rattle.std.proofs.Common.{◌≡◌, ◌++◌, ◌≤◌, ℕ, Bool, true, false, List, length, drop, slice_range, refl, rules, sym, ap, subst, ◌∙◌}
+use Rattle.std.specs.Prelude.{ℤ, ◌+ℤ◌, Some, IsTrue}
 use Rattle.fast_wire.specs.Reader.{IsBytes}
 use Rattle.fast_value.specs.Scalar.{is_of, of_integer, scalar_eq-exact, scalar_eq-same}
 use Rattle.fast_value.specs.contracts.scalar.ScalarPartialEq.TheImpl as scalar_eq
@@ -20,7 +20,7 @@ use Rattle.fast_field.specs.Values.{integer_of, is_unsigned}
 use Rattle.fast_field.proofs.BestForms.{bit_zero_is_best}
 use Rattle.fast_field.proofs.BestValues.{left_out}
 use Rattle.fast_field.proofs.Passing.{increased_is, kind_is, number_back, of_kind, within_number}
-use Rattle.fast_relay.specs.Judged.{Adds, Gives, HasAnswer, IfFound, IsBehind, IsJudged, JudgedTo, JudgesFrom, Leaves, LeavesWhole, NumberGives, StandsAt, StandsFrom, sent_unsigned}
+use Rattle.fast_relay.specs.Judged.{Adds, IfFound, JudgesFrom, Leaves, LeavesWhole, NumberGives, StandsAt, StandsFrom, sent_unsigned}
 use Rattle.fast_relay.specs.Numbers.{SpellsWhole, Spelt}
 use Rattle.fast_relay.specs.declared.judged.Judged.{Judged}
 use Rattle.fast_relay.specs.declared.judged.Judged.TheVariants.{Stands, Behind, BehindTwo, Given, Elsewhere}

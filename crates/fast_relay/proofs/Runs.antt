@@ -1,5 +1,5 @@
 -- What a run of noted bytes is.
-use Rattle.std.proofs.Common.{◌≡◌, ◌≤◌, ℕ, Bool, true, false, refl, ◌+◌, ◌-◌, List, [], ◌++◌, take, drop, slice_range, sym, ap, subst, ◌∙◌, arith, append_assoc, append-nil, drop-drop, take-add, length}
+use Rattle.std.proofs.Common.{◌≡◌, ◌≤◌, ℕ, Bool, true, false, refl, ◌+◌, ◌-◌, List, [], ◌++◌, take, drop, slice_range, sym, ap, ◌∙◌, arith, append_assoc, append-nil, drop-drop, take-add, length}
 use Rattle.fast_relay.specs.Runs.{IsRun, Stays, written}
 use Rattle.fast_relay.specs.declared.run.Run.{Run}
 

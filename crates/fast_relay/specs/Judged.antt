@@ -1,5 +1,5 @@
 -- A field whose bytes are judged as they stand: they are the best form of their value, or bit 0 is. (Own.)
-use Rattle.std.specs.Prelude.{◌≡◌, ◌≤◌, ◌+◌, ◌+ℤ◌, ◌⊎◌, ℕ, ℤ, Bool, true, false, not, List, ◌++◌, length, drop, slice_range, Option, Some, None, Ok, IsTrue, ⊤}
+use Rattle.std.specs.Prelude.{◌≡◌, ◌≤◌, ◌+◌, ◌+ℤ◌, ℕ, ℤ, Bool, true, false, not, List, ◌++◌, length, drop, slice_range, Option, Some, None, Ok, IsTrue, ⊤}
 use Rattle.fast_wire.specs.Plain.{IsPlain}
 use Rattle.fast_wire.specs.declared.level.Level.TheVariants.{Usual}
 use Rattle.fast_wire.specs.declared.nullable.Nullable.TheVariants.{Value}
