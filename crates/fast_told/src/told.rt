@@ -66,10 +66,10 @@ fn take_integer<S: Signs>(
     ensures { TellsNext S.form level name.now part.now true bytes.now at result entry.old entry.new line.old line.new }
 {
     match take_number(part, entry, bytes, at) {
-        Some((value, next)) => {
-            line.tell(signs, name, part, Some(&value))?;
-            Ok(next)
-        }
+        Some((value, next)) => match line.tell(signs, name, part, Some(&value)) {
+            Err(_) => Err(FieldFault::Memory),
+            Ok(()) => Ok(next),
+        },
         None => take_generally(
             signs, alloc, name, part, entry, true, level, bytes, at, line,
         ),
@@ -95,10 +95,10 @@ fn take_held<S: Signs>(
     ensures { TellsNext S.form level name.now part.now true bytes.now at result entry.old entry.new line.old line.new }
 {
     match take_kept(alloc, part, entry, bytes, at) {
-        Some(next) => {
-            line.tell(signs, name, part, Found::Kept.value(part, entry.view()))?;
-            Ok(next)
-        }
+        Some(next) => match line.tell(signs, name, part, Found::Kept.value(part, entry.view())) {
+            Err(_) => Err(FieldFault::Memory),
+            Ok(()) => Ok(next),
+        },
         None => take_generally(
             signs, alloc, name, part, entry, true, level, bytes, at, line,
         ),
@@ -123,10 +123,10 @@ fn take_beside<S: Signs>(
     ensures { TellsNext S.form level name.now part.now true bytes.now at result entry.old entry.new line.old line.new }
 {
     match take_aside(alloc, part, &mut line.aside, bytes, at) {
-        Some(next) => {
-            line.tell_aside(signs, name, part)?;
-            Ok(next)
-        }
+        Some(next) => match line.tell_aside(signs, name, part) {
+            Err(_) => Err(FieldFault::Memory),
+            Ok(()) => Ok(next),
+        },
         None => take_generally(
             signs, alloc, name, part, entry, true, level, bytes, at, line,
         ),
@@ -213,10 +213,10 @@ fn take<S: Signs>(
     ensures { TellsNext S.form level name.now part.now bit bytes.now at result entry.old entry.new line.old line.new }
 {
     match take_given(part, entry, bit) {
-        Some(found) => {
-            line.tell(signs, name, part, found.value(part, entry.view()))?;
-            Ok(at)
-        }
+        Some(found) => match line.tell(signs, name, part, found.value(part, entry.view())) {
+            Err(_) => Err(FieldFault::Memory),
+            Ok(()) => Ok(at),
+        },
         None => take_read(signs, alloc, name, part, entry, bit, level, bytes, at, line),
     }
 }
