@@ -68,9 +68,6 @@ pub returns-in-None-clause-again : goal.returns-in-None-clause-again
 returns-in-None-clause-again g c = λ none.
     repeats_kept _ c.reads.self.reached _ (λ shut. ap (λ x. x.reached) (c.reads.invariant.closed shut)) c.outcome.ensures.again
 
-pub returns-in-None-clause-none_waits : goal.returns-in-None-clause-none_waits
-returns-in-None-clause-none_waits g c = λ none. c.outcome.ensures.waiting
-
 pub returns-in-Some-clause-again : goal.returns-in-Some-clause-again
 returns-in-Some-clause-again g c = λ none.
     repeats_open c.args.self.now.reached _ (λ shut. let same = ap (λ x. x.waiting.items) (c.reads.invariant.closed shut) ∙ none in let some = c.in-Some.ensures.items in search rules)
