@@ -1,5 +1,5 @@
 -- How a stream of messages follows its reader.
-use Rattle.std.proofs.Common.{◌≡◌, ◌≢◌, ◌≤◌, ℕ, ◌+◌, List, [], ◌∷◌, ◌++◌, length, take, map, reverse, Option, None, Some, Result, refl, sym, ap, subst, ◌∙◌, arith, rules, append_assoc, append-nil, length-append, length-take, ◌⊎◌, inl, inr}
+use Rattle.std.proofs.Common.{◌≡◌, ◌≢◌, ◌≤◌, ℕ, ◌+◌, List, [], ◌∷◌, ◌++◌, length, take, map, reverse, Option, None, Some, Result, refl, sym, ap, subst, ◌∙◌, arith, append_assoc, length-append, length-take}
 use Rattle.std.proofs.lemmas.List.{reverse-reverse, reverse-append}
 use Rattle.std.specs.Io.KnownBytes.{Consumes, Keeps, IsAtEnd}
 use Rattle.fast_io.specs.Counts.{counted}
@@ -28,25 +28,11 @@ use Rattle.fast_stream.proofs.Causes.{IsOfBytes, of_mode}
 
 by_bytes : (c : Cause) (mode : Mode) (set : List Resolved) (turns : ℕ) (left : Option (List ℕ)) (bytes : List ℕ) (place : Place) → c ≢ cause.Truncated → (c ≢ cause.Memory → FirstFault mode set bytes place c)
     → (c ≡ cause.Memory → (place.offset ≡ 0) × (place.template ≡ 0) × (place.instruction ≡ 0)) → RefusedBy c mode set turns left bytes place
-by_bytes cause.D2 mode set turns left bytes place more first memory = first (λ e. absurd cc)
-by_bytes cause.D4 mode set turns left bytes place more first memory = first (λ e. absurd cc)
-by_bytes cause.D5 mode set turns left bytes place more first memory = first (λ e. absurd cc)
-by_bytes cause.D6 mode set turns left bytes place more first memory = first (λ e. absurd cc)
-by_bytes cause.D7 mode set turns left bytes place more first memory = first (λ e. absurd cc)
-by_bytes cause.D9 mode set turns left bytes place more first memory = first (λ e. absurd cc)
-by_bytes cause.D12 mode set turns left bytes place more first memory = first (λ e. absurd cc)
-by_bytes cause.BlockEnd mode set turns left bytes place more first memory = first (λ e. absurd cc)
-by_bytes cause.R1 mode set turns left bytes place more first memory = first (λ e. absurd cc)
-by_bytes cause.R2 mode set turns left bytes place more first memory = first (λ e. absurd cc)
-by_bytes cause.R6 mode set turns left bytes place more first memory = first (λ e. absurd cc)
-by_bytes cause.R7 mode set turns left bytes place more first memory = first (λ e. absurd cc)
-by_bytes cause.R8 mode set turns left bytes place more first memory = first (λ e. absurd cc)
-by_bytes cause.R9 mode set turns left bytes place more first memory = first (λ e. absurd cc)
-by_bytes cause.Limit mode set turns left bytes place more first memory = first (λ e. absurd cc)
 by_bytes cause.Truncated mode set turns left bytes place more first memory = absurd (more refl)
 by_bytes cause.Read mode set turns left bytes place more first memory = absurd (of_mode mode set bytes place cause.Read (first (λ e. absurd cc)))
 by_bytes cause.Turns mode set turns left bytes place more first memory = absurd (of_mode mode set bytes place cause.Turns (first (λ e. absurd cc)))
 by_bytes cause.Memory mode set turns left bytes place more first memory = memory refl
+by_bytes c mode set turns left bytes place more first memory = first (λ e. absurd cc)
 
 -- a fault of the bytes, or want of memory
 pub refused_by_bytes : (f : Fault) (mode : Mode) (set : List Resolved) (turns : ℕ) (left : Option (List ℕ)) (bytes : List ℕ) (messages : List Content) → f.cause ≢ cause.Truncated → Carried mode set bytes messages
@@ -58,24 +44,7 @@ refused_by_bytes f mode set turns left bytes messages more carried behind first 
 by_end : (c : Cause) (mode : Mode) (set : List Resolved) (turns : ℕ) (left : Option (List ℕ)) (bytes : List ℕ) (place : Place) → c ≡ cause.Truncated → IsAtEnd left → (c ≢ cause.Memory → FirstFault mode set bytes place c)
     → RefusedBy c mode set turns left bytes place
 by_end cause.Truncated mode set turns left bytes place is ended first = (first (λ e. absurd cc), ended)
-by_end cause.D2 mode set turns left bytes place is ended first = absurd cc
-by_end cause.D4 mode set turns left bytes place is ended first = absurd cc
-by_end cause.D5 mode set turns left bytes place is ended first = absurd cc
-by_end cause.D6 mode set turns left bytes place is ended first = absurd cc
-by_end cause.D7 mode set turns left bytes place is ended first = absurd cc
-by_end cause.D9 mode set turns left bytes place is ended first = absurd cc
-by_end cause.D12 mode set turns left bytes place is ended first = absurd cc
-by_end cause.BlockEnd mode set turns left bytes place is ended first = absurd cc
-by_end cause.R1 mode set turns left bytes place is ended first = absurd cc
-by_end cause.R2 mode set turns left bytes place is ended first = absurd cc
-by_end cause.R6 mode set turns left bytes place is ended first = absurd cc
-by_end cause.R7 mode set turns left bytes place is ended first = absurd cc
-by_end cause.R8 mode set turns left bytes place is ended first = absurd cc
-by_end cause.R9 mode set turns left bytes place is ended first = absurd cc
-by_end cause.Limit mode set turns left bytes place is ended first = absurd cc
-by_end cause.Read mode set turns left bytes place is ended first = absurd cc
-by_end cause.Turns mode set turns left bytes place is ended first = absurd cc
-by_end cause.Memory mode set turns left bytes place is ended first = absurd cc
+by_end c mode set turns left bytes place is ended first = absurd cc
 
 -- the reader has ended inside a message
 pub refused_by_end : (f : Fault) (mode : Mode) (set : List Resolved) (turns : ℕ) (left : Option (List ℕ)) (bytes : List ℕ) (messages : List Content) → f.cause ≡ cause.Truncated → IsAtEnd left → Carried mode set bytes messages
@@ -93,27 +62,20 @@ pub goes_on_with : {E : Type 0} {ghosts : Ghosts E} (d : Decoder E ghosts) (byte
     → HasFed d.machine [] bytes (messages ++ pushed) → Follows d bytes (messages ++ waiting)
 goes_on_with d bytes messages pushed waiting none same follows = rw same (record { goes_on = none; follows = follows })
 
-pub refused_with : {E : Type 0} {ghosts : Ghosts E} (d : Decoder E ghosts) (f : Fault) (turns : ℕ) (left : Option (List ℕ)) (bytes : List ℕ) (messages pushed waiting : List Content) → d.machine.fault ≡ Some f → f.cause ≢ cause.Truncated
-    → waiting ≡ pushed → HasFed d.machine [] bytes (messages ++ pushed)
-    → Refuses (mode_of d.machine) (templates_in d.machine.traversal.set.now) turns left bytes (messages ++ waiting) f
-refused_with d f turns left bytes messages pushed waiting is more same follows =
-    let refused = rw is at follows.at in
-    rw same (refused_by_bytes f (mode_of d.machine) (templates_in d.machine.traversal.set.now) turns left bytes (messages ++ pushed) more refused.0.0 refused.0.1 refused.0.2 refused.0.3)
-
 -- a first fault is none that bytes cannot have
 pub of_bytes : (f : Fault) (mode : Mode) (set : List Resolved) (bytes : List ℕ) → (f.cause ≢ cause.Memory → FirstFault mode set bytes f.place f.cause) → f.cause ≢ cause.Truncated
     → (f.cause ≢ cause.Truncated) × (f.cause ≢ cause.Read) × (f.cause ≢ cause.Turns)
-of_bytes f mode set bytes first more = (more, (λ e. subst (IsOfBytes mode.level) e (of_mode mode set bytes f.place f.cause (first (λ m. read_not_memory (sym e ∙ m))))), (λ e. subst (IsOfBytes mode.level) e (of_mode mode set bytes f.place f.cause (first (λ m. turns_not_memory (sym e ∙ m))))))
-  where
-    read_not_memory : cause.Read ≡ cause.Memory → ⊥
-    read_not_memory e = absurd cc
+of_bytes f mode set bytes first more =
+    (more, (λ e. subst (IsOfBytes mode.level) e (of_mode mode set bytes f.place f.cause (first (λ m. absurd cc)))), (λ e. subst (IsOfBytes mode.level) e (of_mode mode set bytes f.place f.cause (first (λ m. absurd cc)))))
 
-    turns_not_memory : cause.Turns ≡ cause.Memory → ⊥
-    turns_not_memory e = absurd cc
-
-pub cause_with : {E : Type 0} {ghosts : Ghosts E} (d : Decoder E ghosts) (f : Fault) (bytes : List ℕ) (messages : List Content) → d.machine.fault ≡ Some f → f.cause ≢ cause.Truncated
-    → HasFed d.machine [] bytes messages → (f.cause ≢ cause.Truncated) × (f.cause ≢ cause.Read) × (f.cause ≢ cause.Turns)
-cause_with d f bytes messages is more follows = let refused = rw is at follows.at in of_bytes f (mode_of d.machine) (templates_in d.machine.traversal.set.now) bytes refused.0.2 more
+pub refused_with : {E : Type 0} {ghosts : Ghosts E} (d : Decoder E ghosts) (f : Fault) (turns : ℕ) (left : Option (List ℕ)) (bytes : List ℕ) (messages pushed waiting : List Content) → d.machine.fault ≡ Some f → f.cause ≢ cause.Truncated
+    → waiting ≡ pushed → HasFed d.machine [] bytes (messages ++ pushed)
+    → Refuses (mode_of d.machine) (templates_in d.machine.traversal.set.now) turns left bytes (messages ++ waiting) f × OnFault (reached.Fault f) (λ c. (c ≢ cause.Truncated) × (c ≢ cause.Read) × (c ≢ cause.Turns))
+refused_with d f turns left bytes messages pushed waiting is more same follows =
+    let mode = mode_of d.machine in
+    let set = templates_in d.machine.traversal.set.now in
+    let refused = (rw is at follows.at).0 in
+    rw same (refused_by_bytes f mode set turns left bytes (messages ++ pushed) more refused.0 refused.1 refused.2 refused.3, of_bytes f mode set bytes refused.2 more)
 
 -- ---- one read
 
@@ -156,8 +118,7 @@ more_read a b c k got more r one = record {
 pub reached_with : (at : Reached) (P Q : Type 0) (mode : Mode) (set : List Resolved) (turns : ℕ) (left : Option (List ℕ)) (bytes : List ℕ) (messages : List Content) → (P → Q) → HasReached at P mode set turns left bytes messages
     → HasReached at Q mode set turns left bytes messages
 reached_with reached.Open P Q mode set turns left bytes messages f h = f h
-reached_with reached.End P Q mode set turns left bytes messages f h = h
-reached_with (reached.Fault x) P Q mode set turns left bytes messages f h = h
+reached_with at P Q mode set turns left bytes messages f h = h
 
 pub refused_by_read : (f : Fault) (mode : Mode) (set : List Resolved) (turns : ℕ) (left : Option (List ℕ)) (bytes : List ℕ) (messages : List Content) → f.cause ≡ cause.Read → IsCutAt mode set bytes messages f.place → Refuses mode set turns left bytes messages f
 refused_by_read f mode set turns left bytes messages is cut =
@@ -173,33 +134,14 @@ caused_by_feed reached.Open old new some of same none = (same, none)
 caused_by_feed reached.End old new some of same none = absurd (some refl)
 caused_by_feed (reached.Fault f) old new some of same none = ((λ e. absurd (of.1 e)), (λ e. absurd (of.0 e)), (λ e. absurd (of.2 e)))
 
-cause_is : (c : Cause) → c ≡ cause.Truncated → (P Q : Type 0) → P → (c ≡ cause.Read → Q) × (c ≡ cause.Truncated → P) × (c ≡ cause.Turns → ⊥)
-cause_is c is P Q p = ((λ e. absurd (read_not (sym e ∙ is))), (λ e. p), (λ e. turns_not (sym e ∙ is)))
-  where
-    read_not : cause.Read ≡ cause.Truncated → ⊥
-    read_not e = absurd cc
-
-    turns_not : cause.Turns ≡ cause.Truncated → ⊥
-    turns_not e = absurd cc
-
 pub caused_by_end : (at : Reached) (mode : Mode) (set : List Resolved) (turns : ℕ) (left : Option (List ℕ)) (bytes : List ℕ) (messages : List Content) (old new : Reader) → HasReached at ⊥ mode set turns left bytes messages
     → OnFault at (λ c. c ≡ cause.Truncated) → new.ends ≡ counted old.ends → new.errors ≡ old.errors → IsCaused at ⊥ old new
 caused_by_end reached.Open mode set turns left bytes messages old new h of met none = absurd h
 caused_by_end reached.End mode set turns left bytes messages old new h of met none = (met, none)
-caused_by_end (reached.Fault f) mode set turns left bytes messages old new h of met none =
-    let c = cause_is f.cause of (new.ends ≡ counted old.ends) (new.errors ≡ counted old.errors) met in (c.0, c.1, (λ e. absurd (c.2 e)))
+caused_by_end (reached.Fault f) mode set turns left bytes messages old new h of met none = ((λ e. absurd cc), (λ e. met), (λ e. absurd cc))
 
 pub caused_by_read : (f : Fault) (old new : Reader) → f.cause ≡ cause.Read → new.errors ≡ counted old.errors → IsCaused (reached.Fault f) ⊥ old new
-caused_by_read f old new is failed = ((λ e. failed), (λ e. absurd (truncated_not (sym is ∙ e))), (λ e. absurd (turns_not (sym is ∙ e))))
-  where
-    truncated_not : cause.Read ≡ cause.Truncated → ⊥
-    truncated_not e = absurd cc
-
-    turns_not : cause.Read ≡ cause.Turns → ⊥
-    turns_not e = absurd cc
-
-pub none_waits : (answered : List Content) (waiting : List Message) → waiting ≡ [] → answered ++ waiting_in waiting ≡ answered
-none_waits answered waiting none = ap (λ (ms : List Message). answered ++ waiting_in ms) none ∙ append-nil answered
+caused_by_read f old new is failed = ((λ e. failed), (λ e. absurd cc), (λ e. absurd cc))
 
 -- ---- what was answered
 
@@ -245,8 +187,7 @@ stands_popped at d old rest m turns reads left bytes answered is stands =
 
 pub causes_none : (at : Reached) (a : Reader) → Causes at at ⊥ a a
 causes_none reached.Open a = (refl, refl)
-causes_none reached.End a = (refl, refl)
-causes_none (reached.Fault f) a = (refl, refl)
+causes_none at a = (refl, refl)
 
 caused_from : (at : Reached) (a b c : Reader) → b.errors ≡ a.errors → b.ends ≡ a.ends → IsCaused at ⊥ b c → IsCaused at ⊥ a c
 caused_from reached.Open a b c same none h = (h.0 ∙ same, h.1 ∙ none)
@@ -255,72 +196,35 @@ caused_from (reached.Fault f) a b c same none h = ((λ e. h.0 e ∙ ap counted s
 
 pub causes_on : (before now next : Reached) (a b c : Reader) → now ≡ reached.Open → Causes before now ⊥ a b → IsCaused next ⊥ b c → Causes before next ⊥ a c
 causes_on reached.Open now next a b c is h one = let both = rw is at h in caused_from next a b c both.0 both.1 one
-causes_on reached.End now next a b c is h one = absurd (ended (sym is ∙ h.0))
-  where
-    ended : reached.Open ≡ reached.End → ⊥
-    ended e = absurd cc
-causes_on (reached.Fault f) now next a b c is h one = absurd (other (sym is ∙ h.0))
-  where
-    other : reached.Open ≡ reached.Fault f → ⊥
-    other e = absurd cc
+causes_on before now next a b c is h one = absurd cc
 
 caused_weaker : (at : Reached) (P : Type 0) (a b : Reader) → IsCaused at ⊥ a b → IsCaused at P a b
-caused_weaker reached.Open P a b h = h
-caused_weaker reached.End P a b h = h
 caused_weaker (reached.Fault f) P a b h = (h.0, h.1, (λ e. absurd (h.2 e).0))
+caused_weaker at P a b h = h
 
 pub causes_weaker : (before now : Reached) (P : Type 0) (a b : Reader) → Causes before now ⊥ a b → Causes before now P a b
 causes_weaker reached.Open now P a b h = caused_weaker now P a b h
-causes_weaker reached.End now P a b h = h
-causes_weaker (reached.Fault f) now P a b h = h
+causes_weaker before now P a b h = h
 
 caused_used : (at : Reached) (P : Type 0) (a b : Reader) → IsFaultOf cause.Turns at → P → b.ends ≡ a.ends → IsCaused at P a b
-caused_used reached.Open P a b is p none = absurd is
-caused_used reached.End P a b is p none = absurd is
-caused_used (reached.Fault f) P a b is p none = ((λ e. absurd (read_not (sym is ∙ e))), (λ e. absurd (truncated_not (sym is ∙ e))), (λ e. (p, none)))
-  where
-    read_not : cause.Turns ≡ cause.Read → ⊥
-    read_not e = absurd cc
+caused_used (reached.Fault f) P a b is p none = ((λ e. absurd cc), (λ e. absurd cc), (λ e. (p, none)))
+caused_used at P a b is p none = absurd is
 
-    truncated_not : cause.Turns ≡ cause.Truncated → ⊥
-    truncated_not e = absurd cc
-
-is_open : (at : Reached) → (at ≡ reached.Open) ⊎ (at ≢ reached.Open)
-is_open reached.Open = inl refl
-is_open reached.End = inr (λ e. absurd cc)
-is_open (reached.Fault f) = inr (λ e. absurd cc)
-
-used_from : (before now next : Reached) (P : Type 0) (a b : Reader) → now ≡ reached.Open → Causes before now ⊥ a b → IsFaultOf cause.Turns next → P → Causes before next P a b
-used_from reached.Open now next P a b is h used p = let both = rw is at h in caused_used next P a b used p both.1
-used_from reached.End now next P a b is h used p = absurd (ended (sym is ∙ h.0))
-  where
-    ended : reached.Open ≡ reached.End → ⊥
-    ended e = absurd cc
-used_from (reached.Fault f) now next P a b is h used p = absurd (other (sym is ∙ h.0))
-  where
-    other : reached.Open ≡ reached.Fault f → ⊥
-    other e = absurd cc
+used_from : (before next : Reached) (P : Type 0) (a b : Reader) → Causes before reached.Open ⊥ a b → IsFaultOf cause.Turns next → P → Causes before next P a b
+used_from reached.Open next P a b h used p = caused_used next P a b used p h.1
+used_from before next P a b h used p = absurd cc
 
 -- where no message waits and no read is to be made
 pub causes_end : (before now next : Reached) (P : Type 0) (a b : Reader) → Causes before now ⊥ a b → (now ≡ reached.Open → P) → (now ≡ reached.Open → IsFaultOf cause.Turns next) → (now ≢ reached.Open → next ≡ now)
     → Causes before next P a b
-causes_end before now next P a b h p used same = go (is_open now)
-  where
-    go : (now ≡ reached.Open) ⊎ (now ≢ reached.Open) → Causes before next P a b
-    go (inl is) = used_from before now next P a b is h (used is) (p is)
-    go (inr other) = subst (λ (r : Reached). Causes before r P a b) (sym (same other)) (causes_weaker before now P a b h)
-
-pub empty_of : {X : Type 0} (xs : List X) → length xs ≡ 0 → xs ≡ []
-empty_of [] h = refl
-empty_of (x ∷ xs) h = absurd (omega (arith, h))
+causes_end before reached.Open next P a b h p used same = used_from before next P a b h (used refl) (p refl)
+causes_end before now next P a b h p used same = subst (λ (r : Reached). Causes before r P a b) (sym (same (λ e. absurd cc))) (causes_weaker before now P a b h)
 
 -- what is answered once more of a stream that stayed as it was, if it is not open
 pub repeats_kept : (before now : Reached) (r : Result (Option Message) Fault) → (before ≢ reached.Open → now ≡ before) → Repeats now r → Repeats before r
 repeats_kept reached.Open now r same h = tt
-repeats_kept reached.End now r same h = subst (λ (at : Reached). Repeats at r) (same (λ e. search rules)) h
-repeats_kept (reached.Fault f) now r same h = subst (λ (at : Reached). Repeats at r) (same (λ e. search rules)) h
+repeats_kept before now r same h = subst (λ (at : Reached). Repeats at r) (same (λ e. absurd cc)) h
 
 pub repeats_open : (before : Reached) (r : Result (Option Message) Fault) → (before ≢ reached.Open → ⊥) → Repeats before r
 repeats_open reached.Open r never = tt
-repeats_open reached.End r never = absurd (never (λ e. search rules))
-repeats_open (reached.Fault f) r never = absurd (never (λ e. search rules))
+repeats_open before r never = absurd (never (λ e. absurd cc))

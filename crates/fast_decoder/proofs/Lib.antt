@@ -1,2 +1,3 @@
 pub mod Builders
+pub mod Calls
 pub mod Inputs

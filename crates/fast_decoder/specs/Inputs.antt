@@ -41,25 +41,11 @@ pub record Reads (old new : Reader) (count : ℕ) (got : List ℕ) : Type 0 wher
 -- two blocks; each of the reads that are used up gave a byte, so none met the end; and want of memory has no place but
 -- the message.
 abbrev pub RefusedBy : Cause → Mode → List Resolved → ℕ → Option (List ℕ) → List ℕ → Place → Type 0
-RefusedBy cause.D2 mode set turns left bytes place = FirstFault mode set bytes place cause.D2
-RefusedBy cause.D4 mode set turns left bytes place = FirstFault mode set bytes place cause.D4
-RefusedBy cause.D5 mode set turns left bytes place = FirstFault mode set bytes place cause.D5
-RefusedBy cause.D6 mode set turns left bytes place = FirstFault mode set bytes place cause.D6
-RefusedBy cause.D7 mode set turns left bytes place = FirstFault mode set bytes place cause.D7
-RefusedBy cause.D9 mode set turns left bytes place = FirstFault mode set bytes place cause.D9
-RefusedBy cause.D12 mode set turns left bytes place = FirstFault mode set bytes place cause.D12
-RefusedBy cause.BlockEnd mode set turns left bytes place = FirstFault mode set bytes place cause.BlockEnd
-RefusedBy cause.R1 mode set turns left bytes place = FirstFault mode set bytes place cause.R1
-RefusedBy cause.R2 mode set turns left bytes place = FirstFault mode set bytes place cause.R2
-RefusedBy cause.R6 mode set turns left bytes place = FirstFault mode set bytes place cause.R6
-RefusedBy cause.R7 mode set turns left bytes place = FirstFault mode set bytes place cause.R7
-RefusedBy cause.R8 mode set turns left bytes place = FirstFault mode set bytes place cause.R8
-RefusedBy cause.R9 mode set turns left bytes place = FirstFault mode set bytes place cause.R9
-RefusedBy cause.Limit mode set turns left bytes place = FirstFault mode set bytes place cause.Limit
 RefusedBy cause.Truncated mode set turns left bytes place = FirstFault mode set bytes place cause.Truncated × IsAtEnd left
 RefusedBy cause.Read mode set turns left bytes place = FirstFault mode set bytes place cause.Truncated ⊎ EndsBetween mode set bytes place
 RefusedBy cause.Turns mode set turns left bytes place = (FirstFault mode set bytes place cause.Truncated ⊎ EndsBetween mode set bytes place) × (turns ≤ length bytes)
 RefusedBy cause.Memory mode set turns left bytes place = (place.offset ≡ 0) × (place.template ≡ 0) × (place.instruction ≡ 0)
+RefusedBy c mode set turns left bytes place = FirstFault mode set bytes place c
 
 -- a prefix of the bytes carries the messages, and behind them is the fault
 pub record Refuses (mode : Mode) (set : List Resolved) (turns : ℕ) (left : Option (List ℕ)) (bytes : List ℕ) (messages : List Content) (f : Fault) : Type 0 where
@@ -85,15 +71,13 @@ HasReached (reached.Fault f) GoesOn mode set turns left bytes messages = Refuses
 
 -- a fact on the cause of a fault, where one was reached
 abbrev pub OnFault : Reached → (Cause → Type 0) → Type 0
-OnFault reached.Open Is = Unit {0}
-OnFault reached.End Is = Unit {0}
 OnFault (reached.Fault f) Is = Is f.cause
+OnFault at Is = Unit {0}
 
 -- a fault of this cause was reached
 abbrev pub IsFaultOf : Cause → Reached → Type 0
-IsFaultOf c reached.Open = ⊥
-IsFaultOf c reached.End = ⊥
 IsFaultOf c (reached.Fault f) = f.cause ≡ c
+IsFaultOf c at = ⊥
 
 -- the messages that wait, the next one last
 abbrev pub waiting_in : List Message → List Content

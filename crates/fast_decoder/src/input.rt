@@ -7,7 +7,7 @@ ghost use Rattle.fast_template.specs.TemplateSets.{templates_in};
 ghost use Rattle.fast_stream.specs.Nodes.{Content};
 ghost use Rattle.fast_walk.specs.Traversals.{ServesAll};
 ghost use Rattle.fast_machine.specs.Following.{mode_of};
-ghost use Rattle.fast_decoder.specs.Inputs.{Causes, Follows, HasReached, IsCaused, IsFaultOf, OnFault, Reads, Repeats, Stands, Tells, answered_in, reader_by, waiting_in};
+ghost use Rattle.fast_decoder.specs.Inputs.{Causes, Follows, HasReached, IsFaultOf, OnFault, Reads, Repeats, Stands, Tells, answered_in, reader_by, waiting_in};
 
 use crate::decoder::Decoder;
 use fast_dictionary::Entries;
@@ -90,6 +90,8 @@ fn end<E: Entries>(decoder: &mut Decoder<'_, E>) -> Reached
 }
 
 impl<'a, R: ByteInput, E: Entries> MessageInputStream<'a, R, E> {
+    ghost use Rattle.fast_decoder.specs.Calls.{IsSameStream, ReadsOn, StandsAt, TellsAt};
+
     /// A stream over a reader, of which at most `turns` reads are made until the reset. The entries are reset. Takes
     /// no memory.
     pub fn new(
@@ -141,20 +143,8 @@ impl<'a, R: ByteInput, E: Entries> MessageInputStream<'a, R, E> {
         requires reached { self.now.reached ≡ Reached.Open }
         requires none { self.now.waiting.items ≡ [] }
         requires few { self.now.reads < self.now.turns }
-        ensures reads { self.new.reads ≡ self.old.reads + 1 }
-        ensures turns { self.new.turns ≡ self.old.turns }
-        ensures set { self.new.decoder.machine.traversal.set ≡ self.old.decoder.machine.traversal.set }
-        ensures mode { mode_of self.new.decoder.machine ≡ mode_of self.old.decoder.machine }
-        ensures read { (got : List ℕ)
-            × Reads (reader_by R.left R.calls R.errors R.ends self.old.reader)
-            (reader_by R.left R.calls R.errors R.ends self.new.reader) 1 got
-            × ((bytes : List ℕ) (answered : List Content)
-            → Stands self.old.reached self.old.decoder self.old.waiting.items self.old.turns
-            self.old.reads (R.left self.old.reader) bytes answered
-            → Stands self.new.reached self.new.decoder self.new.waiting.items self.new.turns
-            self.new.reads (R.left self.new.reader) (bytes ++ got) answered
-            × IsCaused self.new.reached ⊥ (reader_by R.left R.calls R.errors R.ends self.old.reader)
-            (reader_by R.left R.calls R.errors R.ends self.new.reader)) }
+        ensures same { IsSameStream self.old self.new }
+        ensures reads { ReadsOn self.old self.new 1 }
     {
         let mut chunk = [0u8; CHUNK];
         self.reads += 1;
@@ -171,13 +161,8 @@ impl<'a, R: ByteInput, E: Entries> MessageInputStream<'a, R, E> {
     fn outcome(&mut self) -> Result<Option<Message>, Fault>
         requires none { self.now.waiting.items ≡ [] }
         requires used_up { self.now.reached ≡ Reached.Open → self.now.reads ≡ self.now.turns }
-        ensures tells { (bytes : List ℕ) (answered : List Content)
-            → Stands self.old.reached self.old.decoder self.old.waiting.items self.old.turns
-            self.old.reads (R.left self.old.reader) bytes answered
-            → Stands self.new.reached self.new.decoder self.new.waiting.items self.new.turns
-            self.new.reads (R.left self.new.reader) bytes answered
-            × Tells result (mode_of self.new.decoder.machine) (templates_in self.new.decoder.machine.traversal.set.now) self.new.turns
-            (R.left self.new.reader) bytes answered }
+        ensures tells { (bytes : List ℕ) (answered : List Content) → StandsAt self.old bytes answered
+            → StandsAt self.new bytes answered × TellsAt result self.new bytes answered }
         ensures open { self.old.reached ≡ Reached.Open → IsFaultOf Cause.Turns self.new.reached }
         ensures closed { self.old.reached ≢ Reached.Open → self.new ≡ self.old }
         ensures message { answered_in result ≡ [] }
@@ -187,9 +172,7 @@ impl<'a, R: ByteInput, E: Entries> MessageInputStream<'a, R, E> {
         ensures fault { IfErr result (λ f. self.new.reached ≡ Reached.Fault f) }
         ensures reader { self.new.reader ≡ self.old.reader }
         ensures reads { self.new.reads ≡ self.old.reads }
-        ensures turns { self.new.turns ≡ self.old.turns }
-        ensures set { self.new.decoder.machine.traversal.set ≡ self.old.decoder.machine.traversal.set }
-        ensures mode { mode_of self.new.decoder.machine ≡ mode_of self.old.decoder.machine }
+        ensures same { IsSameStream self.old self.new }
     {
         match self.reached {
             Reached::End => Ok(None),

@@ -1,31 +1,21 @@
-use Rattle.std.proofs.Common.{[], ◌++◌, List, map, sym, ◌∙◌, ap, subst, append-nil}
-use Rattle.fast_stream.specs.Nodes.{Content, content_of}
-use Rattle.fast_machine.specs.Following.{FollowsAt}
-use Rattle.fast_messages.specs.Built.{with_whole}
-use Rattle.fast_decoder.proofs.Builders.{BuilderHas, BuilderStands, follows_rebased, none_whole_of, whole_of_follows}
+use Rattle.std.proofs.Common.{[], ◌++◌, map, sym, ◌∙◌, ap, append-nil}
+use Rattle.fast_stream.specs.Nodes.{content_of}
+use Rattle.fast_decoder.proofs.Builders.{follows_rebased, none_mapped, whole_of_follows}
 use Rattle.fast_decoder.proofs.decoder.Decoder.feed.Goals as goal
 
 pub returns-clause-follows : goal.returns-clause-follows
 returns-clause-follows g c = λ none fed messages follows.
-    let old = c.args.self.now.machine in
-    let E = g.E.Entries in
     let before = map content_of c.args.out.now.items in
-    let none_whole = whole_of_follows old.fault old.framing old.left old.traversal old.receiver (E.contents old.entries) old.held.items old.waiting [] fed messages follows.at in
-    let empty = none_whole_of old.receiver.whole none_whole in
-    let lent = c.lend.new.self in
-    let after = c.feed_on-fed.ensures.follows none before fed messages (record { at = rw (c.lend.ensures.builder) (subst (λ (ms : List Content). FollowsAt BuilderHas BuilderStands BuilderStands old.fault old.framing old.left old.traversal (with_whole old.receiver lent.whole) (E.contents old.entries) old.held.items old.waiting ms fed messages) (ap (map content_of) (c.lend.ensures.whole empty)) (follows_rebased old.fault old.framing old.left old.traversal old.receiver lent.whole (E.contents old.entries) old.held.items old.waiting [] fed messages follows.at)); counts = follows.counts }) in
-    let new = c.feed_on-fed.new.self in
-    let all = messages ++ after.0 in
-    let whole = whole_of_follows new.fault new.framing new.left new.traversal new.receiver (E.contents new.entries) new.held.items new.waiting (before ++ after.0) (fed ++ c.args.chunk.now) all after.1.at in
+    let empty = none_mapped c.args.self.now.machine.receiver.whole.items (whole_of_follows _ _ _ _ _ _ _ _ _ _ _ follows.at) in
+    let lent = follows_rebased _ _ _ _ _ c.lend.new.self.whole _ _ _ _ _ _ _ (c.lend.ensures.whole empty) follows.at in
+    let after = c.feed_on-fed.ensures.follows none before fed messages (record { at = rw (c.lend.ensures.builder) lent; counts = follows.counts }) in
+    let whole = whole_of_follows _ _ _ _ _ _ _ _ (before ++ after.0) _ _ after.1.at in
     let given = c.give_back.ensures in
-    let room = c.lend.ensures.messages empty in
-    let back = c.give_back.new.self in
-    let ended = follows_rebased new.fault new.framing new.left new.traversal new.receiver back.whole (E.contents new.entries) new.held.items new.waiting (before ++ after.0) (fed ++ c.args.chunk.now) all after.1.at in (
+    let room = c.lend.ensures.messages empty in (
       after.0,
       ap (map content_of) (given.messages room) ∙ sym whole,
       record {
-        at = rw (given.builder)
-            (subst (λ (ms : List Content). FollowsAt BuilderHas BuilderStands BuilderStands new.fault new.framing new.left new.traversal (with_whole new.receiver back.whole) (E.contents new.entries) new.held.items new.waiting ms (fed ++ c.args.chunk.now) all) (ap (map content_of) (given.whole room)) ended);
+        at = rw (given.builder) (follows_rebased _ _ _ _ _ c.give_back.new.self.whole _ _ _ _ _ _ _ (given.whole room) after.1.at);
         counts = after.1.counts;
       },
     )
