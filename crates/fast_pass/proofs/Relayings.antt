@@ -1,58 +1,45 @@
 -- Lemmas on a stream on its way through an output.
-use Rattle.std.proofs.Common.{◌≡◌, ◌≢◌, ℕ, ◌+◌, min, List, ◌∷◌, ◌++◌, length, length-append, append_assoc, arith, Option, refl, ap, sym, subst, ◌∙◌, ◌⊎◌, inl, inr}
+use Rattle.std.proofs.Common.{◌≡◌, ℕ, ◌+◌, ◌-◌, min, List, [], ◌∷◌, ◌++◌, length, length-append, take, drop, append_assoc, append-nil, arith, Option, None, Ok, Err, refl, ap, sym, ◌∙◌, ◌⊎◌, inl, inr}
 use Rattle.fast_template.specs.Resolved.{Resolved}
-use Rattle.fast_template.specs.TemplateSets.{TemplateList, templates_in}
+use Rattle.fast_template.specs.TemplateSets.{templates_in}
+use Rattle.fast_dictionary.specs.Dictionary.{Dictionary}
 use Rattle.fast_dictionary.specs.declared.entries.Entries.{Ghosts}
 use Rattle.fast_decoder.specs.declared.input.Reached.{Reached}
 use Rattle.fast_decoder.specs.declared.input.Reached.TheVariants as reached
 use Rattle.fast_machine.specs.declared.machine.Machine.{Machine}
 use Rattle.fast_walk.specs.declared.receiver.Receiver.{Ghosts as Receiving}
-use Rattle.fast_decoder.specs.Inputs.{HasReached, Reader}
+use Rattle.fast_decoder.specs.Inputs.{HasReached, Reader, Refuses}
 use Rattle.fast_stream.specs.declared.fault.Fault.{Fault}
 use Rattle.fast_stream.specs.declared.mode.Mode.{Mode}
 use Rattle.fast_stream.specs.Nodes.{Content}
+use Rattle.fast_machine.specs.Calls.{FollowsTaken}
 use Rattle.fast_machine.specs.Standing.{Carried, ReadsOn}
-use Rattle.fast_machine.specs.Following.{mode_of}
-use Rattle.std.specs.Io.KnownBytes.{Appends}
+use Rattle.fast_machine.specs.Following.{Follows, mode_of}
+use Rattle.std.specs.Io.KnownBytes.{Appends, Keeps}
 use Rattle.fast_io.specs.Counts.{counted_by}
 use Rattle.fast_io.specs.Traffic.{Taken}
-use Rattle.fast_io.proofs.Outputs.{Appends-trans}
-use Rattle.fast_machine.proofs.Followings.{all_carried}
+use Rattle.fast_io.proofs.Outputs.{Appends-kept, Appends-nil, Appends-trans}
+use Rattle.fast_machine.proofs.Followings.{all_carried, has_kept, slice_rest}
+use Rattle.fast_machine.proofs.MessageEnds.{take_again}
 use Rattle.fast_machine.proofs.Standings.{carried_of}
-use Rattle.fast_pass.specs.Passed.{PassesFront}
-use Rattle.fast_pass.specs.Relays.{Broken, Making, Relays}
+use Rattle.fast_pass.specs.Passed.{PassesBy, PassesFront}
+use Rattle.fast_pass.specs.Relays.{Break, GoesOn, Hands, Making, Relayed, Relays, Step, Way, farther, handing, outset}
+use Rattle.fast_pass.specs.declared.fault.CanonFault.TheVariants as refusal
 use Rattle.fast_pass.specs.declared.summary.Summary.{Summary}
 use Rattle.fast_walk.specs.Received.{handed_on}
-
--- ---- what was read
-
-pub carried_by : {O E : Type 0} {receiver : Receiving O} {entries : Ghosts E} (waiting : O → List ℕ) (makes : Making) (at : Reached) (m : Machine O E receiver entries) (turns : ℕ) (left : Option (List ℕ)) (handed input : List ℕ) (messages : List Content)
-    → Relays waiting makes at m turns left handed input messages → Carried (mode_of m) (templates_in m.traversal.set.now) input messages
-carried_by {receiver = receiver} {entries = entries} waiting makes reached.Open m turns left handed input messages r =
-    let f = rw (r.holds.unrefused) at r.holds.follows.at in
-    carried_of m.framing m.left (ReadsOn receiver.has receiver.stands receiver.keeps m.traversal m.receiver (entries.contents m.entries) (handed_on handed ∷ messages)) m.traversal m.held.items input messages f.0
-carried_by waiting makes reached.End m turns left handed input messages r = all_carried (mode_of m) (templates_in m.traversal.set.now) input messages r.holds.carried
-carried_by waiting makes (reached.Fault f) m turns left handed input messages r = r.holds.carried
 
 -- what a front carries, the whole carries in a front
 pub carried_more : (mode : Mode) (set : List Resolved) (bytes more : List ℕ) (messages : List Content) → Carried mode set bytes messages → Carried mode set (bytes ++ more) messages
 carried_more mode set bytes more messages c = record { front = c.front; rest = c.rest ++ more; start = c.start; parts = ap (λ (xs : List ℕ). xs ++ more) c.parts ∙ append_assoc c.front c.rest more; carried = c.carried; ends = tt }
 
--- of which set and in which mode
-pub carried_as : (mode above : Mode) (set other : TemplateList) (bytes : List ℕ) (messages : List Content) → above ≡ mode → other ≡ set → Carried above (templates_in other) bytes messages → Carried mode (templates_in set) bytes messages
-carried_as mode above set other bytes messages alike same c =
-    subst (λ (s : TemplateList). Carried mode (templates_in s) bytes messages) same (subst (λ (x : Mode). Carried x (templates_in other) bytes messages) alike c)
-
--- ---- which bytes were handed on
-
 -- a front of what waited was taken, and then a front of what was ready
-pub taken_on : (a b c : Option (List ℕ)) (waiting front now ready behind bytes rest : List ℕ) → waiting ≡ front ++ now → now ≡ ready ++ behind → bytes ≡ ready → Appends a b front → Taken b c bytes rest → (left : List ℕ) × Taken a c waiting left
-taken_on a b c waiting front now ready behind bytes rest whole parts same before t = (
+pub taken_on : {a b c : Option (List ℕ)} {waiting now bytes rest : List ℕ} (t : Taken a b waiting now) (ready behind : List ℕ) → now ≡ ready ++ behind → bytes ≡ ready → Taken b c bytes rest → (left : List ℕ) × Taken a c waiting left
+taken_on {rest = rest} t ready behind parts same u = (
   rest ++ behind,
   record {
-    front = front ++ t.front;
-    parts = whole ∙ ap (λ (xs : List ℕ). front ++ xs) (parts ∙ ap (λ (xs : List ℕ). xs ++ behind) (sym same ∙ t.parts) ∙ append_assoc t.front rest behind) ∙ sym (append_assoc front t.front (rest ++ behind));
-    appended = Appends-trans a b c front t.front before t.appended;
+    front = t.front ++ u.front;
+    parts = t.parts ∙ ap (λ (xs : List ℕ). t.front ++ xs) (parts ∙ ap (λ (xs : List ℕ). xs ++ behind) (sym same ∙ u.parts) ∙ append_assoc u.front rest behind) ∙ sym (append_assoc t.front u.front (rest ++ behind));
+    appended = Appends-trans _ _ _ t.front u.front t.appended u.appended;
   },
 )
 
@@ -67,53 +54,176 @@ counts_more m k y handed more before count e =
     let size = length-append handed more in counts_on m k (length handed) y (length (handed ++ more)) before e (omega (arith, size, count))
 
 -- and those that were counted apart
-pub counts_apart : (m k y : ℕ) (handed more : List ℕ) → m ≡ counted_by 0 (length handed) → y ≡ counted_by 0 (length more) → k ≡ min (m + y) 18446744073709551615 → k ≡ counted_by 0 (length (handed ++ more))
+counts_apart : (m k y : ℕ) (handed more : List ℕ) → m ≡ counted_by 0 (length handed) → y ≡ counted_by 0 (length more) → k ≡ min (m + y) 18446744073709551615 → k ≡ counted_by 0 (length (handed ++ more))
 counts_apart m k y handed more before apart e = of_sizes (length handed) (length more) (length (handed ++ more)) before apart e (length-append handed more)
   where
     of_sizes : (a b c : ℕ) → m ≡ counted_by 0 a → y ≡ counted_by 0 b → k ≡ min (m + y) 18446744073709551615 → c ≡ a + b → k ≡ counted_by 0 c
     of_sizes a b c h i j same = omega (arith, h, i, j, same)
 
-pub closed_with : (at : Reached) (P : Type 0) (mode : Mode) (set : List Resolved) (turns : ℕ) (left : Option (List ℕ)) (input : List ℕ) (messages : List Content) → at ≢ reached.Open → HasReached at P mode set turns left input messages
-    → HasReached at ⊥ mode set turns left input messages
-closed_with reached.Open P mode set turns left input messages other h = absurd (other refl)
-closed_with reached.End P mode set turns left input messages other h = h
-closed_with (reached.Fault f) P mode set turns left input messages other h = h
+-- ---- what was read
 
-pub shut : (at : Reached) → (at ≡ reached.End) ⊎ ((f : Fault) × (at ≡ reached.Fault f)) → at ≢ reached.Open
-shut at (inl e) h = absurd (end_not_open (sym e ∙ h))
-  where
-    end_not_open : reached.End ≡ reached.Open → ⊥
-    end_not_open e = absurd cc
-shut at (inr f) h = absurd (fault_not_open (sym f.1 ∙ h))
-  where
-    fault_not_open : reached.Fault f.0 ≡ reached.Open → ⊥
-    fault_not_open e = absurd cc
+-- the law of an output: what it makes, whatever is open
+abbrev pub IsMade : {O : Type 0} → Receiving O → (O → List ℕ) → Making → Type 0
+IsMade {O = O} receiver waiting makes = (w : O) (set : List Resolved) (handed : List ℕ) (ms : List Content) (d : Dictionary)
+    → receiver.keeps w set (handed_on handed ∷ ms) d ⊎ receiver.stands w set (handed_on handed ∷ ms) d → makes set ms (handed ++ waiting w)
 
-pub carried_reached : (at : Reached) (mode : Mode) (set : List Resolved) (turns : ℕ) (left : Option (List ℕ)) (input : List ℕ) (messages : List Content) → HasReached at ⊥ mode set turns left input messages → Carried mode set input messages
-carried_reached reached.Open mode set turns left input messages h = absurd h
-carried_reached reached.End mode set turns left input messages h = all_carried mode set input messages h.carried
-carried_reached (reached.Fault f) mode set turns left input messages h = h.carried
+made_by : {O E : Type 0} {receiver : Receiving O} {entries : Ghosts E} (waiting : O → List ℕ) (makes : Making) → IsMade receiver waiting makes → (m : Machine O E receiver entries) (way : Way) → Follows m (handed_on way.handed ∷ way.messages) way.input way.messages
+    → makes (templates_in m.traversal.set.now) way.messages (way.handed ++ waiting m.receiver)
+made_by {receiver = R} {entries = entries} waiting makes law m way f =
+    let kept = has_kept R.has R.stands R.keeps m.fault m.framing m.left m.traversal m.receiver (entries.contents m.entries) m.held.items m.waiting (handed_on way.handed ∷ way.messages) way.input way.messages f.at in
+    law m.receiver (templates_in m.traversal.set.now) way.handed way.messages kept.0 kept.1
 
-pub is_end : (at : Reached) (mode : Mode) (set : List Resolved) (turns : ℕ) (left : Option (List ℕ)) (input : List ℕ) (messages : List Content) → (at ≡ reached.End) ⊎ (at ≡ reached.Open) → HasReached at ⊥ mode set turns left input messages → at ≡ reached.End
-is_end at mode set turns left input messages (inl e) h = e
-is_end at mode set turns left input messages (inr e) h = absurd (rw e at h)
+-- a machine that follows its bytes goes on
+pub goes_on : {O E : Type 0} {receiver : Receiving O} {entries : Ghosts E} {waiting : O → List ℕ} {makes : Making} → IsMade receiver waiting makes → (m : Machine O E receiver entries) (turns : ℕ) (left : Option (List ℕ)) (way : Way)
+    → m.fault ≡ None → Follows m (handed_on way.handed ∷ way.messages) way.input way.messages → Relays waiting makes reached.Open m turns left way
+goes_on {waiting = waiting} {makes = makes} law m turns left way none f = record { holds = record { unrefused = none; follows = f }; made = made_by waiting makes law m way f; counts = λ e. absurd cc }
+
+-- or stops where they are refused
+pub stops : {O E : Type 0} {receiver : Receiving O} {entries : Ghosts E} {waiting : O → List ℕ} {makes : Making} → IsMade receiver waiting makes → (m : Machine O E receiver entries) (turns : ℕ) (left : Option (List ℕ)) (way : Way) (f : Fault)
+    → Refuses (mode_of m) (templates_in m.traversal.set.now) turns left way.input way.messages f → Follows m (handed_on way.handed ∷ way.messages) way.input way.messages → Relays waiting makes (reached.Fault f) m turns left way
+stops {waiting = waiting} {makes = makes} law m turns left way f refuses g = record { holds = refuses; made = made_by waiting makes law m way g; counts = λ e. absurd cc }
+
+carried_by : {O E : Type 0} {receiver : Receiving O} {entries : Ghosts E} {waiting : O → List ℕ} {makes : Making} {turns : ℕ} {left : Option (List ℕ)} (at : Reached) (m : Machine O E receiver entries) (way : Way)
+    → Relays waiting makes at m turns left way → Carried (mode_of m) (templates_in m.traversal.set.now) way.input way.messages
+carried_by {receiver = R} {entries = entries} reached.Open m way r =
+    let f = rw (r.holds.unrefused) at r.holds.follows.at in
+    carried_of m.framing m.left (ReadsOn R.has R.stands R.keeps m.traversal m.receiver (entries.contents m.entries) (handed_on way.handed ∷ way.messages)) m.traversal m.held.items way.input way.messages f.0
+carried_by reached.End m way r = all_carried (mode_of m) (templates_in m.traversal.set.now) way.input way.messages r.holds.carried
+carried_by (reached.Fault f) m way r = r.holds.carried
+
+-- ---- steps
+
+-- nothing was read, and nothing handed on
+pub stays : {O E : Type 0} {receiver : Receiving O} {entries : Ghosts E} {waiting : O → List ℕ} {makes : Making} {at : Reached} {m : Machine O E receiver entries} {turns : ℕ} {left : Option (List ℕ)} {way : Way} {B : Type 0} (taken : Option (List ℕ))
+    → Relays waiting makes at m turns left way → B → Step waiting makes at m turns left taken taken 0 way [] B
+stays {way = way} taken r because =
+    record { more = []; ended = []; relays = rw (append-nil way.handed, append-nil way.input, append-nil way.messages) r; written = Appends-nil taken; size_is = refl; because = because }
+
+-- behind a step, another
+module _ {O E : Type 0} {receiver : Receiving O} {entries : Ghosts E} {waiting : O → List ℕ} {makes : Making} {before : Reached} {m : Machine O E receiver entries} {turns : ℕ} {left t u : Option (List ℕ)} {size : ℕ} {way : Way} {front : List ℕ} {B : Type 0}
+    (s : Step waiting makes before m turns left t u size way front B) where
+
+  abbrev pub behind : Way
+  behind = farther way s.more front s.ended
+
+  -- these bytes were read, in which these messages ended
+  pub reads_on : {at : Reached} {new : Machine O E receiver entries} {later : Option (List ℕ)} {C : Type 0} {all : List ℕ} (got : List ℕ) (ended : List Content)
+      → Relays waiting makes at new turns later (record { handed = behind.handed; input = behind.input ++ got; messages = behind.messages ++ ended }) → C → front ++ got ≡ all
+      → Step waiting makes at new turns later t u size way all C
+  reads_on got ended r because whole = record {
+    more = s.more;
+    ended = s.ended ++ ended;
+    relays = rw (← whole, ← append_assoc way.input front got, ← append_assoc way.messages s.ended ended) r;
+    written = s.written;
+    size_is = s.size_is;
+    because = because;
+  }
+
+  -- more was handed on
+  pub hands_on : {new : Machine O E receiver entries} {v : Option (List ℕ)} {more : List ℕ} {n k : ℕ} → Hands waiting makes m new u v more n → k ≡ min (size + n) 18446744073709551615
+      → Step waiting makes before new turns left t v k way front B
+  hands_on {more = more} {n = n} {k = k} h sum = record {
+    more = s.more ++ more;
+    ended = s.ended;
+    relays = rw (← append_assoc way.handed s.more more) (h.relays before turns left behind s.relays);
+    written = Appends-trans _ _ _ s.more more s.written h.written;
+    size_is = counts_apart size k n s.more more s.size_is h.size_is sum;
+    because = s.because;
+  }
+
+  -- all of that
+  pub goes_farther : {at : Reached} {new : Machine O E receiver entries} {later v : Option (List ℕ)} {n k : ℕ} {got : List ℕ} {C D : Type 0} → Step waiting makes at new turns later u v n behind got C → k ≡ min (size + n) 18446744073709551615 → D
+      → Step waiting makes at new turns later t v k way (front ++ got) D
+  goes_farther {n = n} {k = k} {got = got} r sum because = record {
+    more = s.more ++ r.more;
+    ended = s.ended ++ r.ended;
+    relays = rw (← append_assoc way.handed s.more r.more, ← append_assoc way.input front got, ← append_assoc way.messages s.ended r.ended) r.relays;
+    written = Appends-trans _ _ _ s.more r.more s.written r.written;
+    size_is = counts_apart size k n s.more r.more s.size_is r.size_is sum;
+    because = because;
+  }
+
+  -- not all that waits was handed on, and these bytes are unread
+  pub breaks : {v : Option (List ℕ)} {all : List ℕ} (rest unread : List ℕ) → Taken u v (waiting m.receiver) rest → front ++ unread ≡ all → Break makes (mode_of m) (templates_in m.traversal.set.now) t v way all
+  breaks rest unread h whole = record {
+    more = s.more ++ h.front;
+    rest = rest;
+    ended = s.ended;
+    carried = rw (← whole, ← append_assoc way.input front unread) (carried_more (mode_of m) (templates_in m.traversal.set.now) (way.input ++ front) unread (way.messages ++ s.ended) (carried_by before m behind s.relays));
+    made = rw (← append_assoc way.handed s.more h.front, append_assoc (way.handed ++ s.more) h.front rest, ← h.parts) s.relays.made;
+    written = Appends-trans _ _ _ s.more h.front s.written h.appended;
+  }
+
+  -- more was read, and not all that was made of it handed on
+  pub breaks_on : {mode : Mode} {set : List Resolved} {v : Option (List ℕ)} {got : List ℕ} → Break makes mode set u v behind got → Break makes mode set t v way (front ++ got)
+  breaks_on {got = got} e = record {
+    more = s.more ++ e.more;
+    rest = e.rest;
+    ended = s.ended ++ e.ended;
+    carried = rw (← append_assoc way.input front got, ← append_assoc way.messages s.ended e.ended) e.carried;
+    made = rw (← append_assoc way.messages s.ended e.ended, ← append_assoc way.handed s.more e.more) e.made;
+    written = Appends-trans _ _ _ s.more e.more s.written e.written;
+  }
+
+-- the next bytes of a chunk were fed, up to the end of a message
+pub feeds_on : {O E : Type 0} {receiver : Receiving O} {entries : Ghosts E} {waiting : O → List ℕ} {makes : Making} {m : Machine O E receiver entries} {turns : ℕ} {left t u : Option (List ℕ)} {size : ℕ} {way : Way} {B : Type 0} → IsMade receiver waiting makes
+    → (bytes : List ℕ) (k n : ℕ) (new : Machine O E receiver entries) → Step waiting makes reached.Open m turns left t u size way (take k bytes) B → new.fault ≡ None → FollowsTaken m (take (length bytes - k) (drop k bytes)) (Ok n) new
+    → Step waiting makes reached.Open new turns left t u size way (take (k + n) bytes) B
+feeds_on {turns = turns} {left = left} law bytes k n new s none fed =
+    let f = fed (handed_on (behind s).handed ∷ (behind s).messages) (behind s).input (behind s).messages s.relays.holds.follows in
+    let same = ap (λ (xs : List ℕ). take k bytes ++ take n xs) (slice_rest bytes k) ∙ take_again k n bytes in
+    reads_on s (take n (take (length bytes - k) (drop k bytes))) f.0 (goes_on law new turns left _ none f.1) s.because same
+
+-- ---- what is answered
+
+pub closed : (at : Reached) (P : Type 0) (mode : Mode) (set : List Resolved) (turns : ℕ) (left : Option (List ℕ)) (input : List ℕ) (messages : List Content) → (at ≡ reached.End) ⊎ ((f : Fault) × (at ≡ reached.Fault f))
+    → HasReached at P mode set turns left input messages → HasReached at ⊥ mode set turns left input messages
+closed reached.Open P mode set turns left input messages (inl e) h = absurd cc
+closed reached.Open P mode set turns left input messages (inr (f, e)) h = absurd cc
+closed reached.End P mode set turns left input messages other h = h
+closed (reached.Fault f) P mode set turns left input messages other h = h
 
 abbrev pub summary_by : ℕ → ℕ → ℕ → Summary
 summary_by m r w = record { messages = m; read = r; written = w }
 
-pub summary_is : (m n r s w x : ℕ) → m ≡ n → r ≡ s → w ≡ x → summary_by m r w ≡ summary_by n s x
+summary_is : (m n r s w x : ℕ) → m ≡ n → r ≡ s → w ≡ x → summary_by m r w ≡ summary_by n s x
 summary_is m n r s w x a b c = rw (a, b, c) refl
 
--- ---- what is answered
-
 -- what was written before the relay was kept from going on
-pub front_written : {O E : Type 0} {receiver : Receiving O} {entries : Ghosts E} (makes : Making) (mode : Mode) (set : TemplateList) (m : Machine O E receiver entries) (turns : ℕ) (old new : Reader) (taken_old taken_new : Option (List ℕ))
-    → mode_of m ≡ mode → m.traversal.set.now ≡ set → (b : Broken makes m turns old new taken_old taken_new) → PassesFront makes mode (templates_in set) taken_old taken_new b.input
-front_written makes mode set m turns old new taken_old taken_new how same b = record {
-  messages = b.messages;
-  front = b.front;
-  rest = b.rest;
-  carried = carried_as mode (mode_of m) set m.traversal.set.now b.input b.messages how same b.carried;
-  made = subst (λ (s : TemplateList). makes (templates_in s) b.messages (b.front ++ b.rest)) same b.made;
-  written = b.moves.written;
-}
+pub front_of : {makes : Making} {mode : Mode} {set : List Resolved} {t u : Option (List ℕ)} {input : List ℕ} → Break makes mode set t u outset input → PassesFront makes mode set t u input
+front_of b = record { messages = b.ended; front = b.more; rest = b.rest; carried = b.carried; made = b.made; written = b.written }
+
+-- a flush behind a relay keeps what was written
+module _ {O E : Type 0} {receiver : Receiving O} {entries : Ghosts E} {makes : Making} {mode : Mode} {set : List Resolved} {m : Machine O E receiver entries} {turns : ℕ} {old new : Reader} {t u v : Option (List ℕ)} {size : ℕ} where
+  pub passes_front : {at : Reached} → Relayed makes mode set at m turns old new t u size → Keeps u v → PassesBy makes mode set turns old new t v (Err refusal.Write)
+  passes_front {at = at} r kept = (
+    r.count,
+    r.way.input,
+    r.reads,
+    r.bounded,
+    record { messages = r.way.messages; front = r.way.handed; rest = []; carried = carried at r.holds; made = rw (append-nil r.way.handed) r.made; written = Appends-kept _ _ _ r.way.handed r.written kept },
+    tt,
+  )
+    where
+      carried : (at : Reached) → HasReached at ⊥ mode set turns new.left r.way.input r.way.messages → Carried mode set r.way.input r.way.messages
+      carried reached.Open h = absurd h
+      carried reached.End h = all_carried mode set r.way.input r.way.messages h.carried
+      carried (reached.Fault f) h = h.carried
+
+  pub passes_before : {f : Fault} → Relayed makes mode set (reached.Fault f) m turns old new t u size → Keeps u v → PassesBy makes mode set turns old new t v (Err (refusal.Stream f))
+  passes_before r kept =
+      (r.count, r.way.input, r.reads, r.bounded, record { messages = r.way.messages; out = r.way.handed; refuses = r.holds; made = r.made; written = Appends-kept _ _ _ r.way.handed r.written kept }, r.caused)
+
+  pub passes_all : (at : Reached) → (at ≡ reached.End) ⊎ (at ≡ reached.Open) → Relayed makes mode set at m turns old new t u size → Keeps u v → PassesBy makes mode set turns old new t v (Ok (summary_by m.messages m.fed size))
+  passes_all reached.Open is r kept = absurd r.holds
+  passes_all reached.End is r kept =
+      let k = r.counts refl in (
+        r.count,
+        r.way.input,
+        r.reads,
+        r.bounded,
+        record { messages = r.way.messages; out = r.way.handed; ends = r.holds; made = r.made; written = Appends-kept _ _ _ r.way.handed r.written kept; counts = summary_is _ _ _ _ _ _ k.count_is k.fed_is r.size_is },
+        r.caused,
+      )
+  passes_all (reached.Fault f) (inl e) r kept = absurd cc
+  passes_all (reached.Fault f) (inr e) r kept = absurd cc

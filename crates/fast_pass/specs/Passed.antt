@@ -1,5 +1,5 @@
 -- What passes of a stream through an output, and what is answered.
-use Rattle.std.specs.Prelude.{◌≡◌, ℕ, List, ◌++◌, length, Option, Result, Ok, Err}
+use Rattle.std.specs.Prelude.{◌≡◌, ◌≤◌, ℕ, List, ◌++◌, length, Option, Result, Ok, Err}
 use Rattle.std.specs.Io.KnownBytes.{Appends}
 use Rattle.fast_template.specs.Resolved.{Resolved}
 use Rattle.fast_stream.specs.declared.fault.Fault.{Fault}
@@ -7,7 +7,7 @@ use Rattle.fast_stream.specs.declared.mode.Mode.{Mode}
 use Rattle.fast_stream.specs.Nodes.{Content}
 use Rattle.fast_io.specs.Counts.{counted, counted_by}
 use Rattle.fast_decoder.specs.declared.input.Reached.TheVariants as reached
-use Rattle.fast_decoder.specs.Inputs.{EndsWith, IsCaused, Reader, Refuses}
+use Rattle.fast_decoder.specs.Inputs.{EndsWith, IsCaused, Reader, Reads, Refuses}
 use Rattle.fast_machine.specs.Standing.{Carried}
 use Rattle.fast_pass.specs.declared.fault.CanonFault.{CanonFault}
 use Rattle.fast_pass.specs.declared.fault.CanonFault.TheVariants as refusal
@@ -54,6 +54,11 @@ abbrev pub IsCausedBy : Result Summary CanonFault → Type 0 → Reader → Read
 IsCausedBy (Ok summary) UsedUp old new = (new.ends ≡ counted old.ends) × (new.errors ≡ old.errors)
 IsCausedBy (Err (refusal.Stream fault)) UsedUp old new = IsCaused (reached.Fault fault) UsedUp old new
 IsCausedBy (Err f) UsedUp old new = Unit {0}
+
+-- So many reads, no more than asked for, gave bytes of which this passes, and the reader's counts show why this is answered.
+abbrev pub PassesBy : Making → Mode → List Resolved → ℕ → Reader → Reader → Option (List ℕ) → Option (List ℕ) → Result Summary CanonFault → Type 0
+PassesBy makes mode set turns old new taken_old taken_new result =
+    (count : ℕ) × (input : List ℕ) × Reads old new count input × (count ≤ turns) × Passes makes mode set turns new.left taken_old taken_new input result × IsCausedBy result (count ≡ turns) old new
 
 -- a failed write is answered exactly where a call of the writer failed
 abbrev pub errors_after : Result Summary CanonFault → ℕ → ℕ

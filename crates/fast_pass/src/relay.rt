@@ -1,18 +1,14 @@
 //! Streams on their way through an output: what it makes of the messages of one is handed on.
 
-ghost use Rattle.std.specs.Prelude.{◌≡◌, ◌≢◌, ◌≤◌, ◌<◌, ◌+◌, ◌++◌, ◌∷◌, ◌^◌, [], true, false, ℕ, List, Option, OnOk, OnErr, IfOk, None, length};
+ghost use Rattle.std.specs.Prelude.{◌≡◌, ◌≢◌, ◌≤◌, ◌<◌, ◌+◌, ◌∷◌, ◌^◌, [], true, false, ℕ, List, Option, OnOk, IfOk, MatchResult, None, length};
 ghost use Rattle.std.specs.FinMap as finite;
-ghost use Rattle.std.specs.Io.KnownBytes.{Appends};
-ghost use Rattle.fast_io.specs.Counts.{counted_by};
 ghost use Rattle.fast_io.specs.Traffic.{Taken};
 ghost use Rattle.fast_template.specs.TemplateSets.{IsSound, templates_in};
-ghost use Rattle.fast_stream.specs.Nodes.{Content};
 ghost use Rattle.fast_walk.specs.Received.{handed_on};
 ghost use Rattle.fast_decoder.specs.Inputs.{IsCaused, Reads, reader_by};
-ghost use Rattle.fast_decoder.specs.declared.input.Reached.{Reached as ReachedNow};
 ghost use Rattle.fast_decoder.specs.declared.input.Reached.TheVariants as reached;
-ghost use Rattle.fast_pass.specs.Passed.{FlushesOnce, IsCausedBy, Passes, errors_after};
-ghost use Rattle.fast_pass.specs.Relays.{Broken, Fails, IsOfBytes, Relayed, Relays, Steps, errors_behind};
+ghost use Rattle.fast_pass.specs.Passed.{FlushesOnce, PassesBy, errors_after};
+ghost use Rattle.fast_pass.specs.Relays.{Breaks, Hands, IsOfBytes, Relayed, Relays, StandsStill, Steps, errors_behind, outset};
 ghost use Rattle.fast_machine.specs.Following.{mode_of};
 
 use crate::fault::CanonFault;
@@ -39,23 +35,13 @@ fn hand_on<O: Output, W: ByteOutput, E: Entries>(
     alloc: Global,
     writer: &mut W,
 ) -> Result<u64, Stop>
-    ensures count { IfOk result (λ n. n ≡ counted_by 0 (length (O.waiting machine.old.receiver))) }
-    ensures written { OnOk result (Appends (W.taken writer.old) (W.taken writer.new)
-        (O.waiting machine.old.receiver)) }
-    ensures relays { OnOk result ((at : ReachedNow) (turns : ℕ)
-        (left : Option (List ℕ)) (handed input : List ℕ) (messages : List Content)
-        → Relays O.waiting O.makes at machine.old turns left handed input messages
-        → Relays O.waiting O.makes at machine.new turns left (handed ++ O.waiting machine.old.receiver) input
-        messages) }
-    ensures empty { OnOk result (O.waiting machine.new.receiver ≡ []) }
-    ensures part { OnErr result ((rest : List ℕ) × Taken (W.taken writer.old)
-        (W.taken writer.new) (O.waiting machine.old.receiver) rest) }
+    ensures hands { MatchResult result
+        (λ n. Hands O.waiting O.makes machine.old machine.new (W.taken writer.old) (W.taken writer.new)
+        (O.waiting machine.old.receiver) n × (O.waiting machine.new.receiver ≡ []))
+        (λ s. (rest : List ℕ) × Taken (W.taken writer.old) (W.taken writer.new) (O.waiting machine.old.receiver) rest) }
     ensures failed { W.errors writer.new ≡ errors_behind result (W.errors writer.old) }
     ensures flushes { W.flushes writer.new ≡ W.flushes writer.old }
-    ensures fault { machine.new.fault ≡ machine.old.fault }
-    ensures set { machine.new.traversal ≡ machine.old.traversal }
-    ensures mode { mode_of machine.new ≡ mode_of machine.old }
-    ensures fed { machine.new.fed ≡ machine.old.fed }
+    ensures still { StandsStill machine.old machine.new }
 {
     let mut count = 0u64;
     let mut more = true;
@@ -80,19 +66,13 @@ fn hand_on_many<O: Output, W: ByteOutput, E: Entries>(
     alloc: Global,
     writer: &mut W,
 ) -> Result<u64, Stop>
-    ensures relays { IfOk result (λ n. (at : ReachedNow) (turns : ℕ)
-        (left : Option (List ℕ)) (handed input : List ℕ) (messages : List Content)
-        → Relays O.waiting O.makes at machine.old turns left handed input messages
-        → (more : List ℕ) × (n ≡ counted_by 0 (length more)) × Appends (W.taken writer.old) (W.taken writer.new) more
-        × Relays O.waiting O.makes at machine.new turns left (handed ++ more) input messages) }
-    ensures part { OnErr result ((rest : List ℕ) × Taken (W.taken writer.old)
-        (W.taken writer.new) (O.waiting machine.old.receiver) rest) }
+    ensures hands { MatchResult result
+        (λ n. (more : List ℕ) × Hands O.waiting O.makes machine.old machine.new (W.taken writer.old)
+        (W.taken writer.new) more n)
+        (λ s. (rest : List ℕ) × Taken (W.taken writer.old) (W.taken writer.new) (O.waiting machine.old.receiver) rest) }
     ensures failed { W.errors writer.new ≡ errors_behind result (W.errors writer.old) }
     ensures flushes { W.flushes writer.new ≡ W.flushes writer.old }
-    ensures fault { machine.new.fault ≡ machine.old.fault }
-    ensures set { machine.new.traversal ≡ machine.old.traversal }
-    ensures mode { mode_of machine.new ≡ mode_of machine.old }
-    ensures fed { machine.new.fed ≡ machine.old.fed }
+    ensures still { StandsStill machine.old machine.new }
 {
     if machine.receiver.finished().len() < MANY {
         return Ok(0);
@@ -110,10 +90,11 @@ fn take_in<O: Output, W: ByteOutput, E: Entries>(
 ) -> Result<(Reached, u64), Stop>
     requires fault { machine.now.fault ≡ None }
     requires room { machine.now.fed + length bytes.now ≤ 2 ^ 60 }
-    ensures steps { IfOk result (λ x. (left : Option (List ℕ)) → Steps O.waiting O.makes x.0 machine.old machine.new left left
-        (W.taken writer.old) (W.taken writer.new) x.1 bytes.now (IsOfBytes x.0)) }
-    ensures fails { OnErr result ((left : Option (List ℕ)) → Fails O.waiting O.makes machine.old machine.new left
-        (W.taken writer.old) (W.taken writer.new) bytes.now) }
+    ensures takes { (left : Option (List ℕ)) → MatchResult result
+        (λ x. Steps O.waiting O.makes x.0 machine.old machine.new left left (W.taken writer.old)
+        (W.taken writer.new) x.1 bytes.now (IsOfBytes x.0))
+        (λ s. Breaks O.waiting O.makes machine.old machine.new left (W.taken writer.old) (W.taken writer.new)
+        bytes.now) }
     ensures open { IfOk result (λ x. x.0 ≡ reached.Open → machine.new.fault ≡ None) }
     ensures failed { W.errors writer.new ≡ errors_behind result (W.errors writer.old) }
     ensures flushes { W.flushes writer.new ≡ W.flushes writer.old }
@@ -146,13 +127,14 @@ fn read_on<O: Output, R: ByteInput, W: ByteOutput, E: Entries>(
     ensures read { (got : List ℕ)
         × Reads (reader_by R.left R.calls R.errors R.ends reader.old)
         (reader_by R.left R.calls R.errors R.ends reader.new) 1 got
-        × IfOk result (λ x. (x.0 ≡ reached.Open → 0 < length got)
+        × MatchResult result
+        (λ x. (x.0 ≡ reached.Open → 0 < length got)
         × Steps O.waiting O.makes x.0 machine.old machine.new (R.left reader.old) (R.left reader.new)
         (W.taken writer.old) (W.taken writer.new) x.1 got
         (IsCaused x.0 ⊥ (reader_by R.left R.calls R.errors R.ends reader.old)
         (reader_by R.left R.calls R.errors R.ends reader.new)))
-        × OnErr result (Fails O.waiting O.makes machine.old machine.new (R.left reader.old)
-        (W.taken writer.old) (W.taken writer.new) got) }
+        (λ s. Breaks O.waiting O.makes machine.old machine.new (R.left reader.old) (W.taken writer.old)
+        (W.taken writer.new) got) }
     ensures open { IfOk result (λ x. x.0 ≡ reached.Open → machine.new.fault ≡ None) }
     ensures failed { W.errors writer.new ≡ errors_behind result (W.errors writer.old) }
     ensures flushes { W.flushes writer.new ≡ W.flushes writer.old }
@@ -193,16 +175,15 @@ fn relay<O: Output, R: ByteInput, W: ByteOutput, E: Entries>(
     requires fed { machine.now.fed ≡ 0 }
     requires fault { machine.now.fault ≡ None }
     requires empty { O.waiting machine.now.receiver ≡ [] }
-    ensures relayed { IfOk result (λ x.
-        Relays O.waiting O.makes reached.Open machine.old turns (R.left reader.old) [] [] []
-        → Relayed O.makes x.0 machine.new turns
+    ensures relayed { Relays O.waiting O.makes reached.Open machine.old turns (R.left reader.old) outset
+        → MatchResult result
+        (λ x. Relayed O.makes (mode_of machine.new) (templates_in machine.new.traversal.set.now) x.0 machine.new turns
         (reader_by R.left R.calls R.errors R.ends reader.old)
-        (reader_by R.left R.calls R.errors R.ends reader.new)
-        (W.taken writer.old) (W.taken writer.new) x.1) }
-    ensures broken { OnErr result (Relays O.waiting O.makes reached.Open machine.old turns (R.left reader.old) [] [] []
-        → Broken O.makes machine.new turns (reader_by R.left R.calls R.errors R.ends reader.old)
-        (reader_by R.left R.calls R.errors R.ends reader.new)
-        (W.taken writer.old) (W.taken writer.new)) }
+        (reader_by R.left R.calls R.errors R.ends reader.new) (W.taken writer.old) (W.taken writer.new) x.1)
+        (λ s. PassesBy O.makes (mode_of machine.new) (templates_in machine.new.traversal.set.now) turns
+        (reader_by R.left R.calls R.errors R.ends reader.old)
+        (reader_by R.left R.calls R.errors R.ends reader.new) (W.taken writer.old) (W.taken writer.new)
+        (Err CanonFault.Write)) }
     ensures failed { W.errors writer.new ≡ errors_behind result (W.errors writer.old) }
     ensures flushes { W.flushes writer.new ≡ W.flushes writer.old }
     ensures set { machine.new.traversal.set ≡ machine.old.traversal.set }
@@ -239,16 +220,10 @@ fn pass_by<O: Output, R: ByteInput, W: ByteOutput, E: Entries>(
     requires fed { machine.now.fed ≡ 0 }
     requires fault { machine.now.fault ≡ None }
     requires empty { O.waiting machine.now.receiver ≡ [] }
-    requires relays { Relays O.waiting O.makes reached.Open machine.now turns (R.left reader.now) [] [] [] }
-    ensures answer { (count : ℕ) × (input : List ℕ)
-        × Reads (reader_by R.left R.calls R.errors R.ends reader.old)
-        (reader_by R.left R.calls R.errors R.ends reader.new) count input
-        × (count ≤ turns)
-        × Passes O.makes (mode_of machine.old) (templates_in machine.old.traversal.set.now) turns (R.left reader.new)
-        (W.taken writer.old) (W.taken writer.new) input result
-        × IsCausedBy result (count ≡ turns)
+    requires relays { Relays O.waiting O.makes reached.Open machine.now turns (R.left reader.now) outset }
+    ensures answer { PassesBy O.makes (mode_of machine.old) (templates_in machine.old.traversal.set.now) turns
         (reader_by R.left R.calls R.errors R.ends reader.old)
-        (reader_by R.left R.calls R.errors R.ends reader.new) }
+        (reader_by R.left R.calls R.errors R.ends reader.new) (W.taken writer.old) (W.taken writer.new) result }
     ensures write { W.errors writer.new ≡ errors_after result (W.errors writer.old) }
     ensures flush { FlushesOnce result (W.flushes writer.old) (W.flushes writer.new) }
 {
@@ -298,15 +273,9 @@ pub fn pass_through<O: Output, R: ByteInput, W: ByteOutput>(
     // the output has no message of the set yet, and nothing waits in it
     requires begins { O.stands output (templates_in set.now) (handed_on [] ∷ []) finite.empty }
     requires empty { O.waiting output ≡ [] }
-    ensures answer { (count : ℕ) × (input : List ℕ)
-        × Reads (reader_by R.left R.calls R.errors R.ends reader.old)
-        (reader_by R.left R.calls R.errors R.ends reader.new) count input
-        × (count ≤ turns)
-        × Passes O.makes mode (templates_in set.now) turns (R.left reader.new) (W.taken writer.old)
-        (W.taken writer.new) input result
-        × IsCausedBy result (count ≡ turns)
+    ensures answer { PassesBy O.makes mode (templates_in set.now) turns
         (reader_by R.left R.calls R.errors R.ends reader.old)
-        (reader_by R.left R.calls R.errors R.ends reader.new) }
+        (reader_by R.left R.calls R.errors R.ends reader.new) (W.taken writer.old) (W.taken writer.new) result }
     ensures write { W.errors writer.new ≡ errors_after result (W.errors writer.old) }
     ensures flush { FlushesOnce result (W.flushes writer.old) (W.flushes writer.new) }
     ensures sound { OnOk result (IsSound set.now) }

@@ -1,10 +1,6 @@
-use Rattle.std.proofs.Common.{◌≡◌, ◌+◌, ◌++◌, [], false, cond, ℕ, List, Option, length}
-use Rattle.std.specs.Io.KnownBytes.{Appends}
-use Rattle.fast_io.specs.Counts.{counted_by}
-use Rattle.fast_stream.specs.Nodes.{Content}
-use Rattle.fast_decoder.specs.declared.input.Reached.{Reached}
-use Rattle.fast_machine.specs.Following.{mode_of}
-use Rattle.fast_pass.specs.Relays.{Relays}
+use Rattle.std.proofs.Common.{◌≡◌, ◌+◌, [], false, cond}
+use Rattle.fast_io.specs.Traffic.{Taken}
+use Rattle.fast_pass.specs.Relays.{Hands, StandsStill}
 use Rattle.fast_pass.proofs.relay.hand_on.Given as goal
 
 abbrev pub invariant-fronts : goal.invariant-fronts
@@ -12,20 +8,15 @@ invariant-fronts g l =
     let O = g.O.Output in
     let old = l.fn.machine in
     let new = l.machine in
+    let W = g.W.ByteOutput in
     record {
-      fault : new.fault ≡ old.fault;
-      set : new.traversal ≡ old.traversal;
-      mode : mode_of new ≡ mode_of old;
-      fed : new.fed ≡ old.fed;
-      errors : g.W.ByteOutput.errors l.writer ≡ g.W.ByteOutput.errors l.fn.writer;
-      flushes : g.W.ByteOutput.flushes l.writer ≡ g.W.ByteOutput.flushes l.fn.writer;
+      still : StandsStill old new;
+      errors : W.errors l.writer ≡ W.errors l.fn.writer;
+      flushes : W.flushes l.writer ≡ W.flushes l.fn.writer;
       ended : l.more ≡ false → O.waiting new.receiver ≡ [];
-      -- these of the bytes that waited are handed on, and the others still wait
-      fronts : (front : List ℕ) × (O.waiting old.receiver ≡ front ++ O.waiting new.receiver)
-          × Appends (g.W.ByteOutput.taken l.fn.writer) (g.W.ByteOutput.taken l.writer) front
-          × (l.count ≡ counted_by 0 (length front))
-          × ((at : Reached) (turns : ℕ) (left : Option (List ℕ)) (handed input : List ℕ) (messages : List Content)
-          → Relays O.waiting O.makes at old turns left handed input messages → Relays O.waiting O.makes at new turns left (handed ++ front) input messages);
+      -- a front of what waited is handed on, and the rest still waits
+      fronts : (t : Taken (W.taken l.fn.writer) (W.taken l.writer) (O.waiting old.receiver) (O.waiting new.receiver))
+          × Hands O.waiting O.makes old new (W.taken l.fn.writer) (W.taken l.writer) t.front l.count;
     }
 
 abbrev pub decreases-fronts : goal.decreases-fronts

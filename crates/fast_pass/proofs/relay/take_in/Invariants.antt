@@ -1,7 +1,7 @@
 use Rattle.std.proofs.Common.{◌≡◌, ◌≤◌, ◌-◌, ◌+◌, ℕ, List, Option, None, length, take}
 use Rattle.fast_decoder.specs.declared.input.Reached.TheVariants as reached
 use Rattle.fast_machine.specs.Following.{mode_of}
-use Rattle.fast_pass.specs.Relays.{Steps}
+use Rattle.fast_pass.specs.Relays.{IsOfBytes, Steps}
 use Rattle.fast_pass.proofs.relay.take_in.Given as goal
 
 abbrev pub invariant-messages : goal.invariant-messages
@@ -13,7 +13,7 @@ invariant-messages g l = record {
   mode : mode_of l.machine ≡ mode_of l.fn.machine;
   errors : g.W.ByteOutput.errors l.writer ≡ g.W.ByteOutput.errors l.fn.writer;
   flushes : g.W.ByteOutput.flushes l.writer ≡ g.W.ByteOutput.flushes l.fn.writer;
-  steps : (left : Option (List ℕ)) → Steps g.O.Output.waiting g.O.Output.makes reached.Open l.fn.machine l.machine left left (g.W.ByteOutput.taken l.fn.writer) (g.W.ByteOutput.taken l.writer) l.written (take l.at l.bytes) (Unit {0});
+  steps : (left : Option (List ℕ)) → Steps g.O.Output.waiting g.O.Output.makes reached.Open l.fn.machine l.machine left left (g.W.ByteOutput.taken l.fn.writer) (g.W.ByteOutput.taken l.writer) l.written (take l.at l.bytes) (IsOfBytes reached.Open);
 }
 
 abbrev pub decreases-messages : goal.decreases-messages
