@@ -102,7 +102,6 @@ stays {way = way} taken r because =
 -- behind a step, another
 module _ {O E : Type 0} {receiver : Receiving O} {entries : Ghosts E} {waiting : O → List ℕ} {makes : Making} {before : Reached} {m : Machine O E receiver entries} {turns : ℕ} {left t u : Option (List ℕ)} {size : ℕ} {way : Way} {front : List ℕ} {B : Type 0}
     (s : Step waiting makes before m turns left t u size way front B) where
-
   abbrev pub behind : Way
   behind = farther way s.more front s.ended
 

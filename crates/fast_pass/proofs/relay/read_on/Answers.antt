@@ -43,7 +43,7 @@ returns-in-Err-finish-clause-read g c =
             let at = (rw (c.in-Err-finish.ensures.answer) at after.at).0 in
             let refuses = refused_by_end c.in-Err-finish.fault _ _ turns (g.R.ByteInput.left c.pull.new.self) _ _ t.0 (p.bytes.2 zero (omega arith)) at.0 at.1 at.2 in
             stays _ (stops g.met.O.Output.made c.finish.new.self turns _ way c.in-Err-finish.fault refuses after)
-                (caused_by_end (reached.Fault c.in-Err-finish.fault) _ _ turns _ _ _ a b refuses t.0 (p.end.0 zero (omega arith)) p.error),
+            (caused_by_end (reached.Fault c.in-Err-finish.fault) _ _ turns _ _ _ a b refuses t.0 (p.end.0 zero (omega arith)) p.error),
       ),
     )
 
@@ -81,7 +81,7 @@ returns-in-Err-clause-read g c =
             let before = handed_on way.handed ∷ way.messages in
             let go = r.holds in
             stays _ (stops g.met.O.Output.made c.cut.new.self turns _ way c.cut.result
-                (rw (cut.set, cut.mode) (refused_by_read c.cut.result _ _ _ _ _ _ cut.cause (cut.place go.unrefused before way.input way.messages go.follows)))
-                (cut.follows go.unrefused before way.input way.messages go.follows)) (caused_by_read c.cut.result a b cut.cause p.error),
+            (rw (cut.set, cut.mode) (refused_by_read c.cut.result _ _ _ _ _ _ cut.cause (cut.place go.unrefused before way.input way.messages go.follows)))
+            (cut.follows go.unrefused before way.input way.messages go.follows)) (caused_by_read c.cut.result a b cut.cause p.error),
       ),
     )

@@ -31,7 +31,7 @@ returns-in-Err-clause-takes g c = λ left turns way r.
     let more = c.in-Err.ensures.cause l.invariant.fault in
     let whole = ap (λ (xs : List ℕ). take l.at bytes ++ xs) (slice_rest bytes l.at) ∙ take-append-drop l.at bytes in
     reads_on s slice f.0 (stops g.met.O.Output.made c.feed_message.new.self turns left _ c.in-Err.fault (refused_by_bytes c.in-Err.fault _ _ turns left _ _ more at.0 at.1 at.2 at.3) f.2)
-        ((λ e. absurd cc), of_bytes c.in-Err.fault _ _ _ at.2 more) whole
+    ((λ e. absurd cc), of_bytes c.in-Err.fault _ _ _ at.2 more) whole
 
 pub messages-preserved : goal.messages-preserved
 messages-preserved g c =
@@ -63,8 +63,8 @@ returns-in_err-hand_on_many-clause-takes g c =
     let next = l.at + c.in-Ok.taken in
     let h = c.in_err-hand_on_many.ensures in
     rw (h.still.mode, h.still.traversal) (breaks
-        (feeds_on g.met.O.Output.made bytes l.at c.in-Ok.taken c.feed_message.new.self (v.steps left turns way r) c.in-Ok.ensures.open (c.in-Ok.ensures.follows v.fault))
-        h.hands.0 (drop next bytes) h.hands.1 (take-append-drop next bytes)))
+    (feeds_on g.met.O.Output.made bytes l.at c.in-Ok.taken c.feed_message.new.self (v.steps left turns way r) c.in-Ok.ensures.open (c.in-Ok.ensures.follows v.fault))
+    h.hands.0 (drop next bytes) h.hands.1 (take-append-drop next bytes)))
 
 pub returns-clause-takes : goal.returns-clause-takes
 returns-clause-takes g c = λ left turns way r. rw (take_whole c.messages.at c.args.bytes.now (omega (arith, c.messages-test.false))) at (c.messages.invariant.steps left turns way r)
