@@ -1,5 +1,5 @@
 -- What decimals rest on that are judged as they stand.
-use Rattle.std.proofs.Common.{◌≡◌, ◌++◌, ℕ, Bool, true, false, List, drop, slice_range, refl, ◌∙◌}
+use Rattle.std.proofs.Common.{◌≡◌, ℕ, Bool, true, List, drop, slice_range, refl, sym, subst, ◌∙◌}
 use Rattle.std.specs.Prelude.{ℤ, ◌+ℤ◌, Some}
 use Rattle.fast_value.specs.Scalar.{exponent_in_range, in_range}
 use Rattle.fast_value.specs.declared.kind.Kind.TheVariants as kind
@@ -12,15 +12,17 @@ use Rattle.fast_value.specs.declared.scalar.Scalar.TheVariants.{Decimal}
 use Rattle.fast_dictionary.specs.declared.entry.Entry.{Entry}
 use Rattle.fast_dictionary.specs.declared.entry.Entry.TheVariants.{Assigned}
 use Rattle.fast_field.specs.Chosen.{ShortestPair}
-use Rattle.fast_field.proofs.BestForms.{bit_zero_is_best}
-use Rattle.fast_field.proofs.BestValues.{left_out}
-use Rattle.fast_relay.specs.Judged.{JudgesFrom, Leaves, PairGives, PairStandsFrom}
+use Rattle.fast_field.specs.Bases.{next as next_entry}
+use Rattle.fast_field.specs.Fields.{FormOf}
+use Rattle.fast_field.proofs.BestDeltas.{IsFirst}
+use Rattle.fast_value.specs.declared.kind.Operator.{Operator}
+use Rattle.fast_wire.specs.declared.level.Level.TheVariants.{Usual}
+use Rattle.fast_relay.specs.Judged.{Leaves, PairGives, PairStandsFrom}
 use Rattle.fast_relay.specs.Numbers.{SpellsWhole}
-use Rattle.fast_relay.proofs.DecimalRelaying.{decimal_of, decimal_relays, decimal_whole_relays, whole_read}
-use Rattle.fast_relay.proofs.Relaying.{whole_row}
-use Rattle.fast_relay.proofs.Runs.{range_split}
+use Rattle.fast_relay.proofs.DecimalRelaying.{decimal_of, delta_as, delta_first, delta_read, of_type, whole_first, whole_read}
+use Rattle.fast_relay.proofs.Ranges.{range_split}
 use Rattle.fast_relay.proofs.Standing.{shortest_signed}
-use Rattle.fast_relay.proofs.Taking.{takes}
+use Rattle.fast_relay.proofs.Taking.{delta_out, delta_row, judges, takes, whole_row}
 use Rattle.fast_relay.proofs.TextRelaying.{whole_within}
 
 pair_shortest : (p : Presence) (bytes : List ℕ) (at first next : ℕ) (x m : ℤ) → PairStandsFrom p bytes at first next x m → ShortestPair p x m (slice_range bytes first next)
@@ -35,34 +37,31 @@ pair_shortest p bytes at first next x m s =
       second = shortest_signed Mandatory m back s.mantissa.form s.mantissa.short;
     }
 
-decimal_stands : (i : FieldPart) (old new : Entry) (x m : ℤ) (bytes : List ℕ) (at first next : ℕ) → i.kind ≡ kind.Decimal → i.part ≡ part.Whole → SpellsWhole i.operator → exponent_in_range x ≡ true → in_range kind.Int64 m ≡ true → PairStandsFrom i.presence bytes at first next x m → Leaves true i old new (Decimal x m)
-    → JudgesFrom true i old new (Decimal x m) bytes at first next
-decimal_stands i old new x m bytes at first next k p o near fits s l = λ out.
-    let form = slice_range bytes first next in
-    decimal_whole_relays i old new x m (drop at bytes) (drop s.middle bytes) (drop next bytes) out (out ++ form) k p o s.exponent.spelt near s.mantissa.spelt fits l.left_out l.entry
-    (form, refl, pair_shortest i.presence bytes at first next x m s)
-
-decimal_given : (i : FieldPart) (old new : Entry) (x m : ℤ) (bytes : List ℕ) (at first next : ℕ) → i.kind ≡ kind.Decimal → i.part ≡ part.Whole → SpellsWhole i.operator → exponent_in_range x ≡ true → in_range kind.Int64 m ≡ true → PairStandsFrom i.presence bytes at first next x m → Leaves false i old new (Decimal x m)
-    → JudgesFrom false i old new (Decimal x m) bytes at first next
-decimal_given i old new x m bytes at first next k p o near fits s l =
+pub decimal_gives : (bit : Bool) (i : FieldPart) (old new : Entry) (x m : ℤ) → i.kind ≡ kind.Decimal → i.part ≡ part.Whole → SpellsWhole i.operator → exponent_in_range x ≡ true → in_range kind.Int64 m ≡ true → Leaves bit i old new (Some (Decimal x m)) → PairGives bit i old new x m
+decimal_gives bit i old new x m k p o near fits l = λ bytes at first next s.
     let v = Decimal x m in
-    let row = whole_row i.operator i old (drop at bytes) o ∙ whole_read i x m (drop at bytes) (drop s.middle bytes) (drop next bytes) k s.exponent.spelt near s.mantissa.spelt fits in
-    let t = takes i old new v (drop at bytes) (drop next bytes) (whole_within i.part v p) row l.entry in (
-      decimal_of i x m k,
-      record {
-        read = t.read;
-        entry = t.entry;
-        best = bit_zero_is_best i old (Some v) (record { row = left_out i.operator i old (Some v) l.left_out; within = whole_within i.part v p });
-      },
+    let form = slice_range bytes first next in
+    let within = whole_within i.part v p in
+    let row = whole_row i.operator i old (drop at bytes) o ∙ whole_read i x m (drop at bytes) (drop s.middle bytes) (drop next bytes) k s.exponent.spelt near s.mantissa.spelt fits in (
+      v,
+      judges bit i old new v (drop at bytes) (drop next bytes) form (decimal_of i x m k) within (takes i old new v (drop at bytes) (drop next bytes) within row l.entry) l.left_out
+          (whole_first i.operator i old v form o (of_type i.kind x m k near fits) (pair_shortest i.presence bytes at first next x m s)),
     )
 
-pub decimal_delta_stands : (i : FieldPart) (old new : Entry) (x m dx dm : ℤ) (bytes : List ℕ) (at first next : ℕ) → old ≡ Assigned (Decimal x m) → i.kind ≡ kind.Decimal → i.operator ≡ operator.Delta → i.part ≡ part.Whole → PairStandsFrom i.presence bytes at first next dx dm
-    → exponent_in_range (x +ℤ dx) ≡ true → in_range kind.Int64 (m +ℤ dm) ≡ true → new ≡ Assigned (Decimal (x +ℤ dx) (m +ℤ dm)) → JudgesFrom true i old new (Decimal (x +ℤ dx) (m +ℤ dm)) bytes at first next
-decimal_delta_stands i old new x m dx dm bytes at first next is k o p s near fits entry = λ out.
+assigned_adds : (i : FieldPart) (new : Entry) (x m dx dm : ℤ) → i.kind ≡ kind.Decimal → i.operator ≡ operator.Delta → i.part ≡ part.Whole → exponent_in_range (x +ℤ dx) ≡ true → in_range kind.Int64 (m +ℤ dm) ≡ true → new ≡ Assigned (Decimal (x +ℤ dx) (m +ℤ dm))
+    → PairGives true i (Assigned (Decimal x m)) new dx dm
+assigned_adds i new x m dx dm k o p near fits entry = λ bytes at first next s.
+    let old = Assigned (Decimal x m) in
+    let v = Decimal (x +ℤ dx) (m +ℤ dm) in
     let form = slice_range bytes first next in
-    decimal_relays i old new x m dx dm (drop at bytes) (drop s.middle bytes) (drop next bytes) out (out ++ form) is k o p s.exponent.spelt near s.mantissa.spelt fits entry
-    (form, refl, pair_shortest i.presence bytes at first next dx dm s)
+    let within = whole_within i.part v p in
+    let row = delta_row i.operator i old (drop at bytes) o ∙ delta_as i.kind i old (drop at bytes) k ∙ delta_read i x m dx dm (drop at bytes) (drop s.middle bytes) (drop next bytes) k s.exponent.spelt near s.mantissa.spelt fits in
+    let last : next_entry i old (Some v) ≡ Assigned v = rw o refl in (
+      v,
+      judges true i old new v (drop at bytes) (drop next bytes) form (rw k refl) within (takes i old new v (drop at bytes) (drop next bytes) within row (entry ∙ sym last)) (delta_out i old (Some v) o)
+          (subst (λ (o : Operator). IsFirst (λ c b. FormOf Usual o i old true c b (Some v)) form) (sym o) (delta_first i x m dx dm form k near fits (pair_shortest i.presence bytes at first next dx dm s))),
+    )
 
-pub decimal_gives : (bit : Bool) (i : FieldPart) (old new : Entry) (x m : ℤ) → i.kind ≡ kind.Decimal → i.part ≡ part.Whole → SpellsWhole i.operator → exponent_in_range x ≡ true → in_range kind.Int64 m ≡ true → Leaves bit i old new (Decimal x m) → PairGives bit i old new x m
-decimal_gives true i old new x m k p o near fits l = λ bytes at first next s. (Decimal x m, decimal_stands i old new x m bytes at first next k p o near fits s l)
-decimal_gives false i old new x m k p o near fits l = λ bytes at first next s. (Decimal x m, decimal_given i old new x m bytes at first next k p o near fits s l)
+pub decimal_adds : (i : FieldPart) (old new : Entry) (x m dx dm : ℤ) → old ≡ Assigned (Decimal x m) → i.kind ≡ kind.Decimal → i.operator ≡ operator.Delta → i.part ≡ part.Whole → exponent_in_range (x +ℤ dx) ≡ true → in_range kind.Int64 (m +ℤ dm) ≡ true
+    → new ≡ Assigned (Decimal (x +ℤ dx) (m +ℤ dm)) → PairGives true i old new dx dm
+decimal_adds i old new x m dx dm is k o p near fits entry = subst (λ (e : Entry). PairGives true i e new dx dm) (sym is) (assigned_adds i new x m dx dm k o p near fits entry)

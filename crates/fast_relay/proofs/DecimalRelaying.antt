@@ -1,4 +1,4 @@
--- What decimals that are read and written at once rest on.
+-- What decimals that are read at once rest on.
 use Rattle.std.proofs.Common.{◌≡◌, ℕ, true, false, List, ◌++◌, Result, Ok, Err, refl, sym, ap, subst, ◌∙◌}
 use Rattle.std.specs.Prelude.{ℤ, ◌+ℤ◌, ◌-ℤ◌, Some}
 use Rattle.fast_wire.specs.declared.level.Level.TheVariants.{Usual}
@@ -33,8 +33,7 @@ use Rattle.fast_field.proofs.ChosenForms.{decimal_value as decimal_is_first, who
 use Rattle.fast_field.proofs.ValuesWithin.{IsOfType}
 use Rattle.fast_relay.specs.Numbers.{SpellsWhole, Spelt}
 use Rattle.fast_value.specs.Scalar.{is_of}
-use Rattle.fast_relay.specs.Relayed.{Relays}
-use Rattle.fast_relay.proofs.Relaying.{added_back, base_is, delta_out, delta_row, relays, whole_row}
+use Rattle.fast_relay.proofs.Taking.{added_back, base_is}
 
 -- a number that is spelled is read
 not_null : Result (Nullable ℤ × List ℕ) FieldFault → Result (ℤ × List ℕ) FieldFault
@@ -62,10 +61,10 @@ unfolding decimal_delta_at mantissa_delta_behind decimal_value
 delta_read i x m dx dm bytes mid rest k exponent near mantissa fits =
     rw (exponent, base_is i (Decimal x m) (rw k refl), near, signed_read mid rest dm mantissa, fits) refl
 
-of_type : (k : Kind) (e m : ℤ) → k ≡ kind.Decimal → exponent_in_range e ≡ true → in_range kind.Int64 m ≡ true → IsOfType k (Decimal e m)
+pub of_type : (k : Kind) (e m : ℤ) → k ≡ kind.Decimal → exponent_in_range e ≡ true → in_range kind.Int64 m ≡ true → IsOfType k (Decimal e m)
 of_type k e m same near fits = subst (λ (k : Kind). IsOfType k (Decimal e m)) (sym same) (refl, (near, fits))
 
-delta_first : (i : FieldPart) (x m dx dm : ℤ) (b : List ℕ) → i.kind ≡ kind.Decimal → exponent_in_range (x +ℤ dx) ≡ true → in_range kind.Int64 (m +ℤ dm) ≡ true → ShortestPair i.presence dx dm b
+pub delta_first : (i : FieldPart) (x m dx dm : ℤ) (b : List ℕ) → i.kind ≡ kind.Decimal → exponent_in_range (x +ℤ dx) ≡ true → in_range kind.Int64 (m +ℤ dm) ≡ true → ShortestPair i.presence dx dm b
     → IsFirst (λ c b. DeltaForm Usual i (Assigned (Decimal x m)) c b (Some (Decimal (x +ℤ dx) (m +ℤ dm)))) b
 delta_first i x m dx dm b k near fits s =
     let base = Decimal x m in
@@ -73,24 +72,6 @@ delta_first i x m dx dm b k near fits s =
     let one = subst (λ (e : ℤ). ShortestPair i.presence e dm b) (added_back x dx) s in
     let both = subst (λ (z : ℤ). ShortestPair i.presence ((x +ℤ dx) -ℤ x) z b) (added_back m dm) one in
     delta_is_first i (Assigned base) base v b (base_is i base (rw k refl)) (decimal_is_first i.kind i.presence base v b k (of_type i.kind (x +ℤ dx) (m +ℤ dm) k near fits) both)
-
-assigned_relays : (i : FieldPart) (new : Entry) (x m dx dm : ℤ) (bytes mid rest before after : List ℕ) → i.kind ≡ kind.Decimal → i.operator ≡ operator.Delta → i.part ≡ part.Whole → Spelt false i.presence bytes dx mid → exponent_in_range (x +ℤ dx) ≡ true → Spelt false Mandatory mid dm rest
-    → in_range kind.Int64 (m +ℤ dm) ≡ true → new ≡ Assigned (Decimal (x +ℤ dx) (m +ℤ dm)) → (b : List ℕ) × (after ≡ before ++ b) × ShortestPair i.presence dx dm b → Relays i (Assigned (Decimal x m)) new (Decimal (x +ℤ dx) (m +ℤ dm)) bytes rest before after
-assigned_relays i new x m dx dm bytes mid rest before after k o p exponent near mantissa fits entry appended =
-    let old = Assigned (Decimal x m) in
-    let v = Decimal (x +ℤ dx) (m +ℤ dm) in
-    let last : next i old (Some v) ≡ Assigned v = rw o refl in
-    relays i old new v bytes rest before after (ShortestPair i.presence dx dm) (rw k refl) (rw p refl)
-    (delta_row i.operator i old bytes o ∙ delta_as i.kind i old bytes k ∙ delta_read i x m dx dm bytes mid rest k exponent near mantissa fits)
-    (entry ∙ sym last)
-    (delta_out i old (Some v) o)
-    (λ b s. subst (λ (o : Operator). IsFirst (λ c b. FormOf Usual o i old true c b (Some v)) b) (sym o) (delta_first i x m dx dm b k near fits s))
-    appended
-
-pub decimal_relays : (i : FieldPart) (old new : Entry) (x m dx dm : ℤ) (bytes mid rest before after : List ℕ) → old ≡ Assigned (Decimal x m) → i.kind ≡ kind.Decimal → i.operator ≡ operator.Delta → i.part ≡ part.Whole → Spelt false i.presence bytes dx mid → exponent_in_range (x +ℤ dx) ≡ true
-    → Spelt false Mandatory mid dm rest → in_range kind.Int64 (m +ℤ dm) ≡ true → new ≡ Assigned (Decimal (x +ℤ dx) (m +ℤ dm)) → (b : List ℕ) × (after ≡ before ++ b) × ShortestPair i.presence dx dm b → Relays i old new (Decimal (x +ℤ dx) (m +ℤ dm)) bytes rest before after
-decimal_relays i old new x m dx dm bytes mid rest before after is k o p exponent near mantissa fits entry appended =
-    subst (λ (e : Entry). Relays i e new (Decimal (x +ℤ dx) (m +ℤ dm)) bytes rest before after) (sym is) (assigned_relays i new x m dx dm bytes mid rest before after k o p exponent near mantissa fits entry appended)
 
 -- ---- what stands whole
 
@@ -107,23 +88,12 @@ pub whole_read : (i : FieldPart) (x m : ℤ) (bytes mid rest : List ℕ) → i.k
 unfolding whole_at
 whole_read i x m bytes mid rest k exponent near mantissa fits = spelled_as i.part i.kind i.presence bytes k ∙ spelled_read i.presence x m bytes mid rest exponent near mantissa fits
 
-whole_first : (o : Operator) (i : FieldPart) (e : Entry) (v : Scalar) (b : List ℕ) → SpellsWhole o → IsOfType i.kind v → ShortestWhole i.presence v b → IsFirst (λ c b. FormOf Usual o i e true c b (Some v)) b
+pub whole_first : (o : Operator) (i : FieldPart) (e : Entry) (v : Scalar) (b : List ℕ) → SpellsWhole o → IsOfType i.kind v → ShortestWhole i.presence v b → IsFirst (λ c b. FormOf Usual o i e true c b (Some v)) b
 whole_first operator.Plain i e v b o h s = whole_is_first i.kind i.presence (Some v) b (whole_shortest i.kind i.presence v b h s)
 whole_first operator.Default i e v b o h s = whole_is_first i.kind i.presence (Some v) b (whole_shortest i.kind i.presence v b h s)
 whole_first operator.Copy i e v b o h s = whole_is_first i.kind i.presence (Some v) b (whole_shortest i.kind i.presence v b h s)
 whole_first operator.Increment i e v b o h s = whole_is_first i.kind i.presence (Some v) b (whole_shortest i.kind i.presence v b h s)
 whole_first o' i e v b o h s = absurd o
-
-pub decimal_whole_relays : (i : FieldPart) (old new : Entry) (x m : ℤ) (bytes mid rest before after : List ℕ) → i.kind ≡ kind.Decimal → i.part ≡ part.Whole → SpellsWhole i.operator → Spelt false i.presence bytes x mid → exponent_in_range x ≡ true → Spelt false Mandatory mid m rest → in_range kind.Int64 m ≡ true
-    → left_out_of i.operator i old (Some (Decimal x m)) ≡ false → new ≡ next i old (Some (Decimal x m)) → (b : List ℕ) × (after ≡ before ++ b) × ShortestPair i.presence x m b → Relays i old new (Decimal x m) bytes rest before after
-decimal_whole_relays i old new x m bytes mid rest before after k p o exponent near mantissa fits out entry appended =
-    let v = Decimal x m in
-    relays i old new v bytes rest before after (ShortestPair i.presence x m) (rw k refl) (rw p refl)
-    (whole_row i.operator i old bytes o ∙ whole_read i x m bytes mid rest k exponent near mantissa fits)
-    entry
-    out
-    (λ b s. whole_first i.operator i old v b o (of_type i.kind x m k near fits) s)
-    appended
 
 pub decimal_of : (i : FieldPart) (x m : ℤ) → i.kind ≡ kind.Decimal → is_of i.kind (Decimal x m) ≡ true
 decimal_of i x m k = rw k refl

@@ -24,9 +24,6 @@ use Rattle.fast_relay.specs.Judged.{Adds, IfFound, JudgesFrom, Leaves, LeavesWho
 use Rattle.fast_relay.specs.Numbers.{SpellsWhole, Spelt}
 use Rattle.fast_relay.specs.declared.judged.Judged.{Judged}
 use Rattle.fast_relay.specs.declared.judged.Judged.TheVariants.{Stands, Behind, BehindTwo, Given, Elsewhere}
-use Rattle.fast_relay.specs.Relayed.{Relays}
-use Rattle.fast_relay.proofs.Relaying.{delta_relays, whole_relays}
-use Rattle.fast_relay.proofs.Runs.{settled}
 use Rattle.fast_relay.proofs.Standing.{shortest_signed, shortest_whole, standing}
 use Rattle.fast_relay.proofs.Taking.{whole_takes}
 
@@ -43,54 +40,6 @@ found_as Elsewhere next P Q other h f = f
 
 pub stands_at : (u : Bool) (p : Presence) (bytes : List ℕ) (at next : ℕ) (z : ℤ) → IsBytes (drop at bytes) → at ≤ next → next ≤ length bytes → Spelt u p (drop at bytes) z (drop next bytes) → overlong_number u (slice_range bytes at next) ≡ false → StandsAt u p bytes at next z
 stands_at u p bytes at next z fits le within h short = record { spelt = h; form = standing u p bytes at next z fits le within h; short = short }
-
--- ---- what is judged
-
-pub whole_stands : (k : Kind) (i : FieldPart) (old new : Entry) (z : ℤ) (bytes : List ℕ) (at first next : ℕ) → k ≡ i.kind → SpellsWhole i.operator → IsFieldNumber k i.part z → StandsFrom (is_unsigned k) i.presence bytes at first next z → Leaves true i old new (of_integer k z)
-    → JudgesFrom true i old new (of_integer k z) bytes at first next
-whole_stands k i old new z bytes at first next same o h s l = λ out.
-    let form = slice_range bytes first next in
-    whole_relays k i old new z (drop at bytes) (drop next bytes) out (out ++ form) same o h s.spelt l.entry l.left_out
-    (form, refl, shortest_whole k i.presence z form h.number.integer s.form s.short)
-
-pub whole_given : (k : Kind) (i : FieldPart) (old new : Entry) (z : ℤ) (bytes : List ℕ) (at first next : ℕ) → k ≡ i.kind → SpellsWhole i.operator → IsFieldNumber k i.part z → StandsFrom (is_unsigned k) i.presence bytes at first next z → Leaves false i old new (of_integer k z)
-    → JudgesFrom false i old new (of_integer k z) bytes at first next
-whole_given k i old new z bytes at first next same o h s l =
-    let v = of_integer k z in
-    let t = whole_takes k i old new z (drop at bytes) (drop next bytes) same o h s.spelt l.entry in (
-      subst (λ (x : Kind). IsTrue (is_of x v)) same (of_kind k z h.number),
-      record {
-        read = t.read;
-        entry = t.entry;
-        best = bit_zero_is_best i old (Some v) (record { row = left_out i.operator i old (Some v) l.left_out; within = within_number k i.part z h });
-      },
-    )
-
-pub delta_stands : (k : Kind) (i : FieldPart) (old new : Entry) (d : ℤ) (bytes : List ℕ) (at first next : ℕ) → k ≡ i.kind → i.operator ≡ operator.Delta → Adds k i.part d old new → StandsFrom false i.presence bytes at first next d
-    → (v : Scalar) × JudgesFrom true i old new v bytes at first next
-delta_stands k i old new d bytes at first next same o h s = (
-  of_integer k (h.number +ℤ d),
-  λ out.
-      let form = slice_range bytes first next in
-      delta_relays k i old new h.number d (drop at bytes) (drop next bytes) out (out ++ form) same o h.kept h.sum s.spelt h.entry
-      (form, refl, shortest_signed i.presence d form s.form s.short),
-)
-
-whole_sign : (o : Operator) (k : Kind) → SpellsWhole o → sent_unsigned o k ≡ is_unsigned k
-whole_sign operator.Plain k whole = refl
-whole_sign operator.Default k whole = refl
-whole_sign operator.Copy k whole = refl
-whole_sign operator.Increment k whole = refl
-whole_sign o k whole = absurd whole
-
-pub whole_gives : (bit : Bool) (k : Kind) (i : FieldPart) (old new : Entry) (z : ℤ) → k ≡ i.kind → LeavesWhole bit k i.part i old new z → NumberGives bit k i old new z
-whole_gives true k i old new z same l = λ bytes at first next s. (of_integer k z, whole_stands k i old new z bytes at first next same l.whole l.number (rw (whole_sign i.operator k l.whole) at s) l.leaves)
-whole_gives false k i old new z same l = λ bytes at first next s. (of_integer k z, whole_given k i old new z bytes at first next same l.whole l.number (rw (whole_sign i.operator k l.whole) at s) l.leaves)
-
-pub nothing_stands : (i : FieldPart) (e : Entry) (v : Scalar) (bytes : List ℕ) (at : ℕ) → ((bytes out : List ℕ) → Relays i e e v bytes bytes out out) → JudgesFrom true i e e v bytes at at at
-nothing_stands i e v bytes at h = λ out.
-    let rest = drop at bytes in
-    subst (λ (after : List ℕ). Relays i e e v rest rest out after) (sym (settled bytes out at)) (h rest out)
 
 -- ---- numbers by the one that the entry has
 
@@ -110,7 +59,7 @@ number_kept k e y h = absurd h
 next_fits : (k : Kind) (y : ℤ) → IsNumber k y → IsNumber k (next_number k y)
 next_fits k y h = search rules depth 2
 
-pub increment_gives : (k : Kind) (i : FieldPart) (old new : Entry) (y z : ℤ) → k ≡ i.kind → i.operator ≡ operator.Increment → HasNumber k old y → next_number k y ≡ z → new ≡ Assigned (of_integer k z) → Leaves false i old new (of_integer k z)
+pub increment_gives : (k : Kind) (i : FieldPart) (old new : Entry) (y z : ℤ) → k ≡ i.kind → i.operator ≡ operator.Increment → HasNumber k old y → next_number k y ≡ z → new ≡ Assigned (of_integer k z) → Leaves false i old new (Some (of_integer k z))
 increment_gives k i old new y z same o h is entry = record {
   entry = number_next i old new (of_integer k z) o entry;
   left_out = increments k i old y (of_integer k z) same o h ∙ rw is (scalar_eq-same (of_integer k z));
@@ -120,7 +69,7 @@ no_same : (v w : Scalar) (b : Bool) → (v ≡ w → ⊥) → (scalar_eq.eq-valu
 no_same v w true differ e = absurd (differ (scalar_eq-exact v w e))
 no_same v w false differ e = e
 
-pub increment_sends : (k : Kind) (i : FieldPart) (old new : Entry) (y z : ℤ) → k ≡ i.kind → i.operator ≡ operator.Increment → HasNumber k old y → IsNumber k z → (next_number k y ≡ z → ⊥) → new ≡ Assigned (of_integer k z) → Leaves true i old new (of_integer k z)
+pub increment_sends : (k : Kind) (i : FieldPart) (old new : Entry) (y z : ℤ) → k ≡ i.kind → i.operator ≡ operator.Increment → HasNumber k old y → IsNumber k z → (next_number k y ≡ z → ⊥) → new ≡ Assigned (of_integer k z) → Leaves true i old new (Some (of_integer k z))
 increment_sends k i old new y z same o h fits differ entry =
     let v = of_integer k (next_number k y) in
     let w = of_integer k z in

@@ -8,14 +8,9 @@ use Rattle.fast_template.specs.declared.resolved.FieldPart.{FieldPart}
 use Rattle.fast_dictionary.specs.declared.entry.Entry.{Entry}
 use Rattle.fast_dictionary.specs.declared.entry.Entry.TheVariants.{Assigned}
 use Rattle.fast_field.specs.Bases.{next_of}
-use Rattle.fast_relay.specs.Judged.{JudgedTo, JudgesFrom}
+use Rattle.fast_relay.specs.Judged.{JudgedTo}
 use Rattle.fast_relay.specs.Kept.{TakesKept, keeps_value}
 use Rattle.fast_relay.specs.Relayed.{Takes}
-
--- what is judged is read
-pub judged_takes : (bit : Bool) (i : FieldPart) (old new : Entry) (v : Scalar) (bytes : List ℕ) (at first last : ℕ) → JudgesFrom bit i old new v bytes at first last → Takes i old new v (drop at bytes) (drop last bytes)
-judged_takes true i old new v bytes at first last h = record { read = (h []).read; entry = (h []).entry }
-judged_takes false i old new v bytes at first last h = record { read = (h.1).read; entry = (h.1).entry }
 
 kept_value : (o : Operator) (e : Entry) (v : Scalar) → keeps_value o ≡ true → next_of o e (Some v) ≡ Assigned v
 kept_value operator.Copy e v h = refl
@@ -28,4 +23,4 @@ pub kept_takes : {i : FieldPart} {old new : Entry} {v : Scalar} {bytes rest : Li
 kept_takes {i} {old} {new} {v} keeps h = (v, h.entry ∙ kept_value i.operator old v keeps, h)
 
 pub judged_kept : (bit : Bool) (i : FieldPart) (old new : Entry) (bytes : List ℕ) (at first next : ℕ) → keeps_value i.operator ≡ true → at ≤ first → JudgedTo bit i old new bytes at first next → TakesKept i bytes at (Some next) old new
-judged_kept bit i old new bytes at first next keeps from j = (omega (arith, j.place), j.within, kept_takes keeps (judged_takes bit i old new j.gives.0 bytes at first next j.gives.1))
+judged_kept bit i old new bytes at first next keeps from j = (omega (arith, j.place), j.within, kept_takes keeps (record { read = j.gives.1.1.read; entry = j.gives.1.1.entry }))

@@ -1,11 +1,10 @@
-pub mod Runs
-pub mod Relaying
+pub mod Ranges
+pub mod Taking
 mod TextRelaying
 mod PlainTexts
 mod DecimalRelaying
 mod NullRelaying
 mod VectorTexts
-mod Taking
 mod TextTaking
 mod KeptTaking
 pub mod Giving

@@ -1,5 +1,5 @@
--- NULL, read and written at once.
-use Rattle.std.proofs.Common.{◌≡◌, ℕ, true, false, List, [], ◌∷◌, ◌++◌, Ok, refl, sym, ◌∙◌, arith}
+-- NULL, read and judged at once.
+use Rattle.std.proofs.Common.{◌≡◌, ℕ, Bool, true, false, List, [], ◌∷◌, ◌++◌, Ok, refl, sym, ◌∙◌, arith}
 use Rattle.std.specs.Prelude.{None}
 use Rattle.fast_wire.specs.declared.level.Level.TheVariants.{Usual}
 use Rattle.fast_wire.specs.Nullable.{IsUnsignedNullable}
@@ -10,17 +10,21 @@ use Rattle.fast_value.specs.declared.kind.Operator.TheVariants as operator
 use Rattle.fast_value.specs.declared.kind.Presence.TheVariants.{Optional}
 use Rattle.fast_template.specs.declared.resolved.FieldPart.{FieldPart}
 use Rattle.fast_dictionary.specs.declared.entry.Entry.{Entry}
-use Rattle.fast_field.specs.Bases.{next}
 use Rattle.fast_field.specs.Best.{IsBest}
 use Rattle.fast_field.specs.FieldReading.{field_at, row_at, whole_at}
-use Rattle.fast_field.specs.Passed.{Passes}
 use Rattle.fast_field.specs.Planning.{left_out_of}
 use Rattle.fast_field.proofs.ChosenForms.{null_best}
 use Rattle.fast_field.proofs.FieldForms.{field_forms}
-use Rattle.fast_field.proofs.WrittenForms.{appends_best}
+use Rattle.fast_field.proofs.BestForms.{bit_zero_is_best}
+use Rattle.fast_field.proofs.BestValues.{left_out}
 use Rattle.fast_relay.specs.Numbers.{SpellsWhole}
-use Rattle.fast_relay.specs.Relayed.{Drops, RelaysNull}
-use Rattle.fast_relay.proofs.Relaying.{whole_row}
+use Rattle.fast_relay.specs.Relayed.{Judges}
+use Rattle.fast_relay.specs.Judged.{Leaves, under}
+use Rattle.fast_relay.proofs.Taking.{whole_row}
+use Rattle.std.proofs.Common.{◌+◌, ◌<◌, length, get_or, drop, ap}
+use Rattle.std.proofs.lemmas.List.{drop_more}
+use Rattle.fast_relay.specs.Best.{HasBest}
+use Rattle.fast_relay.proofs.Ranges.{byte_range, range_none}
 
 null_form : IsUnsignedNullable (128 ∷ []) Null
 null_form = record { entity = (omega arith, omega arith); short = omega arith; value = refl }
@@ -48,22 +52,49 @@ read_plain : (i : FieldPart) (e : Entry) (bytes : List ℕ) → SpellsWhole i.op
 unfolding field_at
 read_plain i e bytes o = rw (as_plain i e bytes o) refl
 
-pub null_read : (i : FieldPart) (e : Entry) (rest : List ℕ) → SpellsWhole i.operator → i.presence ≡ Optional → field_at Usual i e true (128 ∷ rest) ≡ Ok (None, rest)
+null_read : (i : FieldPart) (e : Entry) (rest : List ℕ) → SpellsWhole i.operator → i.presence ≡ Optional → field_at Usual i e true (128 ∷ rest) ≡ Ok (None, rest)
 null_read i e rest o optional = read_plain i e (128 ∷ rest) o ∙ read (plain i) e rest optional refl
 
-null_sent : (i : FieldPart) (old new : Entry) (bytes rest before after : List ℕ) → i.presence ≡ Optional → left_out_of i.operator i old None ≡ false → new ≡ next i old None → after ≡ before ++ (128 ∷ [])
-    → ((more : List ℕ) → field_at Usual i old true (bytes ++ more) ≡ Ok (None, rest ++ more)) → RelaysNull i old new bytes rest before after
-null_sent i old new bytes rest before after optional out entry appended goes = record {
-  read = goes;
-  entry = entry;
-  best = appends_best i old None true (λ b. IsShortest IsUnsignedNullable b Null) before after (λ b s. best i old b optional out s) (128 ∷ [], appended, null_shortest);
+pub null_judges : (bit : Bool) (i : FieldPart) (old new : Entry) (rest : List ℕ) → i.presence ≡ Optional → (bit ≡ false → SpellsWhole i.operator) → Leaves bit i old new None → Judges bit (under bit (128 ∷ [])) i old new None (128 ∷ rest) rest
+null_judges true i old new rest optional whole l = record {
+  read = λ more. read i old (rest ++ more) optional l.left_out;
+  entry = l.entry;
+  best = best i old (128 ∷ []) optional l.left_out null_shortest;
+}
+null_judges false i old new rest optional whole l = record {
+  read = λ more. null_read i old (rest ++ more) (whole refl) optional;
+  entry = l.entry;
+  best = bit_zero_is_best i old None (record { row = left_out i.operator i old None l.left_out; within = tt });
 }
 
-pub null_relays : (i : FieldPart) (old new : Entry) (rest before after : List ℕ) → i.presence ≡ Optional → left_out_of i.operator i old None ≡ false → new ≡ next i old None → after ≡ before ++ (128 ∷ []) → RelaysNull i old new (128 ∷ rest) rest before after
-null_relays i old new rest before after optional out entry appended =
-    null_sent i old new (128 ∷ rest) rest before after optional out entry appended (λ more. read i old (rest ++ more) optional out)
+-- ---- at a place
 
--- ---- NULL that bit 0 gives
+first_of : List ℕ → ℕ
+first_of [] = 0
+first_of (x ∷ xs) = x
 
-pub short_null_drops : (i : FieldPart) (e : Entry) (rest : List ℕ) → SpellsWhole i.operator → i.presence ≡ Optional → Passes i e e None → Drops i e e None (128 ∷ rest) rest
-short_null_drops i e rest o optional p = record { read = λ more. null_read i e (rest ++ more) o optional; entry = p.entry; best = p.best }
+pub null_byte : (bytes : List ℕ) (at : ℕ) → at < length bytes → drop at bytes ≡ 128 ∷ drop (at + 1) bytes → get_or bytes at 0 ≡ 128
+unfolding first_of
+null_byte bytes at there h = ap first_of (sym (drop_more bytes at 0 there) ∙ h)
+
+pub null_stands : (i : FieldPart) (old new : Entry) (bytes : List ℕ) (at : ℕ) → at < length bytes → drop at bytes ≡ 128 ∷ drop (at + 1) bytes → i.presence ≡ Optional → Leaves true i old new None
+    → HasBest i old new bytes at (record { there = false; bit = true; removal = None; first = at; next = at + 1 })
+null_stands i old new bytes at there null optional l = record {
+  place = omega arith;
+  first = omega arith;
+  within = omega (arith, there);
+  value = None;
+  is_there = refl;
+  judges = rw (byte_range bytes at there, null_byte bytes at there null, null) (null_judges true i old new (drop (at + 1) bytes) optional (λ none. absurd cc) l);
+}
+
+pub null_given : (i : FieldPart) (e : Entry) (bytes : List ℕ) (at : ℕ) → at < length bytes → drop at bytes ≡ 128 ∷ drop (at + 1) bytes → i.presence ≡ Optional → SpellsWhole i.operator → Leaves false i e e None
+    → HasBest i e e bytes at (record { there = false; bit = false; removal = None; first = at + 1; next = at + 1 })
+null_given i e bytes at there null optional whole l = record {
+  place = omega arith;
+  first = omega arith;
+  within = omega (arith, there);
+  value = None;
+  is_there = refl;
+  judges = rw (range_none bytes (at + 1), null) (null_judges false i e e (drop (at + 1) bytes) optional (λ none. whole) l);
+}

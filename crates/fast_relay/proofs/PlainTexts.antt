@@ -1,4 +1,4 @@
--- Strings that stand in their shortest form, read and written at once.
+-- Strings that stand in their shortest form, read and judged at once.
 use Rattle.std.proofs.Common.{rules, ◌≡◌, ◌≤◌, ◌<◌, ◌+◌, ◌-◌, ◌%◌, true, false, List, ℕ, ◌++◌, Ok, length, take, drop, get_or, zero, suc, [], ◌∷◌, refl, sym, ap, subst, ◌∙◌, arith, length-append, length-drop, append_assoc, slice_range, drop-drop}
 use Rattle.std.specs.Prelude.{Some, ℤ, pos, negsuc, nat_le, nat_lt}
 use Rattle.std.proofs.lemmas.Bool.Decides.{nat_tests}
@@ -33,13 +33,16 @@ use Rattle.fast_field.specs.CommonParts.{IsLongestPrefix, SharesEnd}
 use Rattle.fast_field.specs.FieldReading.{ended_value, limited_value, new_part_behind, part_at, tail_at, unit_delta_at, unit_value, units_at, units_spelled_at}
 use Rattle.fast_relay.specs.Numbers.{SpellsWhole, Spelt}
 use Rattle.fast_field.specs.Planning.{is_same, left_out_of}
-use Rattle.fast_relay.specs.Relayed.{Relays}
 use Rattle.fast_relay.specs.Texts.{GivesCut, GivesTail, IsText}
 use Rattle.fast_field.proofs.BestCuts.{best_at_end}
 use Rattle.fast_field.proofs.BestTails.{shortest_is_best}
 use Rattle.fast_field.proofs.Shortest.{units_is}
-use Rattle.fast_relay.proofs.TextRelaying.{tail_relays, text_delta_relays, whole_text_relays}
 use Rattle.fast_field.proofs.ValuesWithin.{all_append, all_take, part_within, string_within, unit_limit, units_of_string}
+use Rattle.std.specs.Prelude.{Bool, IsTrue}
+use Rattle.fast_value.specs.Scalar.{is_of}
+use Rattle.fast_relay.specs.Judged.{Leaves, under}
+use Rattle.fast_relay.specs.Relayed.{Judges}
+use Rattle.fast_relay.proofs.TextRelaying.{tail_base_is, tail_judges, text_delta_judges, text_judges}
 
 units_plain : (p : Presence) (bytes form rest : List ℕ) → IsPlain bytes form rest → units_at Usual kind.Ascii p bytes ≡ Ok (Value (groups form), rest)
 unfolding units_at part_at
@@ -59,14 +62,14 @@ text_plain bytes form rest h =
     let w = string_within kind.Ascii (groups form) (Ascii (groups form)) tt refl (part_within kind.Ascii form (groups form) h.shortest.form) in
     record { of_units = tt; of_kind = w.0; within = w.1 }
 
-pub plain_relays : (i : FieldPart) (old new : Entry) (bytes form rest before after : List ℕ) → i.kind ≡ kind.Ascii → i.part ≡ part.Whole → SpellsWhole i.operator → IsPlain bytes form rest → new ≡ next i old (Some (Ascii (groups form)))
-    → left_out_of i.operator i old (Some (Ascii (groups form))) ≡ false → (after ≡ before ++ form) → Relays i old new (Ascii (groups form)) bytes rest before after
-plain_relays i old new bytes form rest before after k whole o h entry out appended =
-    whole_text_relays i old new (Ascii (groups form)) bytes rest before after whole o
+pub plain_judges : (bit : Bool) (i : FieldPart) (old new : Entry) (bytes form rest : List ℕ) → i.kind ≡ kind.Ascii → i.part ≡ part.Whole → SpellsWhole i.operator → IsPlain bytes form rest → Leaves bit i old new (Some (Ascii (groups form)))
+    → IsTrue (is_of i.kind (Ascii (groups form))) × Judges bit (under bit form) i old new (Some (Ascii (groups form))) bytes rest
+plain_judges bit i old new bytes form rest k whole o h l =
+    text_judges bit i old new (Ascii (groups form)) bytes rest form whole o
     (subst (λ (k : Kind). IsText k (Ascii (groups form))) (sym k) (text_plain bytes form rest h))
     (subst (λ (k : Kind). units_spelled_at Usual k i.presence bytes ≡ Ok (Some (Ascii (groups form)), rest)) (sym k) (spelled_plain i.presence bytes form rest h))
-    entry out
-    (form, appended, subst (λ (k : Kind). ShortestUnits k i.presence (groups form) form) (sym k) (shortest_plain i.presence bytes form rest h))
+    l
+    (subst (λ (k : Kind). ShortestUnits k i.presence (groups form) form) (sym k) (shortest_plain i.presence bytes form rest h))
 
 -- ---- behind a zero group, which is a preamble
 
@@ -218,20 +221,20 @@ cut_less i base bytes b behind r first next m few le same plain long h =
       read = subst (λ (x : List ℕ). unit_delta_at Usual i (Assigned (Ascii base)) b ≡ Ok (Some (Ascii x), drop next bytes)) value h.read;
     }
 
-pub plain_delta_relays : (i : FieldPart) (base : List ℕ) (r n : ℕ) (bytes form rest before after : List ℕ) → i.kind ≡ kind.Ascii → i.part ≡ part.Whole → i.operator ≡ operator.Delta → IsText kind.Ascii (Ascii base) → n ≡ length base - r → GivesCut i base bytes r form rest
-    → IsLongestPrefix base (take n base ++ groups form) n → SharesEnd base (take n base ++ groups form) n
-    → (b : List ℕ) × (after ≡ before ++ b ++ form) × ShortestSigned i.presence (pos r) b → Relays i (Assigned (Ascii base)) (Assigned (Ascii (take n base ++ groups form))) (Ascii (take n base ++ groups form)) bytes rest before after
-plain_delta_relays i base r n bytes form rest before after k whole o text is cut prefix suffix appended =
+pub plain_delta_judges : (i : FieldPart) (base : List ℕ) (r n : ℕ) (bytes form rest front : List ℕ) → i.kind ≡ kind.Ascii → i.part ≡ part.Whole → i.operator ≡ operator.Delta → IsText kind.Ascii (Ascii base) → n ≡ length base - r → GivesCut i base bytes r form rest
+    → IsLongestPrefix base (take n base ++ groups form) n → SharesEnd base (take n base ++ groups form) n → ShortestSigned i.presence (pos r) front
+    → IsTrue (is_of i.kind (Ascii (take n base ++ groups form))) × Judges true (front ++ form) i (Assigned (Ascii base)) (Assigned (Ascii (take n base ++ groups form))) (Some (Ascii (take n base ++ groups form))) bytes rest
+plain_delta_judges i base r n bytes form rest front k whole o text is cut prefix suffix s =
     let v = take n base ++ groups form in
     let h = cut.plain in
     let long : length v ≤ 65535 = omega (arith, is, cut.short, length-append (take n base) (groups form), length-take-le n base (omega (arith, is)), length-map form (λ b. b % 128)) in
     let t = text_together base form n text (text_plain cut.behind form rest h) long in
-    text_delta_relays i (Ascii base) (Ascii v) (pos r) (groups form) bytes rest before after whole o
+    text_delta_judges i (Ascii base) (Ascii v) (pos r) (groups form) bytes rest (front ++ form) whole o
     (subst (λ (k : Kind). IsText k (Ascii base)) (sym k) text)
     (subst (λ (k : Kind). IsText k (Ascii v)) (sym k) t)
     (subst (λ m. unit_delta_at Usual i (Assigned (Ascii base)) bytes ≡ Ok (Some (Ascii (take m base ++ groups form)), rest)) (sym is) cut.read)
     (subst (λ (k : Kind). IsBestCut k i.presence base v (pos r) (groups form)) (sym k) (best_removal kind.Ascii i.presence base (groups form) r n cut.few cut.within is prefix suffix (plain_least cut.behind form rest h)))
-    (appended.0 ++ form, appended.1 ∙ append_assoc before appended.0 form, record { front = appended.0; back = form; parts = refl; first = appended.2; second = subst (λ (k : Kind). ShortestPart k (groups form) form) (sym k) h.shortest })
+    (record { front = front; back = form; parts = refl; first = s; second = subst (λ (k : Kind). ShortestPart k (groups form) form) (sym k) h.shortest })
 
 pub characters_text : (s : List ℕ) → (length s ≤ 65535) × AllByRecursion (λ c. c < 128) s → IsText kind.Ascii (Ascii s)
 characters_text s h = let w = string_within kind.Ascii s (Ascii s) tt refl h in record { of_units = tt; of_kind = w.0; within = w.1 }
@@ -297,9 +300,10 @@ tail_less i base bytes b behind first next m le end same plain h =
       read = subst (λ (x : List ℕ). tail_at Usual i (Assigned (Ascii base)) b ≡ Ok (Some (Ascii x), drop next bytes)) value h.read;
     }
 
-pub plain_tail_relays : (i : FieldPart) (base : List ℕ) (n : ℕ) (bytes form rest before after : List ℕ) → i.kind ≡ kind.Ascii → i.part ≡ part.Whole → i.operator ≡ operator.Tail → IsText kind.Ascii (Ascii base) → length base ≤ 65535 → n + length form ≡ length base
-    → GivesTail i base bytes form rest → IsLongestPrefix base (take n base ++ groups form) n → (after ≡ before ++ form) → Relays i (Assigned (Ascii base)) (Assigned (Ascii (take n base ++ groups form))) (Ascii (take n base ++ groups form)) bytes rest before after
-plain_tail_relays i base n bytes form rest before after k whole o text short is gives prefix appended =
+pub plain_tail_judges : (i : FieldPart) (base : List ℕ) (n : ℕ) (bytes form rest : List ℕ) → i.kind ≡ kind.Ascii → i.part ≡ part.Whole → i.operator ≡ operator.Tail → IsText kind.Ascii (Ascii base) → length base ≤ 65535 → n + length form ≡ length base
+    → GivesTail i base bytes form rest → IsLongestPrefix base (take n base ++ groups form) n
+    → IsTrue (is_of i.kind (Ascii (take n base ++ groups form))) × Judges true form i (Assigned (Ascii base)) (Assigned (Ascii (take n base ++ groups form))) (Some (Ascii (take n base ++ groups form))) bytes rest
+plain_tail_judges i base n bytes form rest k whole o text short is gives prefix =
     let v = take n base ++ groups form in
     let h = gives.plain in
     let same = length-map form (λ b. b % 128) in
@@ -308,10 +312,10 @@ plain_tail_relays i base n bytes form rest before after k whole o text short is 
     let long : length v ≤ 65535 = omega (arith, short, is, same, length-append (take n base) (groups form), length-take-le n base (omega (arith, is))) in
     let t = text_together base form n text (text_plain gives.behind form rest h) long in
     let read = subst (λ m. tail_at Usual i (Assigned (Ascii base)) bytes ≡ Ok (Some (Ascii (take (length base - m) base ++ groups form)), rest)) (sym same) gives.read in
-    tail_relays i (Ascii base) (Ascii v) (groups form) bytes rest before after whole o
-    (subst (λ (k : Kind). IsText k (Ascii base)) (sym k) text)
+    tail_judges i (Assigned (Ascii base)) (Ascii base) (Ascii v) (groups form) bytes rest form whole o
+    (tail_base_is i (Ascii base) (rw k refl))
     (subst (λ (k : Kind). IsText k (Ascii v)) (sym k) t)
     (subst (λ m. tail_at Usual i (Assigned (Ascii base)) bytes ≡ Ok (Some (Ascii (take m base ++ groups form)), rest)) (sym kept) read)
     (other_end i base v k o (no_same_text base (groups form) n (omega (arith, is, some)) prefix))
     (subst (λ (k : Kind). IsBestTail k i.presence base v (groups form)) (sym k) (best_end i.presence base gives.behind form rest n (omega (arith, is, same)) h prefix))
-    (form, appended, subst (λ (k : Kind). ShortestUnits k i.presence (groups form) form) (sym k) (shortest_plain i.presence gives.behind form rest h))
+    (subst (λ (k : Kind). ShortestUnits k i.presence (groups form) form) (sym k) (shortest_plain i.presence gives.behind form rest h))

@@ -1,5 +1,6 @@
 -- What ASCII strings rest on that are judged as they stand.
-use Rattle.std.proofs.Common.{◌≡◌, ◌≤◌, ◌<◌, ℕ, ◌+◌, ◌-◌, false, List, ◌++◌, length, take, drop, slice_range, refl, sym, ap, ◌∙◌, arith, append_assoc}
+use Rattle.std.proofs.Common.{◌≡◌, ◌≤◌, ◌<◌, ℕ, ◌+◌, ◌-◌, Bool, false, List, ◌++◌, length, take, drop, slice_range, refl, sym, ap, subst, ◌∙◌, arith}
+use Rattle.std.proofs.lemmas.List.{take-append-drop}
 use Rattle.std.specs.Prelude.{pos, Option, Some, true}
 use Rattle.std.specs.List.{AllByRecursion}
 use Rattle.fast_wire.specs.Entity.{groups}
@@ -13,14 +14,18 @@ use Rattle.fast_value.specs.declared.scalar.Scalar.{Scalar}
 use Rattle.fast_value.specs.declared.scalar.Scalar.TheVariants.{Ascii}
 use Rattle.fast_dictionary.specs.declared.entry.Entry.{Entry}
 use Rattle.fast_dictionary.specs.declared.entry.Entry.TheVariants.{Assigned}
-use Rattle.fast_field.specs.Bases.{next as next_entry, next_of}
+use Rattle.fast_field.specs.Bases.{next_of}
+use Rattle.fast_field.proofs.BestForms.{bit_zero_is_best}
+use Rattle.fast_field.proofs.BestValues.{left_out}
 use Rattle.fast_field.specs.CommonParts.{IsLongestPrefix, SharesEnd}
-use Rattle.fast_field.specs.Planning.{left_out_of}
-use Rattle.fast_relay.specs.Judged.{JudgesFrom, StandsAt}
+use Rattle.fast_relay.specs.Judged.{EndGives, JudgedTo, JudgesFrom, Leaves, StandsAt, TextGives}
 use Rattle.fast_relay.specs.Numbers.{KeepsNothing, SpellsWhole}
-use Rattle.fast_relay.proofs.Giving.{tail_drops}
-use Rattle.fast_relay.proofs.PlainTexts.{characters_text, cut_read, plain_delta_relays, plain_relays, plain_tail_relays, tail_read}
-use Rattle.fast_relay.proofs.Runs.{range_split}
+use Rattle.fast_relay.proofs.Giving.{ends_same}
+use Rattle.fast_relay.proofs.PlainTexts.{characters_text, cut_read, plain_delta_judges, plain_judges, plain_tail_judges}
+use Rattle.fast_relay.specs.Relayed.{Takes}
+use Rattle.fast_relay.proofs.TextRelaying.{whole_within}
+use Rattle.fast_relay.proofs.TextTaking.{end_takes}
+use Rattle.fast_relay.proofs.Ranges.{range_split}
 use Rattle.fast_relay.proofs.Standing.{shortest_signed}
 
 abbrev AreCharacters : List ℕ → Type 0
@@ -31,38 +36,37 @@ kept_nowhere operator.Plain e v nothing = refl
 kept_nowhere operator.Default e v nothing = refl
 kept_nowhere o e v nothing = absurd nothing
 
-pub text_stands : (i : FieldPart) (old new : Entry) (bytes : List ℕ) (at first next : ℕ) → i.kind ≡ kind.Ascii → i.part ≡ part.Whole → SpellsWhole i.operator → IsPlain (drop at bytes) (slice_range bytes first next) (drop next bytes)
-    → new ≡ next_entry i old (Some (Ascii (groups (slice_range bytes first next)))) → left_out_of i.operator i old (Some (Ascii (groups (slice_range bytes first next)))) ≡ false
-    → JudgesFrom true i old new (Ascii (groups (slice_range bytes first next))) bytes at first next
-text_stands i old new bytes at first next k whole o h entry sent = λ out.
-    let form = slice_range bytes first next in
-    plain_relays i old new (drop at bytes) form (drop next bytes) out (out ++ form) k whole o h entry sent refl
+pub text_gives : (bit : Bool) (i : FieldPart) (old new : Entry) (form : List ℕ) → i.kind ≡ kind.Ascii → i.part ≡ part.Whole → SpellsWhole i.operator → Leaves bit i old new (Some (Ascii (groups form))) → TextGives bit i old new form
+text_gives bit i old new form k whole o l = λ bytes at first next is plain. (Ascii (groups form), rw is (plain_judges bit i old new (drop at bytes) form (drop next bytes) k whole o plain l))
+
+-- the same of what stands as it is, between two places
+pub text_stands : (i : FieldPart) (old new : Entry) (bytes : List ℕ) (at next : ℕ) → i.kind ≡ kind.Ascii → i.part ≡ part.Whole → SpellsWhole i.operator → at < next → next ≤ length bytes → IsPlain (drop at bytes) (slice_range bytes at next) (drop next bytes)
+    → Leaves true i old new (Some (Ascii (groups (slice_range bytes at next)))) → JudgedTo true i old new bytes at at next
+text_stands i old new bytes at next k whole o before within h l =
+    record { place = omega arith; within = within; gives = text_gives true i old new (slice_range bytes at next) k whole o l bytes at at next refl h }
 
 pub cut_stands : (i : FieldPart) (base bytes : List ℕ) (r at first next : ℕ) → i.kind ≡ kind.Ascii → i.part ≡ part.Whole → i.operator ≡ operator.Delta → AreCharacters base → r < 63 → r ≤ length base → at ≤ first → first ≤ next
     → (length base - r) + length (slice_range bytes first next) ≤ 65535 → StandsAt false i.presence bytes at first (pos r) → IsPlain (drop first bytes) (slice_range bytes first next) (drop next bytes)
     → IsLongestPrefix base (take (length base - r) base ++ groups (slice_range bytes first next)) (length base - r)
     → SharesEnd base (take (length base - r) base ++ groups (slice_range bytes first next)) (length base - r)
     → JudgesFrom true i (Assigned (Ascii base)) (Assigned (Ascii (take (length base - r) base ++ groups (slice_range bytes first next)))) (Ascii (take (length base - r) base ++ groups (slice_range bytes first next))) bytes at at next
-cut_stands i base bytes r at first next k whole o characters few le before behind short s h prefix suffix = λ out.
-    let removal = slice_range bytes at first in
-    let form = slice_range bytes first next in
-    let after : out ++ slice_range bytes at next ≡ (out ++ removal) ++ form =
-    ap (λ (x : List ℕ). out ++ x) (range_split bytes at first next before behind) ∙ sym (append_assoc out removal form) in
-    plain_delta_relays i base r (length base - r) (drop at bytes) form (drop next bytes) out (out ++ slice_range bytes at next) k whole o (characters_text base characters) refl
-    (cut_read i base r (drop at bytes) (drop first bytes) form (drop next bytes) k few le s.spelt h short) prefix suffix
-    (removal, after, shortest_signed i.presence (pos r) removal s.form s.short)
+cut_stands i base bytes r at first next k whole o characters few le before behind short s h prefix suffix =
+    rw (range_split bytes at first next before behind)
+    (plain_delta_judges i base r (length base - r) (drop at bytes) (slice_range bytes first next) (drop next bytes) (slice_range bytes at first) k whole o (characters_text base characters) refl
+    (cut_read i base r (drop at bytes) (drop first bytes) (slice_range bytes first next) (drop next bytes) k few le s.spelt h short) prefix suffix
+    (shortest_signed i.presence (pos r) (slice_range bytes at first) s.form s.short))
 
-pub end_stands : (i : FieldPart) (base bytes : List ℕ) (n at next : ℕ) → i.kind ≡ kind.Ascii → i.part ≡ part.Whole → i.operator ≡ operator.Tail → AreCharacters base → n + length (slice_range bytes at next) ≡ length base
-    → IsPlain (drop at bytes) (slice_range bytes at next) (drop next bytes) → IsLongestPrefix base (take n base ++ groups (slice_range bytes at next)) n
-    → JudgesFrom true i (Assigned (Ascii base)) (Assigned (Ascii (take n base ++ groups (slice_range bytes at next)))) (Ascii (take n base ++ groups (slice_range bytes at next))) bytes at at next
-end_stands i base bytes n at next k whole o characters is h prefix = λ out.
-    let form = slice_range bytes at next in
-    plain_tail_relays i base n (drop at bytes) form (drop next bytes) out (out ++ form) k whole o (characters_text base characters) characters.0 is
-    (tail_read i base (drop at bytes) form (drop next bytes) k characters.0 (omega (arith, is)) h) prefix refl
+pub end_stands : (i : FieldPart) (base form : List ℕ) → i.kind ≡ kind.Ascii → i.part ≡ part.Whole → i.operator ≡ operator.Tail → AreCharacters base → length form ≤ length base → IsLongestPrefix base (take (length base - length form) base ++ groups form) (length base - length form)
+    → EndGives true i base (take (length base - length form) base ++ groups form) form
+end_stands i base form k whole o characters le prefix = λ bytes at first next is h. (
+  Ascii (take (length base - length form) base ++ groups form),
+  rw is (plain_tail_judges i base (length base - length form) (drop at bytes) form (drop next bytes) k whole o (characters_text base characters) characters.0 (omega arith) h prefix),
+)
 
-pub end_given : (i : FieldPart) (base bytes : List ℕ) (at next : ℕ) → i.kind ≡ kind.Ascii → i.part ≡ part.Whole → i.operator ≡ operator.Tail → length base ≤ 65535 → length (slice_range bytes at next) ≤ length base
-    → IsPlain (drop at bytes) (slice_range bytes at next) (drop next bytes) → drop (length base - length (slice_range bytes at next)) base ≡ groups (slice_range bytes at next)
-    → JudgesFrom false i (Assigned (Ascii base)) (Assigned (Ascii base)) (Ascii base) bytes at at next
-end_given i base bytes at next k whole o short le h same =
-    let form = slice_range bytes at next in
-    (rw k refl, tail_drops i base (drop at bytes) form (drop next bytes) k whole o (tail_read i base (drop at bytes) form (drop next bytes) k short le h) same)
+pub end_given : (i : FieldPart) (base form : List ℕ) → i.kind ≡ kind.Ascii → i.part ≡ part.Whole → i.operator ≡ operator.Tail → drop (length base - length form) base ≡ groups form → EndGives false i base base form
+end_given i base form k whole o same = λ bytes at first next is h.
+    let v = Ascii base in
+    let value : take (length base - length form) base ++ groups form ≡ base = ap (λ (x : List ℕ). take (length base - length form) base ++ x) (sym same) ∙ take-append-drop (length base - length form) base in
+    let t = subst (λ (x : List ℕ). Takes i (Assigned v) (Assigned (Ascii x)) (Ascii x) (drop at bytes) (drop next bytes)) value (end_takes whole o h) in
+    let l = ends_same i v o (rw k refl) in
+    (v, (rw k refl, record { read = t.read; entry = t.entry; best = bit_zero_is_best i (Assigned v) (Some v) (record { row = left_out i.operator i (Assigned v) (Some v) l.left_out; within = whole_within i.part v whole }) }))

@@ -1,30 +1,100 @@
--- What integers that are read at once rest on.
-use Rattle.std.proofs.Common.{◌≡◌, ℕ, true, false, List, Ok, refl, sym, subst, ◌∙◌}
-use Rattle.std.specs.Prelude.{ℤ, ◌+ℤ◌, Some, IsTrue}
+-- What fields that are read and judged at once rest on; here numbers and constants.
+use Rattle.std.proofs.Common.{◌≡◌, ℕ, Bool, true, false, not, List, [], Ok, drop, slice_range, refl, sym, subst, ◌∙◌, arith}
+use Rattle.std.specs.Prelude.{ℤ, ◌+ℤ◌, ◌-ℤ◌, Option, Some, IsTrue}
+use Rattle.std.proofs.lemmas.Int.{ints}
 use Rattle.fast_wire.specs.declared.level.Level.TheVariants.{Usual}
-use Rattle.fast_value.specs.Scalar.{in_range, of_integer}
+use Rattle.fast_value.specs.Scalar.{is_of, is_integer, in_range, of_integer}
 use Rattle.fast_value.specs.declared.kind.Kind.{Kind}
+use Rattle.fast_value.specs.declared.kind.Kind.TheVariants as kind
+use Rattle.fast_value.specs.declared.kind.Operator.{Operator}
 use Rattle.fast_value.specs.declared.kind.Operator.TheVariants as operator
+use Rattle.fast_value.specs.declared.kind.Part.{Part}
+use Rattle.fast_value.specs.declared.kind.Presence.{Presence}
 use Rattle.fast_template.specs.declared.resolved.FieldPart.{FieldPart}
 use Rattle.fast_value.specs.declared.scalar.Scalar.{Scalar}
 use Rattle.fast_dictionary.specs.declared.entry.Entry.{Entry}
 use Rattle.fast_dictionary.specs.declared.entry.Entry.TheVariants.{Assigned}
-use Rattle.fast_field.specs.Bases.{next}
-use Rattle.fast_field.specs.FieldReading.{row_at}
-use Rattle.fast_field.specs.Fields.{within_part}
-use Rattle.fast_field.specs.Numbers.{IsFieldNumber, IsNumberOf, HasNumber}
+use Rattle.fast_field.specs.Bases.{delta_base, next}
+use Rattle.fast_field.specs.Chosen.{ShortestSigned, ShortestWhole}
+use Rattle.fast_field.specs.Deltas.{DeltaForm}
+use Rattle.fast_field.specs.FieldReading.{integer_value, integer_spelled_at, spelled_at, integer_sum, integer_delta_at, delta_at, whole_at, row_at, field_at}
+use Rattle.fast_field.specs.Fields.{FormOf, IsWithin, within_part}
+use Rattle.fast_field.specs.Numbers.{IsNumber, IsFieldNumber, IsNumberOf, HasNumber}
+use Rattle.fast_field.specs.Planning.{left_out_of}
 use Rattle.fast_field.specs.Values.{integer_of, is_unsigned}
+use Rattle.fast_field.proofs.BestDeltas.{IsFirst}
+use Rattle.fast_field.proofs.BestValues.{whole_is_first, delta_is_first, best_under_one, constant_is_first, left_out}
+use Rattle.fast_field.proofs.BestForms.{bit_zero_is_best}
+use Rattle.fast_field.proofs.ChosenForms.{whole_shortest, number_value}
+use Rattle.fast_field.proofs.FieldForms.{checked_is}
 use Rattle.fast_field.proofs.FieldsGoOn.{field_goes}
-use Rattle.fast_field.proofs.Passing.{within_number, kind_is, number_is}
+use Rattle.fast_field.proofs.Passing.{of_type, of_kind, number_back, within_number, kind_is, number_is}
 use Rattle.fast_relay.specs.Numbers.{SpellsWhole, Spelt}
-use Rattle.fast_relay.specs.Relayed.{Takes}
-use Rattle.fast_relay.proofs.Relaying.{whole_row, whole_read, row_read, base_is, delta_as, delta_read, delta_row}
+use Rattle.fast_relay.specs.Judged.{Adds, JudgesFrom, Leaves, LeavesWhole, NumberGives, StandsFrom, sent_unsigned, under}
+use Rattle.fast_relay.specs.Relayed.{Judges, Takes}
+use Rattle.fast_relay.proofs.Ranges.{range_none}
+use Rattle.fast_relay.proofs.Standing.{shortest_signed, shortest_whole}
+
+-- ---- bit 1
+
+spelled_number : (pt : Part) (k : Kind) (p : Presence) (bytes rest : List ℕ) (z : ℤ) → IsNumber k z → Spelt (is_unsigned k) p bytes z rest → integer_spelled_at Usual pt k p bytes ≡ Ok (Some (of_integer k z), rest)
+unfolding integer_spelled_at integer_value
+spelled_number pt k p bytes rest z n h = rw (h, n.range) refl
+
+spelled_as : (pt : Part) (k : Kind) (p : Presence) (bytes : List ℕ) → IsTrue (is_integer k) → spelled_at Usual pt k p bytes ≡ integer_spelled_at Usual pt k p bytes
+unfolding spelled_at
+spelled_as pt kind.UInt32 p bytes h = refl
+spelled_as pt kind.Int32 p bytes h = refl
+spelled_as pt kind.UInt64 p bytes h = refl
+spelled_as pt kind.Int64 p bytes h = refl
+spelled_as pt k p bytes h = absurd cc
+
+pub whole_read : (i : FieldPart) (bytes rest : List ℕ) (z : ℤ) → IsNumber i.kind z → Spelt (is_unsigned i.kind) i.presence bytes z rest → whole_at Usual i bytes ≡ Ok (Some (of_integer i.kind z), rest)
+unfolding whole_at
+whole_read i bytes rest z n h = spelled_as i.part i.kind i.presence bytes n.integer ∙ spelled_number i.part i.kind i.presence bytes rest z n h
+
+pub whole_row : (o : Operator) (i : FieldPart) (e : Entry) (bytes : List ℕ) → SpellsWhole o → row_at Usual o i e true bytes ≡ whole_at Usual i bytes
+unfolding row_at
+whole_row operator.Plain i e bytes h = refl
+whole_row operator.Default i e bytes h = refl
+whole_row operator.Copy i e bytes h = refl
+whole_row operator.Increment i e bytes h = refl
+whole_row o i e bytes h = absurd h
+
+pub row_read : (i : FieldPart) (e : Entry) (bytes rest : List ℕ) (v : Option Scalar) → row_at Usual i.operator i e true bytes ≡ Ok (v, rest) → IsWithin i.part v → field_at Usual i e true bytes ≡ Ok (v, rest)
+unfolding field_at
+row_read i e bytes rest v h within = rw (h, checked_is i.part v within) refl
+
+whole_first : (o : Operator) (i : FieldPart) (e : Entry) (z : ℤ) (b : List ℕ) → SpellsWhole o → IsNumber i.kind z → ShortestWhole i.presence (of_integer i.kind z) b → IsFirst (λ c b. FormOf Usual o i e true c b (Some (of_integer i.kind z))) b
+whole_first operator.Plain i e z b o h s = whole_is_first i.kind i.presence (Some (of_integer i.kind z)) b (whole_shortest i.kind i.presence (of_integer i.kind z) b (of_type i.kind z h) s)
+whole_first operator.Default i e z b o h s = whole_is_first i.kind i.presence (Some (of_integer i.kind z)) b (whole_shortest i.kind i.presence (of_integer i.kind z) b (of_type i.kind z h) s)
+whole_first operator.Copy i e z b o h s = whole_is_first i.kind i.presence (Some (of_integer i.kind z)) b (whole_shortest i.kind i.presence (of_integer i.kind z) b (of_type i.kind z h) s)
+whole_first operator.Increment i e z b o h s = whole_is_first i.kind i.presence (Some (of_integer i.kind z)) b (whole_shortest i.kind i.presence (of_integer i.kind z) b (of_type i.kind z h) s)
+whole_first o' i e z b o h s = absurd o
 
 pub takes : (i : FieldPart) (old new : Entry) (v : Scalar) (bytes rest : List ℕ) → IsTrue (within_part i.part v) → row_at Usual i.operator i old true bytes ≡ Ok (Some v, rest) → new ≡ next i old (Some v) → Takes i old new v bytes rest
 takes i old new v bytes rest within row entry = record {
   read = λ more. field_goes Usual i old true bytes (Some v) rest more (row_read i old bytes rest (Some v) row within);
   entry = entry;
 }
+
+-- what is taken is judged: its best form is bit 0 where that gives the value, and else the form that comes first
+pub judges : (bit : Bool) (i : FieldPart) (old new : Entry) (v : Scalar) (bytes rest form : List ℕ) → IsTrue (is_of i.kind v) → IsTrue (within_part i.part v) → Takes i old new v bytes rest → left_out_of i.operator i old (Some v) ≡ not bit
+    → IsFirst (λ c b. FormOf Usual i.operator i old true c b (Some v)) form → IsTrue (is_of i.kind v) × Judges bit (under bit form) i old new (Some v) bytes rest
+judges true i old new v bytes rest form of_kind within t out first = (of_kind, record { read = t.read; entry = t.entry; best = best_under_one i old (Some v) form within first out })
+judges false i old new v bytes rest form of_kind within t out first =
+    (of_kind, record { read = t.read; entry = t.entry; best = bit_zero_is_best i old (Some v) (record { row = left_out i.operator i old (Some v) out; within = within }) })
+
+constant_row : (o : Operator) (i : FieldPart) (e : Entry) (v : Scalar) (bytes : List ℕ) → o ≡ operator.Constant → i.initial ≡ Some v → row_at Usual o i e true bytes ≡ Ok (Some v, bytes)
+unfolding row_at
+constant_row operator.Constant i e v bytes o initial = rw initial refl
+constant_row o' i e v bytes o initial = absurd cc
+
+pub constant_stands : (i : FieldPart) (e : Entry) (v : Scalar) (bytes : List ℕ) (at : ℕ) → i.operator ≡ operator.Constant → i.initial ≡ Some v → is_of i.kind v ≡ true → IsTrue (within_part i.part v) → JudgesFrom true i e e v bytes at at at
+constant_stands i e v bytes at o initial is within =
+    rw (range_none bytes at)
+    (judges true i e e v (drop at bytes) (drop at bytes) [] is within (takes i e e v (drop at bytes) (drop at bytes) within (constant_row i.operator i e v (drop at bytes) o initial) (rw o refl)) (rw o refl)
+    (subst (λ (o : Operator). IsFirst (λ c b. FormOf Usual o i e true c b (Some v)) []) (sym o) (constant_is_first i e v (sym initial))))
 
 typed_takes : (i : FieldPart) (old new : Entry) (z : ℤ) (bytes rest : List ℕ) → SpellsWhole i.operator → IsFieldNumber i.kind i.part z → Spelt (is_unsigned i.kind) i.presence bytes z rest → new ≡ next i old (Some (of_integer i.kind z))
     → Takes i old new (of_integer i.kind z) bytes rest
@@ -37,6 +107,63 @@ whole_takes k i old new z bytes rest same o =
     subst (λ (k : Kind). IsFieldNumber k i.part z → Spelt (is_unsigned k) i.presence bytes z rest → new ≡ next i old (Some (of_integer k z)) → Takes i old new (of_integer k z) bytes rest)
     (sym same)
     (typed_takes i old new z bytes rest o)
+
+pub typed_judges : (bit : Bool) (i : FieldPart) (old new : Entry) (z : ℤ) (bytes : List ℕ) (at first next : ℕ) → LeavesWhole bit i.kind i.part i old new z → StandsFrom (is_unsigned i.kind) i.presence bytes at first next z
+    → JudgesFrom bit i old new (of_integer i.kind z) bytes at first next
+typed_judges bit i old new z bytes at first next l s =
+    let v = of_integer i.kind z in
+    let form = slice_range bytes first next in
+    judges bit i old new v (drop at bytes) (drop next bytes) form (of_kind i.kind z l.number.number) (within_number i.kind i.part z l.number)
+    (typed_takes i old new z (drop at bytes) (drop next bytes) l.whole l.number s.spelt l.leaves.entry) l.leaves.left_out
+    (whole_first i.operator i old z form l.whole l.number.number (shortest_whole i.kind i.presence z form l.number.number.integer s.form s.short))
+
+whole_sign : (o : Operator) (k : Kind) → SpellsWhole o → sent_unsigned o k ≡ is_unsigned k
+whole_sign operator.Plain k whole = refl
+whole_sign operator.Default k whole = refl
+whole_sign operator.Copy k whole = refl
+whole_sign operator.Increment k whole = refl
+whole_sign o k whole = absurd whole
+
+typed_gives : (bit : Bool) (i : FieldPart) (old new : Entry) (z : ℤ) → LeavesWhole bit i.kind i.part i old new z → NumberGives bit i.kind i old new z
+typed_gives bit i old new z l = λ bytes at first next s. (of_integer i.kind z, typed_judges bit i old new z bytes at first next l (rw (whole_sign i.operator i.kind l.whole) at s))
+
+pub whole_gives : (bit : Bool) (k : Kind) (i : FieldPart) (old new : Entry) (z : ℤ) → k ≡ i.kind → LeavesWhole bit k i.part i old new z → NumberGives bit k i old new z
+whole_gives bit k i old new z same = subst (λ (k : Kind). LeavesWhole bit k i.part i old new z → NumberGives bit k i old new z) (sym same) (typed_gives bit i old new z)
+
+-- ---- deltas
+
+pub delta_as : (k : Kind) (i : FieldPart) (e : Entry) (bytes : List ℕ) → IsTrue (is_integer k) → delta_at Usual k i e bytes ≡ integer_delta_at Usual i e bytes
+unfolding delta_at
+delta_as kind.UInt32 i e bytes h = refl
+delta_as kind.Int32 i e bytes h = refl
+delta_as kind.UInt64 i e bytes h = refl
+delta_as kind.Int64 i e bytes h = refl
+delta_as k i e bytes h = absurd cc
+
+pub base_is : (i : FieldPart) (v : Scalar) → is_of i.kind v ≡ true → delta_base i (Assigned v) ≡ Ok v
+base_is i v is = rw is refl
+
+pub delta_read : (i : FieldPart) (e : Entry) (base : Scalar) (bytes rest : List ℕ) (d : ℤ) → delta_base i e ≡ Ok base → IsTrue (in_range i.kind (integer_of base +ℤ d)) → Spelt false i.presence bytes d rest
+    → integer_delta_at Usual i e bytes ≡ Ok (Some (of_integer i.kind (integer_of base +ℤ d)), rest)
+unfolding integer_delta_at integer_sum integer_value
+delta_read i e base bytes rest d is range h = rw (h, is, range) refl
+
+pub delta_row : (o : Operator) (i : FieldPart) (e : Entry) (bytes : List ℕ) → o ≡ operator.Delta → row_at Usual o i e true bytes ≡ delta_at Usual i.kind i e bytes
+unfolding row_at
+delta_row operator.Delta i e bytes o = refl
+delta_row o' i e bytes o = absurd cc
+
+pub added_back : (z d : ℤ) → d ≡ (z +ℤ d) -ℤ z
+added_back z d = omega (arith, ints)
+
+delta_first : (i : FieldPart) (v : Scalar) (z d : ℤ) (b : List ℕ) → IsNumberOf i.kind v z → IsNumber i.kind (z +ℤ d) → ShortestSigned i.presence d b → IsFirst (λ c b. DeltaForm Usual i (Assigned v) c b (Some (of_integer i.kind (z +ℤ d)))) b
+delta_first i v z d b is h s =
+    let w = of_integer i.kind (z +ℤ d) in
+    let e : d ≡ integer_of w -ℤ integer_of v = rw (number_back i.kind (z +ℤ d) h, number_is i.kind v z is) (added_back z d) in
+    delta_is_first i (Assigned v) v w b (base_is i v (kind_is i.kind v z is)) (number_value i.kind i.presence v w b h.integer (of_type i.kind (z +ℤ d) h) (subst (λ (x : ℤ). ShortestSigned i.presence x b) e s))
+
+pub delta_out : (i : FieldPart) (e : Entry) (v : Option Scalar) → i.operator ≡ operator.Delta → left_out_of i.operator i e v ≡ false
+delta_out i e v o = rw o refl
 
 assigned_takes : (i : FieldPart) (v : Scalar) (new : Entry) (z d : ℤ) (bytes rest : List ℕ) → i.operator ≡ operator.Delta → IsNumberOf i.kind v z → IsFieldNumber i.kind i.part (z +ℤ d) → Spelt false i.presence bytes d rest
     → new ≡ Assigned (of_integer i.kind (z +ℤ d)) → Takes i (Assigned v) new (of_integer i.kind (z +ℤ d)) bytes rest
@@ -59,3 +186,21 @@ delta_takes {k} {i} {old} {new} {bytes} {rest} z d same o =
     subst (λ (k : Kind). HasNumber k old z → IsFieldNumber k i.part (z +ℤ d) → Spelt false i.presence bytes d rest → new ≡ Assigned (of_integer k (z +ℤ d)) → Takes i old new (of_integer k (z +ℤ d)) bytes rest)
     (sym same)
     (entry_takes i old new z d bytes rest o)
+
+entry_first : (i : FieldPart) (old : Entry) (z d : ℤ) (b : List ℕ) → HasNumber i.kind old z → IsNumber i.kind (z +ℤ d) → ShortestSigned i.presence d b → IsFirst (λ c b. DeltaForm Usual i old c b (Some (of_integer i.kind (z +ℤ d)))) b
+entry_first i (Assigned v) z d b is h s = delta_first i v z d b is h s
+entry_first i old z d b is h s = absurd is
+
+typed_adds : (i : FieldPart) (old new : Entry) (d : ℤ) → i.operator ≡ operator.Delta → Adds i.kind i.part d old new → NumberGives true i.kind i old new d
+typed_adds i old new d o h = λ bytes at first next s.
+    let w = of_integer i.kind (h.number +ℤ d) in
+    let form = slice_range bytes first next in
+    let sent = rw (o) at s in (
+      w,
+      judges true i old new w (drop at bytes) (drop next bytes) form (of_kind i.kind (h.number +ℤ d) h.sum.number) (within_number i.kind i.part (h.number +ℤ d) h.sum)
+          (delta_takes h.number d refl o h.kept h.sum sent.spelt h.entry) (delta_out i old (Some w) o)
+          (subst (λ (o : Operator). IsFirst (λ c b. FormOf Usual o i old true c b (Some w)) form) (sym o) (entry_first i old h.number d form h.kept h.sum.number (shortest_signed i.presence d form sent.form sent.short))),
+    )
+
+pub added_gives : (k : Kind) (i : FieldPart) (old new : Entry) (d : ℤ) → k ≡ i.kind → i.operator ≡ operator.Delta → Adds k i.part d old new → NumberGives true k i old new d
+added_gives k i old new d same o = subst (λ (k : Kind). Adds k i.part d old new → NumberGives true k i old new d) (sym same) (typed_adds i old new d o)

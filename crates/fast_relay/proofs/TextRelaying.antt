@@ -1,4 +1,4 @@
--- What strings and vectors that are read and written at once rest on.
+-- What strings and vectors that are read and judged at once rest on.
 use Rattle.std.proofs.Common.{◌≡◌, ◌≤◌, true, false, List, ℕ, ◌++◌, Ok, length, refl, sym, subst, ◌∙◌}
 use Rattle.std.specs.Prelude.{ℤ, Some, IsTrue}
 use Rattle.fast_wire.specs.declared.level.Level.TheVariants.{Usual}
@@ -22,7 +22,6 @@ use Rattle.fast_field.specs.FieldReading.{delta_at, row_at, spelled_at, tail_at,
 use Rattle.fast_field.specs.Fields.{FormOf, within_part}
 use Rattle.fast_relay.specs.Numbers.{SpellsWhole}
 use Rattle.fast_field.specs.Planning.{left_out_of}
-use Rattle.fast_relay.specs.Relayed.{Relays}
 use Rattle.fast_field.specs.Spelled.{Spelled}
 use Rattle.fast_relay.specs.Texts.{IsText}
 use Rattle.fast_field.specs.Values.{units_of, IsUnitKind}
@@ -30,10 +29,14 @@ use Rattle.fast_field.proofs.BestDeltas.{IsFirst}
 use Rattle.fast_field.proofs.BestTails.{tail_is_first}
 use Rattle.fast_field.proofs.BestValues.{delta_is_first, tail_form_is_first, whole_is_first}
 use Rattle.fast_field.proofs.ChosenForms.{few_units, string_value}
-use Rattle.fast_relay.proofs.Relaying.{base_is, delta_out, delta_row, relays, whole_row}
+use Rattle.fast_relay.proofs.Taking.{base_is, delta_out, delta_row, judges, takes, whole_row}
 use Rattle.fast_field.proofs.Shortest.{units_form}
 use Rattle.fast_field.proofs.StandingForms.{string_is_shortest}
 use Rattle.fast_field.proofs.ValuesWithin.{IsOfType}
+use Rattle.std.proofs.Common.{Bool}
+use Rattle.fast_value.specs.Scalar.{is_of}
+use Rattle.fast_relay.specs.Judged.{Leaves, under}
+use Rattle.fast_relay.specs.Relayed.{Judges}
 
 pub whole_within : (p : Part) (v : Scalar) → p ≡ part.Whole → IsTrue (within_part p v)
 whole_within p v is = rw is refl
@@ -61,14 +64,11 @@ text_first operator.Copy i e v b o h s = whole_is_first i.kind i.presence (Some 
 text_first operator.Increment i e v b o h s = whole_is_first i.kind i.presence (Some v) b (text_shortest i.kind i.presence v b h s)
 text_first o' i e v b o h s = absurd o
 
-pub whole_text_relays : (i : FieldPart) (old new : Entry) (v : Scalar) (bytes rest before after : List ℕ) → i.part ≡ part.Whole → SpellsWhole i.operator → IsText i.kind v → units_spelled_at Usual i.kind i.presence bytes ≡ Ok (Some v, rest)
-    → new ≡ next i old (Some v) → left_out_of i.operator i old (Some v) ≡ false → (b : List ℕ) × (after ≡ before ++ b) × ShortestUnits i.kind i.presence (units_of v) b → Relays i old new v bytes rest before after
-whole_text_relays i old new v bytes rest before after whole o h read entry out appended =
-    relays i old new v bytes rest before after (ShortestUnits i.kind i.presence (units_of v)) h.of_kind (whole_within i.part v whole)
-    (whole_row i.operator i old bytes o ∙ text_read i v bytes rest h.of_units read)
-    entry out
-    (λ b s. text_first i.operator i old v b o h s)
-    appended
+pub text_judges : (bit : Bool) (i : FieldPart) (old new : Entry) (v : Scalar) (bytes rest form : List ℕ) → i.part ≡ part.Whole → SpellsWhole i.operator → IsText i.kind v → units_spelled_at Usual i.kind i.presence bytes ≡ Ok (Some v, rest) → Leaves bit i old new (Some v)
+    → ShortestUnits i.kind i.presence (units_of v) form → IsTrue (is_of i.kind v) × Judges bit (under bit form) i old new (Some v) bytes rest
+text_judges bit i old new v bytes rest form whole o h read l s =
+    let within = whole_within i.part v whole in
+    judges bit i old new v bytes rest form h.of_kind within (takes i old new v bytes rest within (whole_row i.operator i old bytes o ∙ text_read i v bytes rest h.of_units read) l.entry) l.left_out (text_first i.operator i old v form o h s)
 
 -- ---- deltas
 
@@ -91,16 +91,15 @@ cut_first i base v removal new_part b h l best s =
     delta_is_first i (Assigned base) base v b (base_is i base h.of_kind)
     (string_value i.kind i.presence base v removal new_part b h.of_units (text_of_type i.kind base h) (text_of_type i.kind v l) best s)
 
-pub text_delta_relays : (i : FieldPart) (base v : Scalar) (removal : ℤ) (new_part bytes rest before after : List ℕ) → i.part ≡ part.Whole → i.operator ≡ operator.Delta → IsText i.kind base → IsText i.kind v → unit_delta_at Usual i (Assigned base) bytes ≡ Ok (Some v, rest)
-    → IsBestCut i.kind i.presence (units_of base) (units_of v) removal new_part → (b : List ℕ) × (after ≡ before ++ b) × Both (ShortestSigned i.presence removal) (ShortestPart i.kind new_part) b → Relays i (Assigned base) (Assigned v) v bytes rest before after
-text_delta_relays i base v removal new_part bytes rest before after whole o h l read best appended =
-    let last : next i (Assigned base) (Some v) ≡ Assigned v = rw o refl in
-    relays i (Assigned base) (Assigned v) v bytes rest before after (Both (ShortestSigned i.presence removal) (ShortestPart i.kind new_part)) l.of_kind (whole_within i.part v whole)
-    (delta_row i.operator i (Assigned base) bytes o ∙ delta_as i.kind i (Assigned base) bytes h.of_units ∙ read)
-    (sym last)
-    (delta_out i (Assigned base) (Some v) o)
-    (λ b s. subst (λ (o : Operator). IsFirst (λ c b. FormOf Usual o i (Assigned base) true c b (Some v)) b) (sym o) (cut_first i base v removal new_part b h l best s))
-    appended
+pub text_delta_judges : (i : FieldPart) (base v : Scalar) (removal : ℤ) (new_part bytes rest form : List ℕ) → i.part ≡ part.Whole → i.operator ≡ operator.Delta → IsText i.kind base → IsText i.kind v → unit_delta_at Usual i (Assigned base) bytes ≡ Ok (Some v, rest)
+    → IsBestCut i.kind i.presence (units_of base) (units_of v) removal new_part → Both (ShortestSigned i.presence removal) (ShortestPart i.kind new_part) form → IsTrue (is_of i.kind v) × Judges true form i (Assigned base) (Assigned v) (Some v) bytes rest
+text_delta_judges i base v removal new_part bytes rest form whole o h l read best s =
+    let old = Assigned base in
+    let within = whole_within i.part v whole in
+    judges true i old (Assigned v) v bytes rest form l.of_kind within
+    (takes i old (Assigned v) v bytes rest within (delta_row i.operator i old bytes o ∙ delta_as i.kind i old bytes h.of_units ∙ read) (rw o refl))
+    (delta_out i old (Some v) o)
+    (subst (λ (o : Operator). IsFirst (λ c b. FormOf Usual o i old true c b (Some v)) form) (sym o) (cut_first i base v removal new_part form h l best s))
 
 -- ---- tails
 
@@ -109,36 +108,13 @@ unfolding row_at
 tail_row operator.Tail i e bytes o = refl
 tail_row o' i e bytes o = absurd cc
 
-tail_base_is : (i : FieldPart) (v : Scalar) → is_of i.kind v ≡ true → tail_base i (Assigned v) ≡ Ok v
+pub tail_base_is : (i : FieldPart) (v : Scalar) → is_of i.kind v ≡ true → tail_base i (Assigned v) ≡ Ok v
 tail_base_is i v is = rw is refl
 
-ended_first : (i : FieldPart) (base v : Scalar) (tail b : List ℕ) → IsText i.kind base → IsText i.kind v → IsBestTail i.kind i.presence (units_of base) (units_of v) tail
-    → ShortestUnits i.kind i.presence tail b → IsFirst (λ c b. TailForm Usual i (Assigned base) c b (Some v)) b
-ended_first i base v tail b h l best s =
-    tail_form_is_first i (Assigned base) base v b (tail_base_is i base h.of_kind)
-    (tail_is_first i.kind i.presence base v tail b h.of_units (text_of_type i.kind v l) best s)
-
-pub tail_relays : (i : FieldPart) (base v : Scalar) (tail bytes rest before after : List ℕ) → i.part ≡ part.Whole → i.operator ≡ operator.Tail → IsText i.kind base → IsText i.kind v → tail_at Usual i (Assigned base) bytes ≡ Ok (Some v, rest)
-    → left_out_of i.operator i (Assigned base) (Some v) ≡ false → IsBestTail i.kind i.presence (units_of base) (units_of v) tail → (b : List ℕ) × (after ≡ before ++ b) × ShortestUnits i.kind i.presence tail b
-    → Relays i (Assigned base) (Assigned v) v bytes rest before after
-tail_relays i base v tail bytes rest before after whole o h l read out best appended =
-    let last : next i (Assigned base) (Some v) ≡ Assigned v = rw o refl in
-    relays i (Assigned base) (Assigned v) v bytes rest before after (ShortestUnits i.kind i.presence tail) l.of_kind (whole_within i.part v whole)
-    (tail_row i.operator i (Assigned base) bytes o ∙ read)
-    (sym last)
-    out
-    (λ b s. subst (λ (o : Operator). IsFirst (λ c b. FormOf Usual o i (Assigned base) true c b (Some v)) b) (sym o) (ended_first i base v tail b h l best s))
-    appended
-
--- of an entry that gives a tail another base than its value
-pub first_tail_relays : (i : FieldPart) (e : Entry) (base v : Scalar) (tail bytes rest before after : List ℕ) → i.part ≡ part.Whole → i.operator ≡ operator.Tail → tail_base i e ≡ Ok base → IsText i.kind v → tail_at Usual i e bytes ≡ Ok (Some v, rest)
-    → left_out_of i.operator i e (Some v) ≡ false → IsBestTail i.kind i.presence (units_of base) (units_of v) tail → (b : List ℕ) × (after ≡ before ++ b) × ShortestUnits i.kind i.presence tail b
-    → Relays i e (Assigned v) v bytes rest before after
-first_tail_relays i e base v tail bytes rest before after whole o given l read out best appended =
-    let last : next i e (Some v) ≡ Assigned v = rw o refl in
-    relays i e (Assigned v) v bytes rest before after (ShortestUnits i.kind i.presence tail) l.of_kind (whole_within i.part v whole)
-    (tail_row i.operator i e bytes o ∙ read)
-    (sym last)
-    out
-    (λ b s. subst (λ (o : Operator). IsFirst (λ c b. FormOf Usual o i e true c b (Some v)) b) (sym o) (tail_form_is_first i e base v b given (tail_is_first i.kind i.presence base v tail b l.of_units (text_of_type i.kind v l) best s)))
-    appended
+-- an entry gives a tail a base, which may be another one than its value
+pub tail_judges : (i : FieldPart) (old : Entry) (base v : Scalar) (tail bytes rest form : List ℕ) → i.part ≡ part.Whole → i.operator ≡ operator.Tail → tail_base i old ≡ Ok base → IsText i.kind v → tail_at Usual i old bytes ≡ Ok (Some v, rest)
+    → left_out_of i.operator i old (Some v) ≡ false → IsBestTail i.kind i.presence (units_of base) (units_of v) tail → ShortestUnits i.kind i.presence tail form → IsTrue (is_of i.kind v) × Judges true form i old (Assigned v) (Some v) bytes rest
+tail_judges i old base v tail bytes rest form whole o given l read out best s =
+    let within = whole_within i.part v whole in
+    judges true i old (Assigned v) v bytes rest form l.of_kind within (takes i old (Assigned v) v bytes rest within (tail_row i.operator i old bytes o ∙ read) (rw o refl)) out
+    (subst (λ (o : Operator). IsFirst (λ c b. FormOf Usual o i old true c b (Some v)) form) (sym o) (tail_form_is_first i old base v form given (tail_is_first i.kind i.presence base v tail form l.of_units (text_of_type i.kind v l) best s)))

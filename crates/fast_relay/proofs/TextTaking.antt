@@ -22,7 +22,7 @@ use Rattle.fast_relay.specs.Numbers.{SpellsWhole}
 use Rattle.fast_relay.specs.Relayed.{Takes}
 use Rattle.fast_relay.specs.Texts.{GivesCut, GivesTail}
 use Rattle.fast_relay.proofs.PlainTexts.{spelled_plain}
-use Rattle.fast_relay.proofs.Relaying.{delta_row, whole_row}
+use Rattle.fast_relay.proofs.Taking.{delta_row, whole_row}
 use Rattle.fast_relay.proofs.Taking.{takes}
 use Rattle.fast_relay.proofs.TextRelaying.{delta_as, tail_row, text_read, whole_within}
 

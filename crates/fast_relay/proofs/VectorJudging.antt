@@ -17,7 +17,7 @@ use Rattle.fast_field.specs.Spelled.{SpellsIntegerUsually}
 use Rattle.fast_field.specs.Values.{of_units}
 use Rattle.fast_relay.specs.Judged.{StandsFrom, UnitsStandFrom}
 use Rattle.fast_relay.specs.Texts.{IsText, IsVectorKind}
-use Rattle.fast_relay.proofs.Runs.{range_split}
+use Rattle.fast_relay.proofs.Ranges.{range_split}
 use Rattle.fast_relay.proofs.Standing.{shortest_unsigned}
 use Rattle.fast_relay.proofs.VectorTexts.{bytes_found, fits}
 

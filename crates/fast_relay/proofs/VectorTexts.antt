@@ -35,15 +35,18 @@ use Rattle.fast_field.specs.FieldReading.{ended_value, in_field, integer_at, lim
 use Rattle.fast_field.specs.Planning.{left_out_of}
 use Rattle.fast_field.specs.Values.{default_of, of_units, units_of}
 use Rattle.fast_relay.specs.Numbers.{SpellsWhole, Spelt}
-use Rattle.fast_relay.specs.Relayed.{Relays}
 use Rattle.fast_relay.specs.Texts.{IsText, IsVectorKind}
 use Rattle.fast_field.proofs.BestCuts.{parts}
 use Rattle.fast_field.proofs.BestTails.{longer_tail, shortest_is_best}
 use Rattle.fast_field.proofs.Least.{IsPartCost, vector_parts}
 use Rattle.fast_field.proofs.ValuesWithin.{all_append, all_take}
 use Rattle.fast_relay.proofs.PlainTexts.{behind_kept, best_removal, le_true, lt_false, no_same_text}
-use Rattle.fast_relay.proofs.Relaying.{base_is}
-use Rattle.fast_relay.proofs.TextRelaying.{first_tail_relays, tail_relays, text_delta_relays, whole_text_relays}
+use Rattle.fast_relay.proofs.Taking.{base_is}
+use Rattle.std.specs.Prelude.{IsTrue}
+use Rattle.fast_value.specs.Scalar.{is_of}
+use Rattle.fast_relay.specs.Judged.{Leaves, UnitsGive}
+use Rattle.fast_relay.specs.Relayed.{Judges}
+use Rattle.fast_relay.proofs.TextRelaying.{tail_base_is, tail_judges, text_delta_judges, text_judges}
 
 -- ---- what stands behind a length
 
@@ -105,11 +108,12 @@ spelled kind.Unicode p bytes s rest is t h = rw (h, is_utf8-from_IsUtf8 s t.with
 spelled kind.Bytes p bytes s rest is t h = rw h refl
 spelled k p bytes s rest is t h = absurd is
 
-pub vector_relays : (i : FieldPart) (old new : Entry) (s bytes rest before after : List ℕ) → IsVectorKind i.kind → i.part ≡ part.Whole → SpellsWhole i.operator → IsText i.kind (of_units i.kind s) → units_at Usual i.kind i.presence bytes ≡ Ok (Value s, rest)
-    → new ≡ next i old (Some (of_units i.kind s)) → left_out_of i.operator i old (Some (of_units i.kind s)) ≡ false → (b : List ℕ) × (after ≡ before ++ b) × ShortestUnits i.kind i.presence s b → Relays i old new (of_units i.kind s) bytes rest before after
-vector_relays i old new s bytes rest before after is whole o t read entry out appended =
-    whole_text_relays i old new (of_units i.kind s) bytes rest before after whole o t (spelled i.kind i.presence bytes s rest is t read) entry out
-    (subst (λ (x : List ℕ). (b : List ℕ) × (after ≡ before ++ b) × ShortestUnits i.kind i.presence x b) (sym (units_back i.kind s is)) appended)
+pub units_give : (bit : Bool) (i : FieldPart) (old new : Entry) (s : List ℕ) → IsVectorKind i.kind → i.part ≡ part.Whole → SpellsWhole i.operator → IsText i.kind (of_units i.kind s) → Leaves bit i old new (Some (of_units i.kind s)) → UnitsGive bit i old new s
+units_give bit i old new s is whole o t l = λ bytes at first next stands. (
+  of_units i.kind s,
+  text_judges bit i old new (of_units i.kind s) (drop at bytes) (drop next bytes) (slice_range bytes first next) whole o t (spelled i.kind i.presence (drop at bytes) s (drop next bytes) is t stands.spelt) l
+      (subst (λ (x : List ℕ). ShortestUnits i.kind i.presence x (slice_range bytes first next)) (sym (units_back i.kind s is)) (stands.shortest t)),
+)
 
 -- ---- units put behind others
 
@@ -170,21 +174,22 @@ best_end k p base s n is size prefix =
     let whole : length v ≡ length base = omega (arith, length-append (take n base) s, length-take-le n base within, size) in
     rw (behind_kept base s n within) at (shortest_is_best k p base v n prefix whole (λ some. no_more k p v n is some))
 
-pub vector_tail_relays : (i : FieldPart) (base : Scalar) (n : ℕ) (s bytes rest before after : List ℕ) → IsVectorKind i.kind → i.part ≡ part.Whole → i.operator ≡ operator.Tail → IsText i.kind base → n + length s ≡ length (units_of base) → 0 < length s
-    → IsLongestPrefix (units_of base) (take n (units_of base) ++ s) n → IsText i.kind (of_units i.kind (take n (units_of base) ++ s)) → units_at Usual i.kind i.presence bytes ≡ Ok (Value s, rest) → (b : List ℕ) × (after ≡ before ++ b) × ShortestUnits i.kind i.presence s b
-    → Relays i (Assigned base) (Assigned (of_units i.kind (take n (units_of base) ++ s))) (of_units i.kind (take n (units_of base) ++ s)) bytes rest before after
-vector_tail_relays i base n s bytes rest before after is whole o text size some prefix t read appended =
+pub end_gives : (i : FieldPart) (base : Scalar) (n : ℕ) (s : List ℕ) → IsVectorKind i.kind → i.part ≡ part.Whole → i.operator ≡ operator.Tail → IsText i.kind base → n + length s ≡ length (units_of base) → 0 < length s
+    → IsLongestPrefix (units_of base) (take n (units_of base) ++ s) n → IsText i.kind (of_units i.kind (take n (units_of base) ++ s)) → IsText i.kind (of_units i.kind s) → UnitsGive true i (Assigned base) (Assigned (of_units i.kind (take n (units_of base) ++ s))) s
+end_gives i base n s is whole o text size some prefix t part = λ bytes at first next stands.
     let b = units_of base in
     let joined = take n b ++ s in
     let v = of_units i.kind joined in
     let back = units_back i.kind joined is in
     let kept : n ≡ length b - length s = omega (arith, size) in
-    let made : limited_value i.kind (ended_by b s) ≡ Ok v = subst (λ (m : ℕ). limited_value i.kind (take m b ++ s) ≡ Ok v) kept (limited i.kind joined is t) in
-    tail_relays i base v s bytes rest before after whole o text t
-    (tail_read i base v s bytes rest text.of_kind read made)
-    (other_end i base v o text.of_kind (λ e. no_same_text b s n (omega (arith, size, some)) prefix (e ∙ back)))
-    (subst (λ (x : List ℕ). IsBestTail i.kind i.presence b x s) (sym back) (best_end i.kind i.presence b s n is size prefix))
-    appended
+    let made : limited_value i.kind (ended_by b s) ≡ Ok v = subst (λ (m : ℕ). limited_value i.kind (take m b ++ s) ≡ Ok v) kept (limited i.kind joined is t) in (
+      v,
+      tail_judges i (Assigned base) base v s (drop at bytes) (drop next bytes) (slice_range bytes first next) whole o (tail_base_is i base text.of_kind) t
+          (tail_read i base v s (drop at bytes) (drop next bytes) text.of_kind stands.spelt made)
+          (other_end i base v o text.of_kind (λ e. no_same_text b s n (omega (arith, size, some)) prefix (e ∙ back)))
+          (subst (λ (x : List ℕ). IsBestTail i.kind i.presence b x s) (sym back) (best_end i.kind i.presence b s n is size prefix))
+          (stands.shortest part),
+    )
 
 -- ---- tails of an empty entry
 
@@ -204,19 +209,17 @@ first_out : (p : Presence) (i : FieldPart) (v : Scalar) → i.operator ≡ opera
 first_out Mandatory i v o is = rw (o, is) refl
 first_out Optional i v o is = rw (o, is) refl
 
-pub vector_first_relays : (i : FieldPart) (s bytes rest before after : List ℕ) → IsVectorKind i.kind → i.part ≡ part.Whole → i.operator ≡ operator.Tail → i.initial ≡ None → IsText i.kind (of_units i.kind s) → 0 < length s → units_at Usual i.kind i.presence bytes ≡ Ok (Value s, rest)
-    → (b : List ℕ) × (after ≡ before ++ b) × ShortestUnits i.kind i.presence s b → Relays i Empty (Assigned (of_units i.kind s)) (of_units i.kind s) bytes rest before after
-vector_first_relays i s bytes rest before after is whole o none t some read appended =
+pub first_gives : (i : FieldPart) (s : List ℕ) → IsVectorKind i.kind → i.part ≡ part.Whole → i.operator ≡ operator.Tail → i.initial ≡ None → IsText i.kind (of_units i.kind s) → 0 < length s → UnitsGive true i Empty (Assigned (of_units i.kind s)) s
+first_gives i s is whole o none t some = λ bytes at first next stands.
     let v = of_units i.kind s in
     let base = start_of i in
     let back = units_back i.kind s is in
     let nothing = start_none i is none in
-    let made : limited_value i.kind (ended_by (units_of base) s) ≡ Ok v = rw (nothing, take-nil) (limited i.kind s is t) in
-    first_tail_relays i Empty base v s bytes rest before after whole o refl t
-    (first_read i v s bytes rest read made)
-    (first_out i.presence i v o refl)
-    (rw (nothing, back) (longer_tail i.kind i.presence [] s some))
-    appended
+    let made : limited_value i.kind (ended_by (units_of base) s) ≡ Ok v = rw (nothing, take-nil) (limited i.kind s is t) in (
+      v,
+      tail_judges i Empty base v s (drop at bytes) (drop next bytes) (slice_range bytes first next) whole o refl t (first_read i v s (drop at bytes) (drop next bytes) stands.spelt made) (first_out i.presence i v o refl)
+          (rw (nothing, back) (longer_tail i.kind i.presence [] s some)) (stands.shortest t),
+    )
 
 -- ---- deltas that remove few bytes at the end
 
@@ -252,20 +255,20 @@ unfolding unit_delta_at
 delta_read i base v r s bytes middle rest is small le removal read made =
     rw (removal, le_true r 2147483647 (omega (arith, small)), base_is i base is) (new_part_read i.kind (units_of base) v r s middle rest le read made)
 
-pub vector_delta_relays : (i : FieldPart) (base : Scalar) (r n : ℕ) (s bytes middle rest before after : List ℕ) → IsVectorKind i.kind → i.part ≡ part.Whole → i.operator ≡ operator.Delta → IsText i.kind base → r < 63 → r ≤ length (units_of base) → n ≡ length (units_of base) - r
+pub vector_delta_judges : (i : FieldPart) (base : Scalar) (r n : ℕ) (s bytes middle rest form : List ℕ) → IsVectorKind i.kind → i.part ≡ part.Whole → i.operator ≡ operator.Delta → IsText i.kind base → r < 63 → r ≤ length (units_of base) → n ≡ length (units_of base) - r
     → IsLongestPrefix (units_of base) (take n (units_of base) ++ s) n → SharesEnd (units_of base) (take n (units_of base) ++ s) n → IsText i.kind (of_units i.kind (take n (units_of base) ++ s)) → Spelt false i.presence bytes (pos r) middle → units_at Usual i.kind Mandatory middle ≡ Ok (Value s, rest)
-    → (b : List ℕ) × (after ≡ before ++ b) × Both (ShortestSigned i.presence (pos r)) (ShortestPart i.kind s) b
-    → Relays i (Assigned base) (Assigned (of_units i.kind (take n (units_of base) ++ s))) (of_units i.kind (take n (units_of base) ++ s)) bytes rest before after
-vector_delta_relays i base r n s bytes middle rest before after is whole o text small le kept prefix suffix t removal read appended =
+    → Both (ShortestSigned i.presence (pos r)) (ShortestPart i.kind s) form
+    → IsTrue (is_of i.kind (of_units i.kind (take n (units_of base) ++ s))) × Judges true form i (Assigned base) (Assigned (of_units i.kind (take n (units_of base) ++ s))) (Some (of_units i.kind (take n (units_of base) ++ s))) bytes rest
+vector_delta_judges i base r n s bytes middle rest form is whole o text small le kept prefix suffix t removal read shortest =
     let b = units_of base in
     let joined = take n b ++ s in
     let v = of_units i.kind joined in
     let back = units_back i.kind joined is in
     let made : limited_value i.kind (take (length b - r) b ++ s) ≡ Ok v = subst (λ (m : ℕ). limited_value i.kind (take m b ++ s) ≡ Ok v) kept (limited i.kind joined is t) in
-    text_delta_relays i base v (pos r) s bytes rest before after whole o text t
+    text_delta_judges i base v (pos r) s bytes rest form whole o text t
     (delta_read i base v r s bytes middle rest text.of_kind small le removal (part_read i.kind middle s rest read) made)
     (subst (λ (x : List ℕ). IsBestCut i.kind i.presence b x (pos r) s) (sym back) (best_removal i.kind i.presence b s r n small le kept prefix suffix (λ t le. part_least i.kind s t is le)))
-    appended
+    shortest
 
 -- ---- what is within its type
 

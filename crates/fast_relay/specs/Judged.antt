@@ -1,5 +1,5 @@
 -- A field whose bytes are judged as they stand: they are the best form of their value, or bit 0 is. (Own.)
-use Rattle.std.specs.Prelude.{◌≡◌, ◌≤◌, ◌+◌, ◌+ℤ◌, ℕ, ℤ, Bool, true, false, not, List, ◌++◌, length, drop, slice_range, Option, Some, None, Ok, IsTrue, ⊤}
+use Rattle.std.specs.Prelude.{◌≡◌, ◌≤◌, ◌+◌, ◌+ℤ◌, ℕ, ℤ, Bool, true, false, not, List, [], length, drop, slice_range, Option, Some, None, Ok, IsTrue, ⊤}
 use Rattle.fast_wire.specs.Plain.{IsPlain}
 use Rattle.fast_wire.specs.declared.level.Level.TheVariants.{Usual}
 use Rattle.fast_wire.specs.declared.nullable.Nullable.TheVariants.{Value}
@@ -11,6 +11,7 @@ use Rattle.fast_value.specs.declared.kind.Part.{Part}
 use Rattle.fast_value.specs.declared.kind.Presence.{Presence}
 use Rattle.fast_value.specs.declared.kind.Presence.TheVariants.{Mandatory, Optional}
 use Rattle.fast_value.specs.declared.scalar.Scalar.{Scalar}
+use Rattle.fast_value.specs.declared.scalar.Scalar.TheVariants.{Ascii}
 use Rattle.fast_template.specs.declared.resolved.FieldPart.{FieldPart}
 use Rattle.fast_dictionary.specs.declared.entry.Entry.{Entry}
 use Rattle.fast_dictionary.specs.declared.entry.Entry.TheVariants.{Assigned}
@@ -18,23 +19,25 @@ use Rattle.fast_field.specs.Bases.{next}
 use Rattle.fast_field.specs.Chosen.{ShortestUnits}
 use Rattle.fast_field.specs.FieldReading.{units_at}
 use Rattle.fast_field.specs.Numbers.{HasNumber, IsFieldNumber}
-use Rattle.fast_field.specs.Passed.{Passes}
 use Rattle.fast_field.specs.Planning.{left_out_of}
 use Rattle.fast_field.specs.Spelled.{SpellsIntegerUsually, overlong_number}
 use Rattle.fast_field.specs.Values.{is_unsigned, of_units}
 use Rattle.fast_relay.specs.Numbers.{SpellsWhole, Spelt}
-use Rattle.fast_relay.specs.Relayed.{Drops, Relays}
-use Rattle.fast_relay.specs.Texts.{IsText}
+use Rattle.fast_relay.specs.Relayed.{Judges}
+use Rattle.fast_relay.specs.Texts.{GivesTail, IsText}
 use Rattle.fast_relay.specs.declared.judged.Judged.{Judged}
 use Rattle.fast_relay.specs.declared.judged.Judged.TheVariants.{Stands, Behind, BehindTwo, Given, Elsewhere}
+
+-- bit 0 has no bytes
+abbrev pub under : Bool → List ℕ → List ℕ
+under true form = form
+under false form = []
 
 -- the bytes from one place to another give the value under bit 1, and the entry is the one afterwards: those from `first`
 -- on are the value's best form, or its best form is bit 0 and no byte
 abbrev pub JudgesFrom : Bool → FieldPart → Entry → Entry → Scalar → List ℕ → ℕ → ℕ → ℕ → Type 0
-JudgesFrom true i old new v bytes at first next =
-    (out : List ℕ) → Relays i old new v (drop at bytes) (drop next bytes) out (out ++ slice_range bytes first next)
-JudgesFrom false i old new v bytes at first next =
-    IsTrue (is_of i.kind v) × Drops i old new (Some v) (drop at bytes) (drop next bytes)
+JudgesFrom bit i old new v bytes at first next =
+    IsTrue (is_of i.kind v) × Judges bit (under bit (slice_range bytes first next)) i old new (Some v) (drop at bytes) (drop next bytes)
 
 -- the same of some value
 abbrev pub Gives : Bool → FieldPart → Entry → Entry → List ℕ → ℕ → ℕ → ℕ → Type 0
@@ -81,11 +84,16 @@ HasAnswer at first next (Some false) (Given n) = n ≡ next
 HasAnswer at first next None Elsewhere = ⊤
 HasAnswer at first next bit j = ⊥
 
+-- the entry is the one after a value, or NULL, and bit 0 gives it exactly if it is the bit of the best form
+pub record Leaves (bit : Bool) (i : FieldPart) (old new : Entry) (v : Option Scalar) : Type 0 where
+  pub entry : new ≡ next i old v
+  pub left_out : left_out_of i.operator i old v ≡ not bit
+
 -- the best form of a value that was sent whole, or of NULL, has this bit: bit 0 gives another one, or it gives this one and leaves
 -- the entry as it is
 abbrev pub HasBit : FieldPart → Entry → Option Scalar → Option Bool → Type 0
 HasBit i e v (Some true) = left_out_of i.operator i e v ≡ false
-HasBit i e v (Some false) = Passes i e e v
+HasBit i e v (Some false) = Leaves false i e e v
 HasBit i e v None = ⊤
 
 -- a difference is added to the number that the entry has, and the sum is one that the field can have
@@ -142,16 +150,16 @@ abbrev pub TextGives : Bool → FieldPart → Entry → Entry → List ℕ → T
 TextGives bit i old new form =
     (bytes : List ℕ) (at first next : ℕ) → slice_range bytes first next ≡ form → IsPlain (drop at bytes) form (drop next bytes) → Gives bit i old new bytes at first next
 
--- the entry is the one after the value, and bit 0 gives the value exactly if it is the bit of the best form
-pub record Leaves (bit : Bool) (i : FieldPart) (old new : Entry) (v : Scalar) : Type 0 where
-  pub entry : new ≡ next i old (Some v)
-  pub left_out : left_out_of i.operator i old (Some v) ≡ not bit
+-- wherever these characters stand as a new end of the text, the best form of the string has this bit
+abbrev pub EndGives : Bool → FieldPart → List ℕ → List ℕ → List ℕ → Type 0
+EndGives bit i base text form =
+    (bytes : List ℕ) (at first next : ℕ) → slice_range bytes first next ≡ form → GivesTail i base (drop at bytes) form (drop next bytes) → Gives bit i (Assigned (Ascii base)) (Assigned (Ascii text)) bytes at first next
 
 -- the same of a number that was spelled whole, and is one that the field can have
 pub record LeavesWhole (bit : Bool) (k : Kind) (p : Part) (i : FieldPart) (old new : Entry) (z : ℤ) : Type 0 where
   pub whole : SpellsWhole i.operator
   pub number : IsFieldNumber k p z
-  pub leaves : Leaves bit i old new (of_integer k z)
+  pub leaves : Leaves bit i old new (Some (of_integer k z))
 
 -- whether what is sent of an integer has no sign: a difference has one
 abbrev pub sent_unsigned : Operator → Kind → Bool

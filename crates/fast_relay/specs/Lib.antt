@@ -1,8 +1,8 @@
+pub mod Best
 pub mod Judged
 pub mod Numbers
 pub mod Relayed
 pub mod OneByte
-pub mod Runs
 pub mod Texts
 pub mod Kept
 pub mod Skips

@@ -1,11 +1,11 @@
 -- A length in one byte that no entry keeps. (Own.)
-use Rattle.std.specs.Prelude.{ℕ, ◌+◌, List, [], ◌∷◌, ◌++◌, Option, Some, None, drop, slice_index}
+use Rattle.std.specs.Prelude.{ℕ, ◌+◌, true, List, [], ◌∷◌, Option, Some, None, drop, slice_index}
 use Rattle.fast_template.specs.declared.resolved.FieldPart.{FieldPart}
 use Rattle.fast_value.specs.declared.scalar.Scalar.TheVariants.{U32}
 use Rattle.fast_dictionary.specs.declared.entry.Entry.{Entry}
-use Rattle.fast_relay.specs.Relayed.{Relays, RelaysNull}
+use Rattle.fast_relay.specs.Relayed.{Judges}
 
 -- the byte at a place gives the number, or NULL, and is its best form, and whatever the entry is it stays
 abbrev pub RelaysByte : FieldPart → Option ℕ → List ℕ → ℕ → Type 0
-RelaysByte i (Some n) bytes at = (e : Entry) (out : List ℕ) → Relays i e e (U32 n) (drop at bytes) (drop (at + 1) bytes) out (out ++ slice_index bytes at ∷ [])
-RelaysByte i None bytes at = (e : Entry) (out : List ℕ) → RelaysNull i e e (drop at bytes) (drop (at + 1) bytes) out (out ++ slice_index bytes at ∷ [])
+RelaysByte i (Some n) bytes at = (e : Entry) → Judges true (slice_index bytes at ∷ []) i e e (Some (U32 n)) (drop at bytes) (drop (at + 1) bytes)
+RelaysByte i None bytes at = (e : Entry) → Judges true (slice_index bytes at ∷ []) i e e None (drop at bytes) (drop (at + 1) bytes)

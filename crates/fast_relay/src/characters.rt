@@ -59,10 +59,7 @@ pub(crate) fn find_plain(bytes: &[u8], at: usize) -> Option<(usize, usize)>
 {
     match plain_end(bytes, at) {
         Some(next) => Some((at, next)),
-        None => match find_behind_zero(bytes, at) {
-            Some(x) => Some(x),
-            None => None,
-        },
+        None => find_behind_zero(bytes, at),
     }
 }
 

@@ -132,7 +132,7 @@ pub(crate) fn find_tail(
     requires at { at ≤ length bytes.now }
     requires kind { instr.now.kind ≡ kind_type.Ascii }
     requires few { length base.now ≤ 65535 }
-    ensures place { IfSome result (λ x. (at ≤ x.1) × (x.0 < x.1) × (x.1 ≤ length bytes.now)) }
+    ensures place { IfSome result (λ x. (at ≤ x.0) × (x.0 < x.1) × (x.1 ≤ length bytes.now)) }
     ensures within { IfSome result (λ x. x.1 - x.0 ≤ length base.now) }
     ensures gives { IfSome result (λ x. GivesTail instr.now base.now (drop at bytes.now)
         (slice_range bytes.now x.0 x.1) (drop x.1 bytes.now)) }
@@ -155,7 +155,7 @@ pub(crate) fn read_tail(
     requires at { at ≤ length bytes.now }
     requires kind { instr.now.kind ≡ kind_type.Ascii }
     requires few { length base.now ≤ 65535 }
-    ensures place { IfSome result (λ x. (at ≤ x.1) × (x.0 < x.1) × (x.1 ≤ length bytes.now)) }
+    ensures place { IfSome result (λ x. (at ≤ x.0) × (x.0 < x.1) × (x.1 ≤ length bytes.now)) }
     ensures gives { IfSome result (λ x. GivesTail instr.now base.now (drop at bytes.now)
         (slice_range bytes.now x.0 x.1) (drop x.1 bytes.now)) }
 {

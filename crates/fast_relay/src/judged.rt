@@ -154,7 +154,7 @@ fn judge_first<T: ShortInteger>(
     requires predicts { Predicts instr.now.operator }
     requires whole { SpellsWhole instr.now.operator }
     requires number { IsNumber T.kind number }
-    ensures { IfFound next result (λ bit. Leaves bit instr.now entry.old entry.new (of_integer T.kind number))
+    ensures { IfFound next result (λ bit. Leaves bit instr.now entry.old entry.new (Some (of_integer T.kind number)))
         (entry.new ≡ entry.old) }
 {
     match entry {
@@ -190,7 +190,7 @@ fn judge_copy<T: ShortInteger>(
     requires kind { T.kind ≡ instr.now.kind }
     requires operator { instr.now.operator ≡ operator_type.Copy }
     requires number { IsNumber T.kind number }
-    ensures { IfFound next result (λ bit. Leaves bit instr.now entry.old entry.new (of_integer T.kind number))
+    ensures { IfFound next result (λ bit. Leaves bit instr.now entry.old entry.new (Some (of_integer T.kind number)))
         (entry.new ≡ entry.old) }
 {
     let Some(kept) = T::kept(entry) else {
@@ -214,7 +214,7 @@ fn judge_increment<T: ShortInteger>(
     requires kind { T.kind ≡ instr.now.kind }
     requires operator { instr.now.operator ≡ operator_type.Increment }
     requires number { IsNumber T.kind number }
-    ensures { IfFound next result (λ bit. Leaves bit instr.now entry.old entry.new (of_integer T.kind number))
+    ensures { IfFound next result (λ bit. Leaves bit instr.now entry.old entry.new (Some (of_integer T.kind number)))
         (entry.new ≡ entry.old) }
 {
     let Some(kept) = T::kept(entry) else {
@@ -243,7 +243,7 @@ fn judge_read<T: ShortInteger>(
     requires kind { T.kind ≡ instr.now.kind }
     requires number { IsNumber T.kind number }
     ensures { IfFound next result (λ bit. SpellsWhole instr.now.operator
-        × Leaves bit instr.now entry.old entry.new (of_integer T.kind number)) (entry.new ≡ entry.old) }
+        × Leaves bit instr.now entry.old entry.new (Some (of_integer T.kind number))) (entry.new ≡ entry.old) }
 {
     match instr.operator {
         Operator::Plain => Judged::Stands(next),

@@ -135,7 +135,7 @@ pub(crate) fn parts_moved(kept: Parts, exponent_delta: i64, mantissa_delta: i64)
 fn judge_default(instr: &FieldPart, entry: &Entry, parts: Parts) -> Option<bool>
     requires { instr.now.operator ≡ operator_type.Default }
     ensures { IfSome result (λ bit. Leaves bit instr.now entry.now entry.now
-        (scalar.Decimal parts.exponent parts.mantissa)) }
+        (Some (scalar.Decimal parts.exponent parts.mantissa))) }
 {
     match &instr.initial {
         None => Some(true),
@@ -152,7 +152,7 @@ fn judge_copy(instr: &FieldPart, entry: &mut Entry, parts: Parts) -> Option<bool
     requires kind { instr.now.kind ≡ kind_type.Decimal }
     requires operator { instr.now.operator ≡ operator_type.Copy }
     ensures leaves { IfSome result (λ bit. Leaves bit instr.now entry.old entry.new
-        (scalar.Decimal parts.exponent parts.mantissa)) }
+        (Some (scalar.Decimal parts.exponent parts.mantissa))) }
     ensures entry { IfNone result (entry.new ≡ entry.old) }
 {
     let kept = kept_parts(entry)?;
@@ -170,7 +170,7 @@ fn judge_read(instr: &FieldPart, entry: &mut Entry, parts: Parts) -> Option<bool
     requires kind { instr.now.kind ≡ kind_type.Decimal }
     requires operator { SpellsWhole instr.now.operator }
     ensures leaves { IfSome result (λ bit. Leaves bit instr.now entry.old entry.new
-        (scalar.Decimal parts.exponent parts.mantissa)) }
+        (Some (scalar.Decimal parts.exponent parts.mantissa))) }
     ensures entry { IfNone result (entry.new ≡ entry.old) }
 {
     match instr.operator {

@@ -1,5 +1,5 @@
 //! ASCII strings that are judged as they stand: whether their bytes are the best form of the value, or bit 0 is. The entry
-//! goes on, and nothing is written. What is not served here goes by `respell_text`, or the general way.
+//! goes on, and nothing is written. What is not served here goes by `judge_other`, or the general way.
 
 ghost use Rattle.std.specs.Prelude.{◌≡◌, ◌≤◌, length, IfNone, IfSome};
 ghost use Rattle.fast_value.specs.Scalar.{IsScalar};
@@ -10,19 +10,19 @@ ghost use Rattle.fast_value.specs.declared.scalar.Scalar.TheVariants.{Ascii};
 ghost use Rattle.fast_dictionary.specs.declared.entry.Entry.TheVariants as entry_type;
 ghost use Rattle.fast_wire.specs.Entity.{IsEntity};
 ghost use Rattle.fast_field.specs.Within.{HoldsScalar};
-ghost use Rattle.fast_relay.specs.Judged.{IsJudged, TextGives};
+ghost use Rattle.fast_relay.specs.Judged.{EndGives, IsJudged, TextGives};
 ghost use Rattle.fast_relay.specs.Numbers.{KeepsNothing, SpellsWhole};
 
 use crate::characters::find_plain;
+use crate::cut::read_tail;
 use crate::given::text_bit;
 use crate::judged::{Judged, answer};
 use crate::one_byte::read_removal;
 use crate::plain::{keep_plain, put_characters, replace_end, replace_string};
-use crate::words::{plain_end, short_plain_end};
+use crate::words::short_plain_end;
 use fast_dictionary::Entry;
-use fast_field::{agrees_no_further, is_cut_at_end};
+use fast_field::agrees_no_further;
 use fast_template::{ByteString, FieldPart, Operator, Scalar};
-use fast_value::UNIT_LIMIT;
 use fast_wire::is_text_of;
 use std::alloc::Global;
 
@@ -121,51 +121,8 @@ fn judge_string_copy(
     judge_string_whole(alloc, instr, entry, bytes, at)
 }
 
-/// Judges a removal of few characters at the end of the string that the entry has, and a new part. (A call of its own,
-/// behind the next one, which judges most.)
-#[inline(never)]
-fn judge_string_cut(
-    alloc: Global,
-    instr: &FieldPart,
-    text: &mut ByteString,
-    bytes: &[u8],
-    at: usize,
-) -> Judged
-    requires place { at ≤ length bytes.now }
-    requires part { instr.now.part ≡ part_type.Whole }
-    requires operator { instr.now.operator ≡ operator_type.Delta }
-    requires kind { instr.now.kind ≡ kind_type.Ascii }
-    requires kept { IsScalar (Ascii text.now) }
-    ensures { IsJudged instr.now (entry_type.Assigned (Ascii text.old)) (entry_type.Assigned (Ascii text.new))
-        bytes.now at result }
-{
-    let Some(removed) = read_removal(instr.presence, bytes, at) else {
-        return Judged::Elsewhere;
-    };
-    let first = at + 1;
-    let Some(next) = plain_end(bytes, first) else {
-        return Judged::Elsewhere;
-    };
-    let form = &bytes[first..next];
-    let base = text.as_slice();
-    if removed > base.len() {
-        return Judged::Elsewhere;
-    }
-    let kept = base.len() - removed;
-    if !agrees_no_further(base, kept, form) || !is_cut_at_end(base, kept, form) {
-        return Judged::Elsewhere;
-    }
-    if form.len() > UNIT_LIMIT - kept {
-        return Judged::Elsewhere;
-    }
-    if put_characters(alloc, text, kept, form) {
-        Judged::Stands(next)
-    } else {
-        Judged::Elsewhere
-    }
-}
-
-/// The same, at once where the new part is short, and as long as what is removed.
+/// Judges a removal of few characters at the end of the string that the entry has, and a new part that is short, and as long
+/// as what is removed.
 #[inline(always)]
 fn judge_string_delta(
     alloc: Global,
@@ -191,11 +148,41 @@ fn judge_string_delta(
             return Judged::Stands(next);
         }
     }
-    judge_string_cut(alloc, instr, text, bytes, at)
+    Judged::Elsewhere
 }
 
-/// Judges a new end of the string that the entry has; bit 0 is the best form of one that it has already. (A call of its
-/// own, so that other strings do not pay for it.)
+/// The bit of the best form of a new end of the string that the entry has: bit 0 where it has that already. None: nothing
+/// has changed, and another way tells.
+#[inline(always)]
+fn judge_end(alloc: Global, instr: &FieldPart, text: &mut ByteString, form: &[u8]) -> Option<bool>
+    requires part { instr.now.part ≡ part_type.Whole }
+    requires operator { instr.now.operator ≡ operator_type.Tail }
+    requires kind { instr.now.kind ≡ kind_type.Ascii }
+    requires kept { IsScalar (Ascii text.now) }
+    requires entity { IsEntity form.now }
+    ensures gives { IfSome result (λ bit. EndGives bit instr.now text.old text.new form.now) }
+    ensures text { IfNone result (text.new ≡ text.old) }
+{
+    let base = text.as_slice();
+    if form.len() > base.len() {
+        return None;
+    }
+    let kept = base.len() - form.len();
+    if agrees_no_further(base, kept, form) {
+        if put_characters(alloc, text, kept, form) {
+            return Some(true);
+        }
+        return None;
+    }
+    if is_text_of(&base[kept..], form) {
+        Some(false)
+    } else {
+        None
+    }
+}
+
+/// Judges a new end of the string that the entry has, or one that it has already, which bit 0 gives. (A call of its own, so
+/// that other strings do not pay for it.)
 #[inline(never)]
 fn judge_string_tail(
     alloc: Global,
@@ -212,26 +199,15 @@ fn judge_string_tail(
     ensures { IsJudged instr.now (entry_type.Assigned (Ascii text.old)) (entry_type.Assigned (Ascii text.new))
         bytes.now at result }
 {
-    let Some(next) = plain_end(bytes, at) else {
+    let base = text.as_slice();
+    let Some((first, next)) = read_tail(instr, base, bytes, at) else {
         return Judged::Elsewhere;
     };
-    let form = &bytes[at..next];
-    let base = text.as_slice();
-    if form.len() > base.len() {
+    if first > at + 2 {
         return Judged::Elsewhere;
     }
-    let kept = base.len() - form.len();
-    if agrees_no_further(base, kept, form) {
-        if put_characters(alloc, text, kept, form) {
-            return Judged::Stands(next);
-        }
-        return Judged::Elsewhere;
-    }
-    if is_text_of(&base[kept..], form) {
-        Judged::Given(next)
-    } else {
-        Judged::Elsewhere
-    }
+    let bit = judge_end(alloc, instr, text, &bytes[first..next]);
+    answer(bit, at, first, next)
 }
 
 /// Judges an ASCII string that is read under bit 1, and makes the entry the one afterwards. Elsewhere: nothing has changed,
@@ -260,9 +236,7 @@ pub(crate) fn judge_string(
             _ => Judged::Elsewhere,
         },
         Operator::Tail => match entry {
-            Entry::Assigned(Scalar::Ascii(text)) => {
-                judge_string_tail(alloc, instr, text, bytes, at)
-            }
+            Entry::Assigned(Scalar::Ascii(text)) => judge_string_tail(alloc, instr, text, bytes, at),
             _ => Judged::Elsewhere,
         },
         Operator::Constant | Operator::Increment => Judged::Elsewhere,

@@ -15,6 +15,7 @@
 //! have judged one.
 #![tactic(auto)]
 
+mod best;
 mod characters;
 mod copied;
 mod cut;
@@ -29,9 +30,7 @@ mod null;
 mod one_byte;
 mod passed;
 mod plain;
-mod relayed;
 mod respelled;
-mod run;
 mod short_number;
 mod taken;
 mod taken_text;
@@ -39,14 +38,11 @@ mod utf8;
 mod vectors;
 mod words;
 
+pub use best::{Best, judge_other};
 pub use integers::is_unsigned;
 pub use judged::{Judged, judge_field};
 pub use kept::take_kept;
-pub use null::relay_null;
 pub use one_byte::read_short_length;
 pub use passed::pass_quickly;
-pub use relayed::Relayed;
-pub use respelled::respell_text;
-pub use run::Run;
 pub use taken::take_number;
 pub use taken_text::take_aside;

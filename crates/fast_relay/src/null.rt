@@ -1,13 +1,11 @@
-//! NULL in its shortest form, read and written at once: a field that is sent as absent.
+//! NULL in its shortest form, judged as it stands: a field that is sent as absent.
 
-ghost use Rattle.std.specs.Prelude.{◌≡◌, ◌≤◌, ◌<◌, ◌+◌, ◌∷◌, true, length, drop, None};
+ghost use Rattle.std.specs.Prelude.{◌≡◌, ◌≤◌, ◌<◌, ◌+◌, ◌∷◌, true, length, drop, None, MatchOption};
 ghost use Rattle.fast_field.specs.Bases.{next_of};
-ghost use Rattle.fast_relay.specs.Relayed.{IfElsewhere, IfRelayed, RelaysNullAs};
-ghost use Rattle.fast_relay.specs.Runs.{IsRun, Stays, written};
+ghost use Rattle.fast_relay.specs.Best.{HasBest};
 
+use crate::best::Best;
 use crate::given::absent_bit;
-use crate::relayed::Relayed;
-use crate::run::Run;
 use fast_dictionary::Entry;
 use fast_template::{FieldPart, Operator, Presence};
 
@@ -35,45 +33,43 @@ fn keep_absent(operator: Operator, entry: &mut Entry)
     }
 }
 
-/// Reads NULL in its shortest form under bit 1, of a field of any type that may be absent, appends it where it is the best form of that, and
-/// makes the entry the one afterwards. Elsewhere: nothing has changed, and another way tells.
+/// Judges NULL in its shortest form under bit 1, of a field of any type that may be absent, and makes the entry the one
+/// afterwards. None: nothing has changed, and another way tells.
 #[inline(always)]
-pub fn relay_null(
+pub(crate) fn judge_null(
     instr: &FieldPart,
     entry: &mut Entry,
     bytes: &[u8],
     at: usize,
-    out: &mut Run,
-) -> Relayed
-    requires { IsRun bytes.now at out.now }
-    ensures place { IfRelayed result (λ bit next. (at ≤ next) × (next ≤ length bytes.now)) }
-    ensures run { IfRelayed result (λ bit next. IsRun bytes.now next out.new) }
-    ensures relayed { IfRelayed result (λ bit next. RelaysNullAs bit instr.now entry.old entry.new
-        (drop at bytes.now) (drop next bytes.now)
-        (written bytes.now out.old) (written bytes.now out.new)) }
-    ensures entry { IfElsewhere result (entry.new ≡ entry.old) }
-    ensures out { IfElsewhere result (Stays bytes.now at out.old out.new) }
+) -> Option<Best>
+    requires { at ≤ length bytes.now }
+    ensures { MatchOption result (entry.new ≡ entry.old) (λ best. HasBest instr.now entry.old entry.new bytes.now at best) }
 {
     match instr.presence {
-        Presence::Mandatory => Relayed::Elsewhere,
+        Presence::Mandatory => None,
         Presence::Optional => {
             if !begins_with_null(bytes, at) {
-                return Relayed::Elsewhere;
+                return None;
             }
             match absent_bit(instr, entry) {
                 Some(true) => {
                     keep_absent(instr.operator, entry);
-                    out.keep(at + 1);
-                    Relayed::Sent(at + 1)
+                    Some(Best {
+                        there: false,
+                        bit: true,
+                        removal: None,
+                        first: at,
+                        next: at + 1,
+                    })
                 }
-                Some(false) => {
-                    if out.leave_out(bytes, at + 1) {
-                        Relayed::Given(at + 1)
-                    } else {
-                        Relayed::Elsewhere
-                    }
-                }
-                None => Relayed::Elsewhere,
+                Some(false) => Some(Best {
+                    there: false,
+                    bit: false,
+                    removal: None,
+                    first: at + 1,
+                    next: at + 1,
+                }),
+                None => None,
             }
         }
     }

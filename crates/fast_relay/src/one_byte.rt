@@ -1,11 +1,10 @@
 //! Lengths and removals in one byte, as most are, which is their shortest form; and those behind one needless group or two.
 
-ghost use Rattle.std.specs.Prelude.{◌≡◌, ◌+◌, ◌<◌, ◌≤◌, pos, true, false, length, drop, IfSome};
+ghost use Rattle.std.specs.Prelude.{◌≡◌, ◌+◌, ◌<◌, ◌≤◌, ◌∷◌, [], pos, true, false, length, drop, IfSome};
 ghost use Rattle.fast_field.specs.Chosen.{ShortestSigned};
 ghost use Rattle.fast_relay.specs.Judged.{StandsAt, StandsFrom, zero_byte};
 ghost use Rattle.fast_relay.specs.Numbers.{Spelt};
 ghost use Rattle.fast_relay.specs.OneByte.{RelaysByte};
-ghost use Rattle.fast_relay.specs.Runs.{AppendsForm};
 ghost use Rattle.fast_template.specs.Resolved.{part_needs_bit};
 ghost use Rattle.fast_value.specs.declared.kind.Kind.TheVariants.{UInt32};
 ghost use Rattle.fast_value.specs.declared.kind.Part.TheVariants.{Length};
@@ -50,19 +49,13 @@ pub(crate) fn read_removal(presence: Presence, bytes: &[u8], at: usize) -> Optio
     }
 }
 
-/// Appends a removal of few units at the end in its shortest form, which is one byte; answers false, and changes nothing,
-/// where memory is refused.
+/// The byte that is the shortest form of a removal of few units at the end.
 #[inline(always)]
-pub(crate) fn push_removal(presence: Presence, removed: usize, out: &mut Vec<u8>) -> bool
+pub(crate) fn removal_byte(presence: Presence, removed: usize) -> u8
     requires { removed < 63 }
-    ensures written { result ≡ true → AppendsForm (ShortestSigned presence (pos removed))
-        out.old.items out.new.items }
-    ensures unchanged { result ≡ false → out.new.items ≡ out.old.items }
+    ensures { ShortestSigned presence (pos removed) (result ∷ []) }
 {
-    match out.push(zero_byte(presence) + removed as u8) {
-        Err(_) => false,
-        Ok(()) => true,
-    }
+    zero_byte(presence) + removed as u8
 }
 
 /// The same as `read_any_removal`, of a removal of more bytes.

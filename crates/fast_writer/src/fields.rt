@@ -24,12 +24,11 @@ ghost use Rattle.fast_value.specs.declared.key.Key.{Key};
 ghost use Rattle.fast_value.specs.declared.kind.Kind.TheVariants.{Int32};
 ghost use Rattle.fast_value.specs.declared.kind.Part.TheVariants.{Exponent, Whole};
 
-use crate::quick::relay_other;
 use crate::segment::Segment;
 use crate::strictly::is_read_as_usual;
 use fast_dictionary::{Entries, Entry};
 use fast_field::Passed;
-use fast_relay::{Judged, judge_field, pass_quickly};
+use fast_relay::{Best, Judged, judge_field, judge_other, pass_quickly};
 use fast_template::{FieldPart, Flat, Kind, Part, part_needs_bit};
 use fast_walk::{Fields, Leveled};
 use fast_wire::{Bits, Level};
@@ -69,60 +68,53 @@ fn end_part(bits: &mut Bits, needs: bool, best: bool, segment: &mut Segment, the
     }
 }
 
-// The same where only the bytes from `first` on are written.
+// The best form of a value that is there: the bytes between two places.
 #[inline(always)]
-fn end_from(
-    bits: &mut Bits,
-    needs: bool,
-    best: bool,
-    bytes: &[u8],
-    first: usize,
-    next: usize,
-    segment: &mut Segment,
-) -> Taken
-    requires run { IsRun bytes.now segment.now.bytes.place segment.now.bytes }
-    requires first { first ≤ next }
-    requires within { next ≤ length bytes.now }
-    ensures { MatchTaken result (λ is. (is ≡ true) × EndsPart needs best bits.old bits.new
-        (with_bytes (level_in bytes.now segment.old) (slice_range bytes.now first next))
-        (level_in bytes.now segment.new) × IsRun bytes.now next segment.new.bytes) ⊥ }
+fn sent(first: usize, next: usize) -> Best
+    ensures { result ≡ record { there = true; bit = true; removal = None; first = first; next = next } }
 {
-    match end_part(bits, needs, best, segment, true) {
-        Taken::Part(there) => {
-            if !segment.bytes.leave_out(bytes, first) {
-                return Taken::Refused;
-            }
-            segment.bytes.keep(next);
-            Taken::Part(there)
-        }
-        Taken::Elsewhere | Taken::Refused => Taken::Refused,
+    Best {
+        there: true,
+        bit: true,
+        removal: None,
+        first,
+        next,
     }
 }
 
-// Takes a part that was sent and is not judged as it stands, or NULL.
+// The same: bit 0.
 #[inline(always)]
-fn take_other(
-    alloc: Global,
-    part: &FieldPart,
-    entry: &mut Entry,
-    bits: &mut Bits,
-    needs: bool,
-    level: Level,
-    bytes: &[u8],
-    at: usize,
-    segment: &mut Segment,
-) -> Taken
-    requires run { IsRun bytes.now at segment.now.bytes }
-    requires kept { HoldsScalar entry.now }
-    requires needs { needs ≡ part_needs_bit_of part.now }
-    requires bit { bit_for (part_needs_bit_of part.now) bits.now ≡ true }
-    requires usual { ReadsAsUsual level part.now (drop at bytes.now) }
-    ensures { TakesPart level part.now entry.old entry.new bits.old bits.new bytes.now at
-        segment.old segment.new result }
+fn given(next: usize) -> Best
+    ensures { result ≡ record { there = true; bit = false; removal = None; first = next; next = next } }
 {
-    match relay_other(alloc, part, entry, bytes, at, &mut segment.bytes) {
-        Some((there, best)) => end_part(bits, needs, best, segment, there),
-        None => Taken::Elsewhere,
+    Best {
+        there: true,
+        bit: false,
+        removal: None,
+        first: next,
+        next,
+    }
+}
+
+// Takes a part that was judged: its best form is written.
+#[inline(always)]
+fn end_best(bits: &mut Bits, needs: bool, best: Best, bytes: &[u8], segment: &mut Segment) -> Taken
+    requires run { IsRun bytes.now segment.now.bytes.place segment.now.bytes }
+    requires first { best.first ≤ best.next }
+    requires within { best.next ≤ length bytes.now }
+    ensures { MatchTaken result (λ is. (is ≡ best.there) × EndsPart needs best.bit bits.old bits.new
+        (with_bytes (level_in bytes.now segment.old) (form_of bytes.now best))
+        (level_in bytes.now segment.new) × IsRun bytes.now best.next segment.new.bytes) ⊥ }
+{
+    match end_part(bits, needs, best.bit, segment, best.there) {
+        Taken::Part(there) => {
+            if segment.bytes.put(best, bytes) {
+                Taken::Part(there)
+            } else {
+                Taken::Refused
+            }
+        }
+        Taken::Elsewhere | Taken::Refused => Taken::Refused,
     }
 }
 
@@ -167,8 +159,8 @@ fn take_given<L: Leveled>(
     end_part(bits, true, false, segment, there)
 }
 
-// Takes a part that was judged: what is best of it is written, or it is taken another way. (A call of its own, so that the
-// loop over fields has one for all that does not stand.)
+// Takes a part that was judged, or is now. (A call of its own, so that the loop over fields has one for all that does not
+// stand.)
 #[inline(never)]
 fn take_judged(
     judged: Judged,
@@ -197,10 +189,13 @@ fn take_judged(
             segment.bytes.keep(next);
             end_part(bits, needs, true, segment, true)
         }
-        Judged::Behind(next) => end_from(bits, needs, true, bytes, at + 1, next, segment),
-        Judged::BehindTwo(next) => end_from(bits, needs, true, bytes, at + 2, next, segment),
-        Judged::Given(next) => end_from(bits, needs, false, bytes, next, next, segment),
-        Judged::Elsewhere => take_other(alloc, part, entry, bits, needs, level, bytes, at, segment),
+        Judged::Behind(next) => end_best(bits, needs, sent(at + 1, next), bytes, segment),
+        Judged::BehindTwo(next) => end_best(bits, needs, sent(at + 2, next), bytes, segment),
+        Judged::Given(next) => end_best(bits, needs, given(next), bytes, segment),
+        Judged::Elsewhere => match judge_other(alloc, part, entry, bytes, at) {
+            Some(best) => end_best(bits, needs, best, bytes, segment),
+            None => Taken::Elsewhere,
+        },
     }
 }
 

@@ -12,10 +12,12 @@ mod fields;
 mod laws;
 mod quick;
 mod relay;
+mod run;
 mod segment;
 mod strictly;
 mod writer;
 
 pub use laws::canonical_bytes_carry;
+pub use run::Run;
 pub use segment::Segment;
 pub use writer::Writer;

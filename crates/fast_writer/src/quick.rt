@@ -15,36 +15,9 @@ use crate::relay::relay_entry;
 use crate::segment::Segment;
 use fast_dictionary::{Entries, Entry};
 use fast_field::FieldFault;
-use fast_relay::{Relayed as Answer, Run, relay_null, respell_text};
 use fast_template::{FieldPart, part_needs_bit};
 use fast_wire::Level;
 use std::alloc::Global;
-
-// Reads NULL, or a string that was sent as a difference or a tail and says more than it had to, and appends its best form. Answers
-// whether the value is there, and the bit of its best form. None: nothing has changed, and the part goes another way.
-#[inline(always)]
-pub(crate) fn relay_other(
-    alloc: Global,
-    part: &FieldPart,
-    entry: &mut Entry,
-    bytes: &[u8],
-    at: usize,
-    out: &mut Run,
-) -> Option<(bool, bool)>
-    requires run { IsRun bytes.now at out.now }
-    requires kept { HoldsScalar entry.now }
-    ensures { MatchOption result ((entry.new ≡ entry.old) × Stays bytes.now at out.old out.new)
-        (λ x. RelaysRun part.now entry.old entry.new x.0 x.1 bytes.now at out.old out.new) }
-{
-    match relay_null(part, entry, bytes, at, out) {
-        Answer::Sent(_next) => Some((false, true)),
-        Answer::Given(_next) => Some((false, false)),
-        Answer::Elsewhere => match respell_text(alloc, part, entry, bytes, at, out) {
-            Some(_next) => Some((true, true)),
-            None => None,
-        },
-    }
-}
 
 // Reads a part of any kind the general way and appends its best form. (A call of its own, so that the walk over a segment has room for one answer
 // only.)

@@ -5,7 +5,7 @@ ghost use Rattle.fast_wire.specs.declared.fault.WireFault.TheVariants as fault;
 ghost use Rattle.fast_writer.specs.Written.{Asked, Ended, has_set};
 ghost use Rattle.fast_writer.specs.Levels.{level_of};
 
-use fast_relay::Run;
+use crate::run::Run;
 use fast_wire::{MapBuilder, WireFault};
 use std::alloc::{AllocError, Global};
 

@@ -3,7 +3,8 @@ use Rattle.std.specs.Int.RustNames.{FitsSigned}
 use Rattle.std.proofs.Common.{rules, refl}
 use Rattle.std.proofs.lemmas.Int.{to_z-of_z}
 use Rattle.fast_relay.specs.Judged.{LeavesWhole, NumberGives}
-use Rattle.fast_relay.proofs.Judging.{delta_stands, found_as, whole_gives}
+use Rattle.fast_relay.proofs.Judging.{found_as}
+use Rattle.fast_relay.proofs.Taking.{added_gives, whole_gives}
 use Rattle.fast_relay.proofs.judged.judge_number.Goals as goal
 
 pub returns-then-add : goal.returns-then-add
@@ -12,7 +13,7 @@ returns-then-add c =
     let z = c.args.number in
     let fits : FitsSigned w64 z = search rules in
     let adds = rw (to_z-of_z w64 z fits, c.requires.part) at (c.add.ensures.added c.if-add.true) in
-    (refl, λ bytes at first next s. delta_stands c.args.kind i c.args.entry.now c.add.new.entry z bytes at first next c.requires.kind c.in-Delta.is adds (rw (c.in-Delta.is) at s))
+    (refl, added_gives c.args.kind i c.args.entry.now c.add.new.entry z c.requires.kind c.in-Delta.is adds)
 
 pub returns-in_default : goal.returns-in_default
 returns-in_default c =

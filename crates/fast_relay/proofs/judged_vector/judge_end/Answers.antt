@@ -1,7 +1,7 @@
 use Rattle.std.proofs.Common.{arith, drop, length, ◌-◌, ◌++◌, slice_range, refl}
 use Rattle.fast_field.specs.Values.{units_of}
 use Rattle.fast_relay.proofs.TextRelaying.{text_few}
-use Rattle.fast_relay.proofs.VectorTexts.{front_text, put_behind, vector_tail_relays}
+use Rattle.fast_relay.proofs.VectorTexts.{end_gives, front_text, put_behind}
 use Rattle.fast_relay.proofs.judged_vector.judge_end.Goals as goal
 
 pub put_part-requires-clause-text : goal.put_part-requires-clause-text
@@ -17,23 +17,17 @@ put_part-requires-clause-text c =
     (front_text i.kind c.args.value.now (length b - length s) c.requires.kind text (omega arith) (rw c.units-base.ensures at (c.may_end.ensures c.if-not-may_end.false))) (c.are_text.ensures c.if-not-are_text.false))
 
 pub returns-then-put_part-clause-gives : goal.returns-then-put_part-clause-gives
-returns-then-put_part-clause-gives c = λ bytes at first next stands.
+returns-then-put_part-clause-gives c =
     let i = c.args.instr.now in
     let value = c.args.value.now in
     let b = units_of value in
     let s = c.args.part.now in
-    let form = slice_range bytes first next in
     let text = c.is_text.ensures c.if-not-is_text.false in
     let part = c.are_text.ensures c.if-not-are_text.false in
     let few = text_few i.kind value text in
     let le = rw c.units-base.ensures at c.if-part-base.false in
     let t = put_behind i.kind b s (length b - length s) c.requires.kind (omega arith) (omega (arith, few, le))
-    (front_text i.kind value (length b - length s) c.requires.kind text (omega arith) (rw c.units-base.ensures at (c.may_end.ensures c.if-not-may_end.false))) part in (
-      c.put_part.new.value,
-      λ out. rw (c.put_part.ensures.put c.if-put_part.true, c.units-base.ensures)
-          (vector_tail_relays i value (length b - length s) s (drop at bytes) (drop next bytes) out (out ++ form)
-          c.requires.kind c.requires.part c.requires.operator text (omega (arith, le))
-          (c.goes_on_otherwise.ensures.some c.if-not-goes_on_otherwise.false)
-          (rw c.units-base.ensures at (c.goes_on_otherwise.ensures.prefix c.if-not-goes_on_otherwise.false))
-          t stands.spelt (form, refl, stands.shortest part)),
-    )
+    (front_text i.kind value (length b - length s) c.requires.kind text (omega arith) (rw c.units-base.ensures at (c.may_end.ensures c.if-not-may_end.false))) part in
+    rw (c.put_part.ensures.put c.if-put_part.true, c.units-base.ensures)
+    (end_gives i value (length b - length s) s c.requires.kind c.requires.part c.requires.operator text (omega (arith, le)) (c.goes_on_otherwise.ensures.some c.if-not-goes_on_otherwise.false)
+    (rw c.units-base.ensures at (c.goes_on_otherwise.ensures.prefix c.if-not-goes_on_otherwise.false)) t part)

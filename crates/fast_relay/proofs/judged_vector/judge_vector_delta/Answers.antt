@@ -1,10 +1,10 @@
 use Rattle.std.proofs.Common.{arith, drop, length, ◌-◌, ◌++◌, refl, slice_range}
 use Rattle.std.specs.Prelude.{pos}
 use Rattle.fast_field.specs.Values.{units_of}
-use Rattle.fast_relay.proofs.Runs.{range_split}
+use Rattle.fast_relay.proofs.Ranges.{range_split}
 use Rattle.fast_relay.proofs.Standing.{shortest_signed}
 use Rattle.fast_relay.proofs.TextRelaying.{text_few}
-use Rattle.fast_relay.proofs.VectorTexts.{front_text, put_behind, vector_delta_relays}
+use Rattle.fast_relay.proofs.VectorTexts.{front_text, put_behind, vector_delta_judges}
 use Rattle.fast_relay.proofs.judged_vector.judge_vector_delta.Goals as goal
 
 pub put_part-requires-clause-text : goal.put_part-requires-clause-text
@@ -44,22 +44,17 @@ returns-then-put_part-clause-judged c =
     let t = put_behind i.kind b s n c.requires.kind (omega arith) (omega (arith, few, short))
     (front_text i.kind value n c.requires.kind text (omega arith) (rw c.units-base.ensures at (c.may_end.ensures c.if-not-may_end.false))) part in (
       c.put_part.new.value,
-      λ out. rw (c.put_part.ensures.put c.if-put_part.true, c.units-base.ensures)
-          (vector_delta_relays i value r n s (drop c.args.at bytes) (drop c.args.middle bytes) (drop next bytes) out (out ++ form)
+      rw (c.put_part.ensures.put c.if-put_part.true, c.units-base.ensures)
+          (vector_delta_judges i value r n s (drop c.args.at bytes) (drop c.args.middle bytes) (drop next bytes) form
           c.requires.kind c.requires.part c.requires.operator text c.requires.few (omega (arith, le)) refl
           (rw c.units-base.ensures at (c.goes_on_otherwise.ensures.prefix c.if-not-goes_on_otherwise.false))
           (rw c.units-base.ensures at (c.is_vector_cut_at_end.ensures c.if-not-is_vector_cut_at_end.false))
-          t
-          sent.spelt
-          c.in_ok-start.ensures.stands.spelt (
-            form,
-            refl,
-            record {
+          t sent.spelt c.in_ok-start.ensures.stands.spelt
+          (record {
               front = front;
               back = back;
               parts = range_split bytes c.args.first c.args.middle next c.requires.first (omega (arith, c.in_ok-start.ensures.start));
               first = shortest_signed i.presence (pos r) front sent.form sent.short;
               second = c.in_ok-start.ensures.stands.shortest part;
-            },
-          )),
+            })),
     )

@@ -1,7 +1,7 @@
 -- Bytes that are written while others are read. Those that stand in their best form are noted as they lie, and appended
 -- in one piece later. (Own.)
 use Rattle.std.specs.Prelude.{◌≡◌, ◌≤◌, ℕ, List, ◌++◌, length, slice_range}
-use Rattle.fast_relay.specs.declared.run.Run.{Run}
+use Rattle.fast_writer.specs.declared.run.Run.{Run}
 
 -- all that is written: what was appended, and behind it what is noted of the bytes that are read
 abbrev pub written : List ℕ → Run → List ℕ
@@ -12,12 +12,3 @@ pub record IsRun (bytes : List ℕ) (at : ℕ) (r : Run) : Type 0 where
   pub from : r.from ≤ r.place
   pub place : r.place ≡ at
   pub within : at ≤ length bytes
-
--- no more was read, and no more is written
-pub record Stays (bytes : List ℕ) (at : ℕ) (old new : Run) : Type 0 where
-  pub written : written bytes new ≡ written bytes old
-  pub run : IsRun bytes at new
-
--- behind what was written stands a form of some kind
-abbrev pub AppendsForm : (List ℕ → Type 0) → List ℕ → List ℕ → Type 0
-AppendsForm Spells before after = (b : List ℕ) × (after ≡ before ++ b) × Spells b

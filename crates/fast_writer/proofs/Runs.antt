@@ -1,16 +1,7 @@
 -- What a run of noted bytes is.
 use Rattle.std.proofs.Common.{◌≡◌, ◌≤◌, ℕ, Bool, true, false, refl, ◌+◌, ◌-◌, List, [], ◌++◌, take, drop, slice_range, sym, ap, ◌∙◌, arith, append_assoc, append-nil, drop-drop, take-add, length}
-use Rattle.fast_relay.specs.Runs.{IsRun, Stays, written}
-use Rattle.fast_relay.specs.declared.run.Run.{Run}
-
-pub range_split : (bytes : List ℕ) (a b c : ℕ) → a ≤ b → b ≤ c → slice_range bytes a c ≡ slice_range bytes a b ++ slice_range bytes b c
-range_split bytes a b c le more =
-    let all : c - a ≡ (b - a) + (c - b) = omega arith in
-    let there : a + (b - a) ≡ b = omega arith in
-    ap (λ k. take k (drop a bytes)) all ∙ take-add (b - a) (c - b) (drop a bytes) ∙ ap (λ x. take (b - a) (drop a bytes) ++ take (c - b) x) (drop-drop (b - a) a bytes ∙ ap (λ k. drop k bytes) there)
-
-pub range_none : (bytes : List ℕ) (a : ℕ) → slice_range bytes a a ≡ []
-range_none bytes a = let none : a - a ≡ 0 = omega arith in ap (λ k. take k (drop a bytes)) none
+use Rattle.fast_writer.specs.Runs.{IsRun, Stays, written}
+use Rattle.fast_writer.specs.declared.run.Run.{Run}
 
 -- what is noted up to a place behind is written behind what was
 pub kept : (bytes : List ℕ) (at : ℕ) (r : Run) (next : ℕ) → IsRun bytes at r → r.place ≤ next → r.out.items ++ slice_range bytes r.from next ≡ written bytes r ++ slice_range bytes at next

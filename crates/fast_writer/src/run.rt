@@ -1,8 +1,10 @@
 //! What is written while fields are read: bytes that stand in their best form are noted, and appended in one piece.
 
 ghost use Rattle.std.specs.Prelude.{◌≡◌, ◌≤◌, ◌++◌, ℕ, List, [], true, false, length, slice_range};
-ghost use Rattle.fast_relay.specs.Runs.{IsRun, Stays, written};
+ghost use Rattle.fast_relay.specs.Best.{form_of};
+ghost use Rattle.fast_writer.specs.Runs.{IsRun, written};
 
+use fast_relay::Best;
 use std::alloc::Global;
 
 /// Bytes that were appended, and bytes of the input that are noted to be appended behind them.
@@ -99,21 +101,29 @@ impl Run {
         }
     }
 
-    /// Leaves out the bytes up to a place: what is noted is appended, and what is noted later begins there. Answers false
-    /// where memory is refused.
+    /// Notes the best form of what was read, behind all that is written; answers false where memory is refused.
     #[inline(always)]
-    pub fn leave_out(&mut self, bytes: &[u8], next: usize) -> bool
-        requires from { self.now.from ≤ self.now.place }
-        requires place { self.now.place ≤ length bytes.now }
-        ensures written { result ≡ true → written bytes.now self.new ≡ written bytes.now self.old }
-        ensures run { result ≡ true → next ≤ length bytes.now → IsRun bytes.now next self.new }
-        ensures stays { (at : ℕ) → IsRun bytes.now at self.old → result ≡ false
-            → Stays bytes.now at self.old self.new }
+    pub(crate) fn put(&mut self, best: Best, bytes: &[u8]) -> bool
+        requires run { IsRun bytes.now self.now.place self.now }
+        requires first { best.first ≤ best.next }
+        requires within { best.next ≤ length bytes.now }
+        ensures written { result ≡ true → written bytes.now self.new ≡ written bytes.now self.old ++ form_of bytes.now best }
+        ensures run { result ≡ true → IsRun bytes.now best.next self.new }
     {
+        if best.first == self.place && best.removal.is_none() {
+            self.keep(best.next);
+            return true;
+        }
         if !self.flush(bytes) {
             return false;
         }
-        self.begin(next);
+        if let Some(removal) = best.removal {
+            if self.out.push(removal).is_err() {
+                return false;
+            }
+        }
+        self.begin(best.first);
+        self.keep(best.next);
         true
     }
 }
