@@ -1,5 +1,5 @@
 -- What decimals that are read at once rest on.
-use Rattle.std.proofs.Common.{◌≡◌, ℕ, true, false, List, ◌++◌, Result, Ok, Err, refl, sym, ap, subst, ◌∙◌}
+use Rattle.std.proofs.Common.{◌≡◌, ℕ, true, false, List, Result, Ok, Err, refl, sym, ap, subst, ◌∙◌}
 use Rattle.std.specs.Prelude.{ℤ, ◌+ℤ◌, ◌-ℤ◌, Some}
 use Rattle.fast_wire.specs.declared.level.Level.TheVariants.{Usual}
 use Rattle.fast_wire.specs.Reading.{◌>>=◌, signed_at}
@@ -11,7 +11,6 @@ use Rattle.fast_value.specs.declared.kind.Kind.TheVariants as kind
 use Rattle.fast_value.specs.declared.kind.Operator.{Operator}
 use Rattle.fast_value.specs.declared.kind.Operator.TheVariants as operator
 use Rattle.fast_value.specs.declared.kind.Part.{Part}
-use Rattle.fast_value.specs.declared.kind.Part.TheVariants as part
 use Rattle.fast_value.specs.declared.kind.Presence.{Presence}
 use Rattle.fast_value.specs.declared.kind.Presence.TheVariants.{Mandatory}
 use Rattle.fast_template.specs.declared.resolved.FieldPart.{FieldPart}
@@ -19,12 +18,10 @@ use Rattle.fast_value.specs.declared.scalar.Scalar.{Scalar}
 use Rattle.fast_value.specs.declared.scalar.Scalar.TheVariants.{Decimal}
 use Rattle.fast_dictionary.specs.declared.entry.Entry.{Entry}
 use Rattle.fast_dictionary.specs.declared.entry.Entry.TheVariants.{Assigned}
-use Rattle.fast_field.specs.Bases.{next}
 use Rattle.fast_field.specs.Chosen.{ShortestPair, ShortestWhole}
 use Rattle.fast_field.specs.Deltas.{DeltaForm}
 use Rattle.fast_field.specs.FieldReading.{decimal_delta_at, decimal_spelled_at, decimal_value, delta_at, in_field, integer_at, mantissa_behind, mantissa_delta_behind, spelled_at, whole_at}
 use Rattle.fast_field.specs.Fields.{FormOf}
-use Rattle.fast_field.specs.Planning.{left_out_of}
 use Rattle.fast_field.specs.declared.fault.FieldFault.{FieldFault}
 use Rattle.fast_field.specs.declared.fault.FieldFault.TheVariants as fault
 use Rattle.fast_field.proofs.BestDeltas.{IsFirst}

@@ -1,6 +1,6 @@
 -- What numbers rest on that are judged as they stand.
-use Rattle.std.proofs.Common.{◌≡◌, ◌++◌, ◌≤◌, ℕ, Bool, true, false, List, length, drop, slice_range, refl, rules, sym, ap, subst, ◌∙◌}
-use Rattle.std.specs.Prelude.{ℤ, ◌+ℤ◌, Some, IsTrue}
+use Rattle.std.proofs.Common.{◌≡◌, ◌≤◌, ℕ, Bool, true, false, List, length, drop, slice_range, refl, rules, sym, ap, subst, ◌∙◌}
+use Rattle.std.specs.Prelude.{ℤ, Some}
 use Rattle.fast_wire.specs.Reader.{IsBytes}
 use Rattle.fast_value.specs.Scalar.{is_of, of_integer, scalar_eq-exact, scalar_eq-same}
 use Rattle.fast_value.specs.contracts.scalar.ScalarPartialEq.TheImpl as scalar_eq
@@ -13,19 +13,21 @@ use Rattle.fast_value.specs.declared.scalar.Scalar.{Scalar}
 use Rattle.fast_dictionary.specs.declared.entry.Entry.{Entry}
 use Rattle.fast_dictionary.specs.declared.entry.Entry.TheVariants.{Assigned}
 use Rattle.fast_field.specs.Bases.{next}
-use Rattle.fast_field.specs.Numbers.{HasNumber, IsFieldNumber, IsNumber, next_number}
+use Rattle.fast_field.specs.Numbers.{HasNumber, IsNumber, next_number}
 use Rattle.fast_field.specs.Planning.{left_out_of}
 use Rattle.fast_field.specs.Spelled.{overlong_number}
-use Rattle.fast_field.specs.Values.{integer_of, is_unsigned}
-use Rattle.fast_field.proofs.BestForms.{bit_zero_is_best}
-use Rattle.fast_field.proofs.BestValues.{left_out}
-use Rattle.fast_field.proofs.Passing.{increased_is, kind_is, number_back, of_kind, within_number}
-use Rattle.fast_relay.specs.Judged.{Adds, IfFound, JudgesFrom, Leaves, LeavesWhole, NumberGives, StandsAt, StandsFrom, sent_unsigned}
-use Rattle.fast_relay.specs.Numbers.{SpellsWhole, Spelt}
+use Rattle.fast_field.specs.Values.{integer_of}
+use Rattle.fast_field.proofs.Passing.{increased_is, kind_is, number_back}
+use Rattle.fast_relay.specs.Judged.{IfFound, Leaves, StandsAt}
+use Rattle.fast_relay.specs.Numbers.{Spelt}
 use Rattle.fast_relay.specs.declared.judged.Judged.{Judged}
 use Rattle.fast_relay.specs.declared.judged.Judged.TheVariants.{Stands, Behind, BehindTwo, Given, Elsewhere}
-use Rattle.fast_relay.proofs.Standing.{shortest_signed, shortest_whole, standing}
-use Rattle.fast_relay.proofs.Taking.{whole_takes}
+use Rattle.fast_relay.proofs.Standing.{standing}
+use Rattle.std.specs.Prelude.{None}
+use Rattle.std.proofs.Common.{arith}
+use Rattle.fast_relay.specs.Best.{HasBest}
+use Rattle.fast_relay.specs.Judged.{JudgedTo}
+use Rattle.fast_relay.proofs.Ranges.{range_none}
 
 -- ---- what is handed on
 
@@ -77,3 +79,20 @@ increment_sends k i old new y z same o h fits differ entry =
       entry = number_next i old new w o entry;
       left_out = increments k i old y w same o h ∙ no_same v w ((scalar_eq.eq-value).it v w) (λ e. differ (sym (number_back k (next_number k y) follows) ∙ ap integer_of e ∙ number_back k z fits)) refl;
     }
+
+-- ---- the best form of what was judged
+
+-- a value that is there, between two places
+pub sent_best : {p : FieldPart} {old new : Entry} {bytes : List ℕ} {at : ℕ} (first next : ℕ) → at ≤ first → JudgedTo true p old new bytes at first next → HasBest p old new bytes at (record { there = true; bit = true; removal = None; first = first; next = next })
+sent_best first next from j = record { place = omega (arith, j.place); first = j.place; within = j.within; value = Some j.gives.0; is_there = (j.gives.0, refl, j.gives.1.0); judges = j.gives.1.1 }
+
+-- or given by bit 0
+pub given_best : {p : FieldPart} {old new : Entry} {bytes : List ℕ} {at : ℕ} (next : ℕ) → JudgedTo false p old new bytes at at next → HasBest p old new bytes at (record { there = true; bit = false; removal = None; first = next; next = next })
+given_best {bytes = bytes} next j = record {
+  place = j.place;
+  first = omega arith;
+  within = j.within;
+  value = Some j.gives.0;
+  is_there = (j.gives.0, refl, j.gives.1.0);
+  judges = rw (range_none bytes next) j.gives.1.1;
+}

@@ -1,15 +1,13 @@
 -- A length in one byte that no entry keeps.
-use Rattle.std.proofs.Common.{◌≡◌, ℕ, pos, ◌+◌, ◌-◌, ◌^◌, ◌<◌, true, nat_le, List, ◌∷◌, ◌++◌, [], length, drop, take, slice_range, get_or, refl, sym, ap, subst, ◌∙◌, arith}
+use Rattle.std.proofs.Common.{◌≡◌, ℕ, pos, ◌+◌, ◌-◌, ◌^◌, ◌<◌, true, nat_le, List, ◌∷◌, [], length, drop, get_or, refl, sym, subst, arith}
 use Rattle.std.specs.Prelude.{◌&&◌, Some, None}
 use Rattle.std.proofs.lemmas.Bool.Decides.{nat_tests}
-use Rattle.std.proofs.lemmas.List.{drop_more}
 use Rattle.fast_value.specs.declared.kind.Kind.TheVariants.{UInt32}
 use Rattle.fast_value.specs.declared.kind.Operator.TheVariants.{Plain}
 use Rattle.fast_value.specs.declared.kind.Part.TheVariants.{Length}
 use Rattle.fast_value.specs.declared.kind.Presence.{Presence}
 use Rattle.fast_value.specs.declared.kind.Presence.TheVariants.{Mandatory, Optional}
 use Rattle.fast_template.specs.declared.resolved.FieldPart.{FieldPart}
-use Rattle.fast_dictionary.specs.declared.entry.Entry.{Entry}
 use Rattle.fast_field.specs.Numbers.{IsFieldNumber}
 use Rattle.fast_relay.specs.Judged.{LeavesWhole, zero_byte}
 use Rattle.fast_relay.specs.OneByte.{RelaysByte}

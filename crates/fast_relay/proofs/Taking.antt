@@ -30,7 +30,7 @@ use Rattle.fast_field.proofs.FieldForms.{checked_is}
 use Rattle.fast_field.proofs.FieldsGoOn.{field_goes}
 use Rattle.fast_field.proofs.Passing.{of_type, of_kind, number_back, within_number, kind_is, number_is}
 use Rattle.fast_relay.specs.Numbers.{SpellsWhole, Spelt}
-use Rattle.fast_relay.specs.Judged.{Adds, JudgesFrom, Leaves, LeavesWhole, NumberGives, StandsFrom, sent_unsigned, under}
+use Rattle.fast_relay.specs.Judged.{Adds, JudgesFrom, LeavesWhole, NumberGives, StandsFrom, sent_unsigned, under}
 use Rattle.fast_relay.specs.Relayed.{Judges, Takes}
 use Rattle.fast_relay.proofs.Ranges.{range_none}
 use Rattle.fast_relay.proofs.Standing.{shortest_signed, shortest_whole}

@@ -1,5 +1,5 @@
 -- What strings and vectors that are read and judged at once rest on.
-use Rattle.std.proofs.Common.{◌≡◌, ◌≤◌, true, false, List, ℕ, ◌++◌, Ok, length, refl, sym, subst, ◌∙◌}
+use Rattle.std.proofs.Common.{◌≡◌, ◌≤◌, true, false, List, ℕ, Ok, length, refl, sym, subst, ◌∙◌}
 use Rattle.std.specs.Prelude.{ℤ, Some, IsTrue}
 use Rattle.fast_wire.specs.declared.level.Level.TheVariants.{Usual}
 use Rattle.fast_wire.specs.Writing.{IsShortest}
@@ -15,9 +15,9 @@ use Rattle.fast_template.specs.declared.resolved.FieldPart.{FieldPart}
 use Rattle.fast_value.specs.declared.scalar.Scalar.{Scalar}
 use Rattle.fast_dictionary.specs.declared.entry.Entry.{Entry}
 use Rattle.fast_dictionary.specs.declared.entry.Entry.TheVariants.{Assigned}
-use Rattle.fast_field.specs.Bases.{next, tail_base}
+use Rattle.fast_field.specs.Bases.{tail_base}
 use Rattle.fast_field.specs.Chosen.{Both, IsBestCut, IsBestTail, ShortestPart, ShortestSigned, ShortestUnits}
-use Rattle.fast_field.specs.Deltas.{DeltaForm, TailForm}
+use Rattle.fast_field.specs.Deltas.{DeltaForm}
 use Rattle.fast_field.specs.FieldReading.{delta_at, row_at, spelled_at, tail_at, unit_delta_at, units_spelled_at, whole_at}
 use Rattle.fast_field.specs.Fields.{FormOf, within_part}
 use Rattle.fast_relay.specs.Numbers.{SpellsWhole}

@@ -27,7 +27,7 @@ use Rattle.fast_value.specs.declared.scalar.Scalar.TheVariants.{Unicode, Bytes}
 use Rattle.fast_dictionary.specs.declared.entry.Entry.{Entry}
 use Rattle.fast_dictionary.specs.declared.entry.Entry.TheVariants.{Assigned, Empty}
 use Rattle.fast_field.specs.declared.fault.FieldFault.{FieldFault}
-use Rattle.fast_field.specs.Bases.{next, start_of}
+use Rattle.fast_field.specs.Bases.{start_of}
 use Rattle.fast_field.specs.Chosen.{Both, IsBestCut, IsBestTail, ShortestPart, ShortestSigned, ShortestUnits, part_size, tail_size}
 use Rattle.fast_field.specs.CommonParts.{IsLongestPrefix, SharesEnd}
 use Rattle.fast_field.specs.Deltas.{ended_by}

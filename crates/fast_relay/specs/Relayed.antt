@@ -1,6 +1,6 @@
 -- A field that is read at once: what was read is a form of its value, the entry is the one afterwards, and what the value's best
 -- form is. (Own.)
-use Rattle.std.specs.Prelude.{◌≡◌, ℕ, Bool, true, false, List, [], ◌++◌, Option, Some, None, Ok, IsTrue, ⊤}
+use Rattle.std.specs.Prelude.{◌≡◌, ℕ, Bool, true, false, List, ◌++◌, Option, Some, None, Ok, IsTrue}
 use Rattle.fast_wire.specs.declared.level.Level.TheVariants.{Usual}
 use Rattle.fast_value.specs.Scalar.{is_of}
 use Rattle.fast_value.specs.declared.kind.Kind.{Kind}

@@ -1,9 +1,13 @@
 //! What the best form of a field is that was read under bit 1 and is best spelled otherwise than it stands, or is NULL.
 
-ghost use Rattle.std.specs.Prelude.{◌≡◌, ◌≤◌, length, MatchOption};
+ghost use Rattle.std.specs.Prelude.{◌≡◌, ◌≤◌, length, true, None, IfNone, MatchOption};
+ghost use Rattle.fast_template.specs.declared.resolved.FieldPart.{FieldPart as PartOf};
+ghost use Rattle.fast_dictionary.specs.declared.entry.Entry.{Entry as EntryOf};
 ghost use Rattle.fast_field.specs.Within.{HoldsScalar};
 ghost use Rattle.fast_relay.specs.Best.{HasBest};
+ghost use Rattle.fast_relay.specs.Judged.{IsJudged};
 
+use crate::judged::Judged;
 use crate::null::judge_null;
 use crate::respelled::respell_text;
 use fast_dictionary::Entry;
@@ -23,6 +27,43 @@ pub struct Best {
     pub first: usize,
     /// The place behind what was read.
     pub next: usize,
+}
+
+/// The best form of a value that is there: the bytes between two places.
+#[inline(always)]
+fn sent(first: usize, next: usize) -> Best
+    ensures { result ≡ record { there = true; bit = true; removal = None; first = first; next = next } }
+{
+    Best {
+        there: true,
+        bit: true,
+        removal: None,
+        first,
+        next,
+    }
+}
+
+/// The best form of a field that was judged at a place; none where it was judged elsewhere.
+#[inline(always)]
+pub fn best_of(judged: Judged, bytes: &[u8], at: usize) -> Option<Best>
+    requires { at ≤ length bytes.now }
+    ensures best { (i : PartOf) (old new : EntryOf) → IsJudged i old new bytes.now at judged
+        → MatchOption result (new ≡ old) (λ best. HasBest i old new bytes.now at best) }
+    ensures elsewhere { IfNone result (judged ≡ Judged.Elsewhere) }
+{
+    match judged {
+        Judged::Stands(next) => Some(sent(at, next)),
+        Judged::Behind(next) => Some(sent(at + 1, next)),
+        Judged::BehindTwo(next) => Some(sent(at + 2, next)),
+        Judged::Given(next) => Some(Best {
+            there: true,
+            bit: false,
+            removal: None,
+            first: next,
+            next,
+        }),
+        Judged::Elsewhere => None,
+    }
 }
 
 /// Judges what is read under bit 1 and is NULL, or an ASCII string that was sent as a difference or a tail, be it with more

@@ -236,7 +236,9 @@ pub(crate) fn judge_string(
             _ => Judged::Elsewhere,
         },
         Operator::Tail => match entry {
-            Entry::Assigned(Scalar::Ascii(text)) => judge_string_tail(alloc, instr, text, bytes, at),
+            Entry::Assigned(Scalar::Ascii(text)) => judge_string_tail(
+                alloc, instr, text, bytes, at,
+            ),
             _ => Judged::Elsewhere,
         },
         Operator::Constant | Operator::Increment => Judged::Elsewhere,

@@ -38,7 +38,7 @@ mod utf8;
 mod vectors;
 mod words;
 
-pub use best::{Best, judge_other};
+pub use best::{Best, best_of, judge_other};
 pub use integers::is_unsigned;
 pub use judged::{Judged, judge_field};
 pub use kept::take_kept;

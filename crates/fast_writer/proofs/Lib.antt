@@ -3,6 +3,7 @@ pub mod WorkedCanonical
 pub mod Leavings
 pub mod Writings
 pub mod Repeated
+mod Runs
 mod QuickWays
 pub mod Relays
 pub mod Writers

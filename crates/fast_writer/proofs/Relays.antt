@@ -10,11 +10,11 @@ use Rattle.fast_wire.specs.declared.level.Level.{Level}
 use Rattle.fast_field.specs.Bases.{next}
 use Rattle.fast_field.specs.FieldReading.{field_at}
 use Rattle.fast_field.specs.AsUsual.{ReadsAsUsual}
-use Rattle.fast_relay.specs.Relayed.{Relays}
+use Rattle.fast_relay.specs.Relayed.{Judges}
 use Rattle.fast_relay.specs.OneByte.{RelaysByte}
-use Rattle.fast_relay.specs.Runs.{written}
-use Rattle.fast_relay.specs.declared.run.Run.{Run}
-use Rattle.fast_relay.proofs.Runs.{settled}
+use Rattle.fast_writer.specs.Runs.{written}
+use Rattle.fast_writer.specs.declared.run.Run.{Run}
+use Rattle.fast_writer.proofs.Runs.{settled}
 use Rattle.fast_walk.specs.Received.{Took, length_of}
 use Rattle.fast_walk.proofs.Putting.{set_written}
 use Rattle.fast_stream.specs.Bits.{bit_for}
@@ -24,6 +24,13 @@ use Rattle.fast_writer.specs.Takings.{TookEntry}
 use Rattle.fast_writer.proofs.MapRoom.{asked_room}
 use Rattle.fast_field.specs.declared.fault.FieldFault.{FieldFault}
 use Rattle.fast_writer.specs.Written.{Segment, AppendsForm, Asked, Spelt}
+use Rattle.fast_value.specs.declared.kind.Operator.{Operator}
+use Rattle.fast_value.specs.declared.kind.Operator.TheVariants as operator
+use Rattle.fast_template.specs.Resolved.{operator_needs_bit}
+use Rattle.fast_wire.specs.declared.level.Level.TheVariants.{Usual}
+use Rattle.fast_field.specs.Best.{IsBest}
+use Rattle.fast_field.specs.Deltas.{Cut}
+use Rattle.fast_field.specs.Fields.{FormOf}
 
 pub took_of : {level : Level} {p : FieldPart} {bit : Bool} {d e : Dictionary} {old new : Entry} {v : Option Scalar} {bytes rest : List ℕ} → old ≡ entry_at d p.key → e ≡ set_entry d p.key new → new ≡ next p old v
     → ((more : List ℕ) → field_at level p old bit (bytes ++ more) ≡ Ok (v, rest ++ more)) → Took level p bit d e v bytes rest
@@ -56,13 +63,27 @@ took_entry is needs low r asked = record {
   lower = λ zero. low (sym is ∙ zero);
 }
 
--- what stands in its best form is relayed by its bytes
-pub stands_relayed : {level : Level} {i : FieldPart} {old new : Entry} {v : Scalar} {bytes rest before after all : List ℕ} → ReadsAsUsual level i bytes → Relays i old new v bytes rest before after → all ≡ after
-    → Relayed level i old new true true (Some v) bytes rest before all
-stands_relayed {old = old} usual r same = record {
-  read = λ more. usual old more ∙ r.read more;
-  entry = r.entry;
-  form = record { form = r.best.bytes; appended = same ∙ r.best.appended; best = r.best.best; needs = λ none. refl };
+-- what has no bit is not given by bit 0
+zero_needs : (o : Operator) (i : FieldPart) (e : Entry) (cut : Cut) (b : List ℕ) (v : Option Scalar) → FormOf Usual o i e false cut b v → operator_needs_bit o i.presence ≡ false → false ≡ true
+zero_needs operator.Plain i e cut b v f none = absurd f
+zero_needs operator.Constant i e cut b v f none = absurd (let some = rw (f.2) at none in cc)
+zero_needs operator.Default i e cut b v f none = absurd cc
+zero_needs operator.Copy i e cut b v f none = absurd cc
+zero_needs operator.Increment i e cut b v f none = absurd cc
+zero_needs operator.Delta i e cut b v f none = absurd f
+zero_needs operator.Tail i e cut b v f none = absurd cc
+
+best_needs : {i : FieldPart} {e : Entry} {b : List ℕ} {v : Option Scalar} (bit : Bool) → IsBest i e bit b v → part_needs_bit i ≡ false → bit ≡ true
+best_needs true best none = refl
+best_needs {i} {e} {b} {v} false best none = zero_needs i.operator i e best.cut b v best.form.row none
+
+-- what was judged is relayed by its best form
+pub judged_relayed : {level : Level} {i : FieldPart} {old new : Entry} {v : Option Scalar} {bit : Bool} {form bytes rest before all : List ℕ} → ReadsAsUsual level i bytes → Judges bit form i old new v bytes rest → all ≡ before ++ form
+    → Relayed level i old new true bit v bytes rest before all
+judged_relayed {old = old} {bit = bit} {form = form} usual j same = record {
+  read = λ more. usual old more ∙ j.read more;
+  entry = j.entry;
+  form = record { form = form; appended = same; best = j.best; needs = best_needs bit j.best };
 }
 
 -- what bit 0 gives is relayed by nothing
@@ -113,12 +134,8 @@ needs_one false bit one zero = absurd (let both = sym zero ∙ one refl in cc)
 -- a length in one byte, whose entry stays
 pub byte_relayed : (level : Level) (i : FieldPart) (count : Option ℕ) (bytes : List ℕ) (at : ℕ) → ReadsAsUsual level i (drop at bytes) → RelaysByte i count bytes at → (e : Entry) (out : List ℕ)
     → Relayed level i e e true true (length_of count) (drop at bytes) (drop (at + 1) bytes) out (out ++ slice_index bytes at ∷ [])
-byte_relayed level i (Some n) bytes at usual relays e out =
-    let r = relays e out in
-    record { read = λ more. usual e more ∙ r.read more; entry = r.entry; form = record { form = r.best.bytes; appended = r.best.appended; best = r.best.best; needs = λ none. refl } }
-byte_relayed level i None bytes at usual relays e out =
-    let r = relays e out in
-    record { read = λ more. usual e more ∙ r.read more; entry = r.entry; form = record { form = r.best.bytes; appended = r.best.appended; best = r.best.best; needs = λ none. refl } }
+byte_relayed level i (Some n) bytes at usual relays e out = judged_relayed usual (relays e) refl
+byte_relayed level i None bytes at usual relays e out = judged_relayed usual (relays e) refl
 
 -- where no bit is asked for
 pub byte_relays : (level : Level) (p : FieldPart) (bit : Bool) (d : Dictionary) (count : Option ℕ) (bytes : List ℕ) (at : ℕ) (l k : Segment)

@@ -32,16 +32,19 @@ use Rattle.fast_writer.specs.declared.fields.Taken.{Taken}
 use Rattle.fast_writer.specs.declared.fields.Taken.TheVariants.{Part, Elsewhere, Refused}
 use Rattle.fast_relay.specs.Relayed.{IsThere}
 use Rattle.fast_relay.specs.Judged.{JudgedTo}
-use Rattle.fast_relay.specs.Runs.{IsRun, written}
-use Rattle.fast_relay.specs.declared.run.Run.{Run}
+use Rattle.fast_writer.specs.Runs.{IsRun, written}
+use Rattle.fast_writer.specs.declared.run.Run.{Run}
 use Rattle.fast_field.specs.AsUsual.{ReadsAsUsual}
 use Rattle.fast_field.specs.Parts.{IsFieldPart}
 use Rattle.fast_walk.specs.Told.{KeepScalars}
 use Rattle.fast_writer.proofs.MapRoom.{asked_room}
-use Rattle.fast_writer.proofs.Relays.{stands_relayed, took_entry, took_of}
+use Rattle.fast_writer.proofs.Relays.{judged_relayed, took_entry, took_of}
 use Rattle.fast_writer.proofs.SpeltParts.{mantissa_taken, spelt_keeps}
 use Rattle.fast_writer.proofs.QuickWays.{exponent_there}
 use Rattle.fast_writer.proofs.Writers.{has_field, has_exponent, has_mantissa}
+use Rattle.fast_relay.specs.Best.{HasBest, form_of}
+use Rattle.fast_relay.specs.declared.best.Best.{Best}
+use Rattle.fast_writer.specs.Written.{with_bytes}
 
 -- the instruction that is next in a body
 pub next_flat : (flats : List Flat) (i : ℕ) (f : Flat) → f ≡ get_or flats i f → i < length flats → list_of (drop i flats) ≡ then_instruction (instruction_of f) (list_of (drop (i + 1) flats))
@@ -154,9 +157,25 @@ pub stood : (level : Level) (p : FieldPart) (old new : Entry) (needed : Bool) (b
     → TakesPart level p old new bits later bytes at l k t
 stood level p old new needed bits later bytes at next l k r t is needs usual judged run noted e =
     let v = judged.gives.0 in
-    let relays = judged.gives.1 (written bytes l.bytes) in
-    ended level p old new true true needed true (Some v) bits later bytes at next l k r t is needs (λ low. low) judged.place run (v, refl, relays.of_kind)
-    (stands_relayed usual relays noted) e
+    ended level p old new true true needed true (Some v) bits later bytes at next l k r t is needs (λ low. low) judged.place run (v, refl, judged.gives.1.0)
+    (judged_relayed usual judged.gives.1.1 noted) e
+
+-- it was judged, and its best form is written
+pub judged_taken : {p : FieldPart} {old new : Entry} {needed : Bool} {bytes : List ℕ} {at : ℕ} {b : Best} (level : Level) (bits later : List Bool) (l k : LevelNow) (t : Taken)
+    → bit_for (part_needs_bit p) bits ≡ true → needed ≡ part_needs_bit p → ReadsAsUsual level p (drop at bytes) → HasBest p old new bytes at b
+    → MatchTaken t (λ is. (is ≡ b.there) × EndsPart needed b.bit bits later (with_bytes (level_in bytes l) (form_of bytes b)) (level_in bytes k) × IsRun bytes b.next k.bytes) ⊥
+    → TakesPart level p old new bits later bytes at l k t
+judged_taken {p} {old} {new} {needed} {bytes} {at} {b} level bits later l k (Part there) is needs usual j e = record {
+  place = rw (e.2.place) j.place;
+  run = subst (λ (n : ℕ). IsRun bytes n k.bytes) (sym e.2.place) e.2;
+  value = j.value;
+  is_there = rw (e.0) j.is_there;
+  took = subst (λ (n : ℕ). TookEntry level p old new bits j.value (drop at bytes) (drop n bytes) (level_in bytes l) (level_in bytes k)) (sym e.2.place)
+      (took_entry is needs (λ low. absurd cc) (judged_relayed usual j.judges refl) e.1.asked);
+  left = rw (needs) at e.1.left;
+}
+judged_taken level bits later l k Elsewhere is needs usual j e = absurd e
+judged_taken level bits later l k Refused is needs usual j e = tt
 
 -- its entry is put under its key
 pub taken_under : (level : Level) (p : FieldPart) (d e : Dictionary) (old new : Entry) (bits later : List Bool) (bytes : List ℕ) (at : ℕ) (l k : LevelNow) (t : Taken)

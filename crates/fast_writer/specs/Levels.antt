@@ -3,7 +3,7 @@ use Rattle.std.specs.Prelude.{ℕ, List, map}
 use Rattle.fast_template.specs.Resolved.{Resolved}
 use Rattle.fast_dictionary.specs.Dictionary.{Dictionary}
 use Rattle.fast_stream.specs.Nodes.{Content}
-use Rattle.fast_relay.specs.Runs.{written}
+use Rattle.fast_writer.specs.Runs.{written}
 use Rattle.fast_walk.specs.Received.{Received}
 use Rattle.fast_writer.specs.Written.{Segment, IsFinished, IsOpened}
 use Rattle.fast_writer.specs.declared.segment.Segment.{Segment as LevelNow}

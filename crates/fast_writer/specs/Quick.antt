@@ -1,11 +1,10 @@
 -- A part that was relayed with no value in between. (Own.)
-use Rattle.std.specs.Prelude.{◌≡◌, ◌≢◌, ◌≤◌, ℕ, Bool, true, false, List, ◌++◌, length, drop, Option, Result, Ok, Err, MatchResult}
+use Rattle.std.specs.Prelude.{◌≡◌, ◌≢◌, ◌≤◌, ℕ, Bool, false, List, ◌++◌, length, drop, Option, Result, Ok, Err, MatchResult}
 use Rattle.fast_template.specs.declared.resolved.FieldPart.{FieldPart}
 use Rattle.fast_value.specs.declared.scalar.Scalar.{Scalar}
 use Rattle.fast_dictionary.specs.declared.entry.Entry.{Entry}
 use Rattle.fast_dictionary.specs.Dictionary.{Dictionary, entry_at}
 use Rattle.fast_wire.specs.declared.level.Level.{Level}
-use Rattle.fast_wire.specs.declared.level.Level.TheVariants.{Usual}
 use Rattle.fast_field.specs.Bases.{next}
 use Rattle.fast_field.specs.FieldReading.{field_at}
 use Rattle.fast_field.specs.Found.{value_found}
@@ -13,8 +12,6 @@ use Rattle.fast_field.specs.declared.fault.FieldFault.{FieldFault}
 use Rattle.fast_field.specs.declared.fault.FieldFault.TheVariants.{Memory}
 use Rattle.fast_field.specs.declared.found.Found.{Found}
 use Rattle.fast_relay.specs.Relayed.{IsThere}
-use Rattle.fast_relay.specs.Runs.{IsRun, written}
-use Rattle.fast_relay.specs.declared.run.Run.{Run}
 use Rattle.fast_walk.specs.Received.{Took, length_of}
 use Rattle.fast_writer.specs.Room.{KeepsRoom}
 use Rattle.fast_writer.specs.Written.{AppendsForm, Segment, Spelt}
@@ -44,14 +41,6 @@ pub record StopsEntry (level : Level) (p : FieldPart) (old new : Entry) (bit : B
 abbrev pub RelaysFound : Level → FieldPart → Entry → Entry → Bool → List ℕ → ℕ → List ℕ → List ℕ → Result (Found × Bool × ℕ) FieldFault → Type 0
 RelaysFound level p old new bit bytes at before after result =
     MatchResult result (λ x. RelaysEntry level p old new bit x.1 (value_found p new x.0) bytes at x.2 before after) (StopsEntry level p old new bit (drop at bytes) before after)
-
--- the same under bit 1 and as at the usual level, behind what is noted: whether the value is there
-pub record RelaysRun (p : FieldPart) (old new : Entry) (there best : Bool) (bytes : List ℕ) (at : ℕ) (r s : Run) : Type 0 where
-  pub place : at ≤ s.place
-  pub run : IsRun bytes s.place s
-  pub value : Option Scalar
-  pub is_there : IsThere p.kind there value
-  pub relayed : Relayed Usual p old new true best value (drop at bytes) (drop s.place bytes) (written bytes r) (written bytes s)
 
 -- ---- under a key
 

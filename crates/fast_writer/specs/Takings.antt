@@ -20,7 +20,7 @@ use Rattle.fast_walk.specs.Told.{IsTold, KeepScalars}
 use Rattle.fast_walk.specs.Walks.{AreServed, IsNextServed, bare_next}
 use Rattle.fast_walk.specs.Passing.{Passes, next_behind}
 use Rattle.fast_relay.specs.Relayed.{IsThere}
-use Rattle.fast_relay.specs.Runs.{IsRun}
+use Rattle.fast_writer.specs.Runs.{IsRun}
 use Rattle.fast_writer.specs.Levels.{level_in}
 use Rattle.fast_writer.specs.Room.{has_room}
 use Rattle.fast_writer.specs.Written.{Segment, Asked, IsOpened, Spelt}

@@ -13,8 +13,9 @@ ghost use Rattle.fast_walk.specs.Told.{KeepScalars};
 ghost use Rattle.fast_walk.specs.Walks.{AreServed, IsNextServed, IsServed};
 ghost use Rattle.fast_walk.specs.Passing.{next_behind};
 ghost use Rattle.fast_relay.specs.Relayed.{IsThere};
+ghost use Rattle.fast_relay.specs.Best.{form_of};
 ghost use Rattle.fast_relay.specs.Judged.{IsJudged};
-ghost use Rattle.fast_relay.specs.Runs.{IsRun};
+ghost use Rattle.fast_writer.specs.Runs.{IsRun};
 ghost use Rattle.fast_writer.specs.Levels.{level_in, level_of};
 ghost use Rattle.fast_writer.specs.Room.{has_room};
 ghost use Rattle.fast_wire.specs.PresenceMap.{next_bit};
@@ -28,7 +29,7 @@ use crate::segment::Segment;
 use crate::strictly::is_read_as_usual;
 use fast_dictionary::{Entries, Entry};
 use fast_field::Passed;
-use fast_relay::{Best, Judged, judge_field, judge_other, pass_quickly};
+use fast_relay::{Best, Judged, best_of, judge_field, judge_other, pass_quickly};
 use fast_template::{FieldPart, Flat, Kind, Part, part_needs_bit};
 use fast_walk::{Fields, Leveled};
 use fast_wire::{Bits, Level};
@@ -65,34 +66,6 @@ fn end_part(bits: &mut Bits, needs: bool, best: bool, segment: &mut Segment, the
     match segment.ask(needs, best) {
         Err(_) => Taken::Refused,
         Ok(()) => Taken::Part(there),
-    }
-}
-
-// The best form of a value that is there: the bytes between two places.
-#[inline(always)]
-fn sent(first: usize, next: usize) -> Best
-    ensures { result ≡ record { there = true; bit = true; removal = None; first = first; next = next } }
-{
-    Best {
-        there: true,
-        bit: true,
-        removal: None,
-        first,
-        next,
-    }
-}
-
-// The same: bit 0.
-#[inline(always)]
-fn given(next: usize) -> Best
-    ensures { result ≡ record { there = true; bit = false; removal = None; first = next; next = next } }
-{
-    Best {
-        there: true,
-        bit: false,
-        removal: None,
-        first: next,
-        next,
     }
 }
 
@@ -184,15 +157,9 @@ fn take_judged(
         → TakesPart level part.now before entry.new bits.old bits.new bytes.now at
         segment.old segment.new result }
 {
-    match judged {
-        Judged::Stands(next) => {
-            segment.bytes.keep(next);
-            end_part(bits, needs, true, segment, true)
-        }
-        Judged::Behind(next) => end_best(bits, needs, sent(at + 1, next), bytes, segment),
-        Judged::BehindTwo(next) => end_best(bits, needs, sent(at + 2, next), bytes, segment),
-        Judged::Given(next) => end_best(bits, needs, given(next), bytes, segment),
-        Judged::Elsewhere => match judge_other(alloc, part, entry, bytes, at) {
+    match best_of(judged, bytes, at) {
+        Some(best) => end_best(bits, needs, best, bytes, segment),
+        None => match judge_other(alloc, part, entry, bytes, at) {
             Some(best) => end_best(bits, needs, best, bytes, segment),
             None => Taken::Elsewhere,
         },

@@ -10,7 +10,6 @@ mod around;
 mod count;
 mod fields;
 mod laws;
-mod quick;
 mod relay;
 mod run;
 mod segment;

@@ -3,7 +3,7 @@
 use crate::around::Around;
 use crate::count::{relay_identifier, relay_length};
 use crate::fields::take_fields;
-use crate::quick::relay_part;
+use crate::relay::relay_part;
 use crate::segment::Segment;
 use fast_dictionary::Entries;
 use fast_field::FieldFault;

@@ -252,7 +252,7 @@ fn strings_that_are_judged(rt: HostRuntime) -> Result<(), AllocError> {
             presence: Presence::Mandatory,
             operator: Operator::Delta,
             before: Kept::Assigned(Value::Ascii(b"ESM6")),
-            bytes: &[0, 0x81, 0xb7],
+            bytes: &[0, 0x81, 0xb7, 0, 0, 0, 0, 0, 0, 0, 0, 0, 0, 0, 0, 0, 0, 0],
             judged: Judged::Stands(3),
             after: Kept::Assigned(Value::Ascii(b"ESM7")),
         },
@@ -262,7 +262,9 @@ fn strings_that_are_judged(rt: HostRuntime) -> Result<(), AllocError> {
             presence: Presence::Mandatory,
             operator: Operator::Delta,
             before: Kept::Assigned(Value::Ascii(b"0012")),
-            bytes: &[0, 0x82, 0x32, 0xb2],
+            bytes: &[
+                0, 0x82, 0x32, 0xb2, 0, 0, 0, 0, 0, 0, 0, 0, 0, 0, 0, 0, 0, 0, 0,
+            ],
             judged: Judged::Stands(4),
             after: Kept::Assigned(Value::Ascii(b"0022")),
         },
@@ -286,6 +288,27 @@ fn strings_that_are_judged(rt: HostRuntime) -> Result<(), AllocError> {
             bytes: &[0, 0x61, 0xe2],
             judged: Judged::Given(3),
             after: Kept::Assigned(Value::Ascii(b"xab")),
+        },
+        // the first character of a tail, or two, are there already
+        Row {
+            part: Part::Whole,
+            kind: Kind::Ascii,
+            presence: Presence::Mandatory,
+            operator: Operator::Tail,
+            before: Kept::Assigned(Value::Ascii(b"xab")),
+            bytes: &[0, 0x61, 0xe3],
+            judged: Judged::Behind(3),
+            after: Kept::Assigned(Value::Ascii(b"xac")),
+        },
+        Row {
+            part: Part::Whole,
+            kind: Kind::Ascii,
+            presence: Presence::Mandatory,
+            operator: Operator::Tail,
+            before: Kept::Assigned(Value::Ascii(b"xab")),
+            bytes: &[0, 0x78, 0x61, 0xe3],
+            judged: Judged::BehindTwo(4),
+            after: Kept::Assigned(Value::Ascii(b"xac")),
         },
         // behind a preamble that is not needed
         Row {
@@ -380,16 +403,16 @@ fn strings_that_are_not_judged(rt: HostRuntime) -> Result<(), AllocError> {
             judged: Judged::Elsewhere,
             after: Kept::Assigned(Value::Ascii(b"ESM6")),
         },
-        // a tail of which the first character is there already
+        // a tail of which three characters are there already
         Row {
             part: Part::Whole,
             kind: Kind::Ascii,
             presence: Presence::Mandatory,
             operator: Operator::Tail,
-            before: Kept::Assigned(Value::Ascii(b"xab")),
-            bytes: &[0, 0x61, 0xe3],
+            before: Kept::Assigned(Value::Ascii(b"abcd")),
+            bytes: &[0, 0x61, 0x62, 0x63, 0xe5],
             judged: Judged::Elsewhere,
-            after: Kept::Assigned(Value::Ascii(b"xab")),
+            after: Kept::Assigned(Value::Ascii(b"abcd")),
         },
     ];
     all_judged(&rt, rt.alloc(), OTHERS)

@@ -10,7 +10,6 @@ mod fields;
 #[cfg(test)]
 mod general;
 #[cfg(test)]
-mod given;
 #[cfg(test)]
 mod judged;
 #[cfg(test)]

@@ -1,7 +1,7 @@
-//! Rows on NULL that is relayed at once.
+//! Rows on NULL that is judged at once.
 
 use crate::fields::{Kept, Shape, Value};
-use crate::relaying::{Call, NotRelayed, Relayed, all_relayed, none_relayed};
+use crate::relaying::{NotRelayed, Relayed, all_relayed, none_relayed};
 use fast_template::{Kind, Operator, Presence};
 use std::alloc::AllocError;
 
@@ -13,21 +13,21 @@ fn nulls_that_are_relayed(rt: HostRuntime) -> Result<(), AllocError> {
             of: Shape::Optional(Kind::UInt32, Operator::Copy),
             before: Kept::Assigned(Value::U32(7)),
             bytes: &[0xff, 0x80],
-            appended: &[0x80],
+            best: &[0x80],
             after: Kept::Empty,
         },
         Relayed {
             of: Shape::Optional(Kind::Ascii, Operator::Copy),
             before: Kept::Assigned(Value::Ascii(b"AB")),
             bytes: &[0xff, 0x80],
-            appended: &[0x80],
+            best: &[0x80],
             after: Kept::Empty,
         },
         Relayed {
             of: Shape::Optional(Kind::Unicode, Operator::Tail),
             before: Kept::Assigned(Value::Unicode("ü")),
             bytes: &[0xff, 0x80],
-            appended: &[0x80],
+            best: &[0x80],
             after: Kept::Empty,
         },
         // bit 0 gives the initial value
@@ -35,7 +35,7 @@ fn nulls_that_are_relayed(rt: HostRuntime) -> Result<(), AllocError> {
             of: Shape::Initial(Presence::Optional, Operator::Increment, 5),
             before: Kept::Undefined,
             bytes: &[0xff, 0x80],
-            appended: &[0x80],
+            best: &[0x80],
             after: Kept::Empty,
         },
         // null leaves an entry
@@ -43,14 +43,14 @@ fn nulls_that_are_relayed(rt: HostRuntime) -> Result<(), AllocError> {
             of: Shape::Optional(Kind::Decimal, Operator::Delta),
             before: Kept::Assigned(Value::Decimal(-2, 7)),
             bytes: &[0xff, 0x80],
-            appended: &[0x80],
+            best: &[0x80],
             after: Kept::Assigned(Value::Decimal(-2, 7)),
         },
         Relayed {
             of: Shape::Optional(Kind::Bytes, Operator::Plain),
             before: Kept::Assigned(Value::Bytes(b"AB")),
             bytes: &[0xff, 0x80],
-            appended: &[0x80],
+            best: &[0x80],
             after: Kept::Assigned(Value::Bytes(b"AB")),
         },
         // bit 0 gives the initial value
@@ -58,7 +58,29 @@ fn nulls_that_are_relayed(rt: HostRuntime) -> Result<(), AllocError> {
             of: Shape::Initial(Presence::Optional, Operator::Default, 5),
             before: Kept::Undefined,
             bytes: &[0xff, 0x80],
-            appended: &[0x80],
+            best: &[0x80],
+            after: Kept::Undefined,
+        },
+        // bit 0 gives null
+        Relayed {
+            of: Shape::Optional(Kind::UInt32, Operator::Copy),
+            before: Kept::Empty,
+            bytes: &[0xff, 0x80],
+            best: &[],
+            after: Kept::Empty,
+        },
+        Relayed {
+            of: Shape::Optional(Kind::UInt32, Operator::Default),
+            before: Kept::Assigned(Value::U32(7)),
+            bytes: &[0xff, 0x80],
+            best: &[],
+            after: Kept::Assigned(Value::U32(7)),
+        },
+        Relayed {
+            of: Shape::Optional(Kind::Ascii, Operator::Default),
+            before: Kept::Undefined,
+            bytes: &[0xff, 0x80],
+            best: &[],
             after: Kept::Undefined,
         },
     ];
@@ -107,6 +129,6 @@ fn nulls_that_are_relayed(rt: HostRuntime) -> Result<(), AllocError> {
             bytes: &[0xff],
         },
     ];
-    all_relayed(&rt, rt.alloc(), Call::Null, RELAYED)?;
-    none_relayed(&rt, rt.alloc(), Call::Null, OTHERS)
+    all_relayed(&rt, rt.alloc(), false, RELAYED)?;
+    none_relayed(&rt, rt.alloc(), OTHERS)
 }

@@ -1,7 +1,7 @@
-//! Rows on ASCII strings that are relayed at once.
+//! Rows on ASCII strings that were sent as a difference.
 
 use crate::fields::{Kept, Shape, Value};
-use crate::relaying::{Call, NotRelayed, Relayed, all_relayed, none_relayed};
+use crate::relaying::{NotRelayed, Relayed, all_relayed, none_relayed};
 use fast_template::{Kind, Operator};
 use std::alloc::AllocError;
 
@@ -13,7 +13,7 @@ fn texts_that_are_relayed(rt: HostRuntime) -> Result<(), AllocError> {
             of: Shape::Mandatory(Kind::Ascii, Operator::Delta),
             before: Kept::Assigned(Value::Ascii(b"ESM6")),
             bytes: &[0, 0x81, 0xb7],
-            appended: &[0x81, 0xb7],
+            best: &[0x81, 0xb7],
             after: Kept::Assigned(Value::Ascii(b"ESM7")),
         },
         // the same end, and as short a removal
@@ -21,7 +21,7 @@ fn texts_that_are_relayed(rt: HostRuntime) -> Result<(), AllocError> {
             of: Shape::Mandatory(Kind::Ascii, Operator::Delta),
             before: Kept::Assigned(Value::Ascii(b"0012")),
             bytes: &[0, 0x82, 0x32, 0xb2],
-            appended: &[0x82, 0x32, 0xb2],
+            best: &[0x82, 0x32, 0xb2],
             after: Kept::Assigned(Value::Ascii(b"0022")),
         },
         // one more is removed than need be
@@ -29,7 +29,7 @@ fn texts_that_are_relayed(rt: HostRuntime) -> Result<(), AllocError> {
             of: Shape::Mandatory(Kind::Ascii, Operator::Delta),
             before: Kept::Assigned(Value::Ascii(b"ESM6")),
             bytes: &[0, 0x82, 0x4d, 0xb7],
-            appended: &[0x81, 0xb7],
+            best: &[0x81, 0xb7],
             after: Kept::Assigned(Value::Ascii(b"ESM7")),
         },
         // two more, behind an overlong removal, and a preamble stands in front of the part
@@ -37,23 +37,8 @@ fn texts_that_are_relayed(rt: HostRuntime) -> Result<(), AllocError> {
             of: Shape::Mandatory(Kind::Ascii, Operator::Delta),
             before: Kept::Assigned(Value::Ascii(b"ESM6")),
             bytes: &[0, 0x00, 0x83, 0x00, 0x53, 0x4d, 0xb7],
-            appended: &[0x81, 0xb7],
+            best: &[0x81, 0xb7],
             after: Kept::Assigned(Value::Ascii(b"ESM7")),
-        },
-        // tails
-        Relayed {
-            of: Shape::Mandatory(Kind::Ascii, Operator::Tail),
-            before: Kept::Assigned(Value::Ascii(b"xab")),
-            bytes: &[0, 0xe3],
-            appended: &[0xe3],
-            after: Kept::Assigned(Value::Ascii(b"xac")),
-        },
-        Relayed {
-            of: Shape::Mandatory(Kind::Ascii, Operator::Tail),
-            before: Kept::Assigned(Value::Ascii(b"xab")),
-            bytes: &[0, 0x61, 0xe3],
-            appended: &[0xe3],
-            after: Kept::Assigned(Value::Ascii(b"xac")),
         },
     ];
     const OTHERS: &[NotRelayed] = &[
@@ -70,22 +55,17 @@ fn texts_that_are_relayed(rt: HostRuntime) -> Result<(), AllocError> {
             before: Kept::Assigned(Value::Ascii(b"ESM6")),
             bytes: &[0, 0x85, 0xb7],
         },
-        // a tail that bit 0 gives
+        // a tail
         NotRelayed {
             of: Shape::Mandatory(Kind::Ascii, Operator::Tail),
             before: Kept::Assigned(Value::Ascii(b"xab")),
             bytes: &[0, 0xe2],
         },
-        // what is spelled whole: an empty string, NULL, and one with no stop bit
+        // what is spelled whole: an empty string, and one with no stop bit
         NotRelayed {
             of: Shape::Optional(Kind::Ascii, Operator::Copy),
             before: Kept::Assigned(Value::Ascii(b"AB")),
             bytes: &[0, 0x00, 0x80],
-        },
-        NotRelayed {
-            of: Shape::Optional(Kind::Ascii, Operator::Copy),
-            before: Kept::Assigned(Value::Ascii(b"AB")),
-            bytes: &[0, 0x80],
         },
         NotRelayed {
             of: Shape::Mandatory(Kind::Ascii, Operator::Copy),
@@ -104,6 +84,6 @@ fn texts_that_are_relayed(rt: HostRuntime) -> Result<(), AllocError> {
             bytes: &[0, 0x84, 0x84, 0x58, 0x53, 0x4d, 0x36],
         },
     ];
-    all_relayed(&rt, rt.alloc(), Call::Text, RELAYED)?;
-    none_relayed(&rt, rt.alloc(), Call::Text, OTHERS)
+    all_relayed(&rt, rt.alloc(), true, RELAYED)?;
+    none_relayed(&rt, rt.alloc(), OTHERS)
 }

@@ -1,4 +1,4 @@
-use Rattle.std.proofs.Common.{Some, List, ℕ, ap, sym, ◌∙◌, arith}
+use Rattle.std.proofs.Common.{Some, ap, sym, ◌∙◌, arith}
 use Rattle.fast_relay.proofs.Taking.{constant_stands}
 use Rattle.fast_relay.proofs.judged.judge_constant.Goals as goal
 

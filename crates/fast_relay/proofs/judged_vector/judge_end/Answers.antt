@@ -1,4 +1,4 @@
-use Rattle.std.proofs.Common.{arith, drop, length, ◌-◌, ◌++◌, slice_range, refl}
+use Rattle.std.proofs.Common.{arith, length, ◌-◌}
 use Rattle.fast_field.specs.Values.{units_of}
 use Rattle.fast_relay.proofs.TextRelaying.{text_few}
 use Rattle.fast_relay.proofs.VectorTexts.{end_gives, front_text, put_behind}

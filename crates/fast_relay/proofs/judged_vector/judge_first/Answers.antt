@@ -1,5 +1,4 @@
-use Rattle.std.proofs.Common.{rules, None, ◌≡◌, ◌<◌, ◌++◌, drop, length, slice_range, refl}
-use Rattle.fast_field.specs.Values.{of_units}
+use Rattle.std.proofs.Common.{rules, None, ◌≡◌, ◌<◌, length}
 use Rattle.fast_relay.proofs.VectorTexts.{first_gives}
 use Rattle.fast_relay.proofs.judged_vector.judge_first.Goals as goal
 

@@ -1,4 +1,4 @@
-use Rattle.std.proofs.Common.{arith, drop, length, ◌-◌, ◌++◌, refl, slice_range}
+use Rattle.std.proofs.Common.{arith, drop, length, ◌-◌, refl, slice_range}
 use Rattle.std.specs.Prelude.{pos}
 use Rattle.fast_field.specs.Values.{units_of}
 use Rattle.fast_relay.proofs.Ranges.{range_split}
@@ -51,10 +51,10 @@ returns-then-put_part-clause-judged c =
           (rw c.units-base.ensures at (c.is_vector_cut_at_end.ensures c.if-not-is_vector_cut_at_end.false))
           t sent.spelt c.in_ok-start.ensures.stands.spelt
           (record {
-              front = front;
-              back = back;
-              parts = range_split bytes c.args.first c.args.middle next c.requires.first (omega (arith, c.in_ok-start.ensures.start));
-              first = shortest_signed i.presence (pos r) front sent.form sent.short;
-              second = c.in_ok-start.ensures.stands.shortest part;
-            })),
+            front = front;
+            back = back;
+            parts = range_split bytes c.args.first c.args.middle next c.requires.first (omega (arith, c.in_ok-start.ensures.start));
+            first = shortest_signed i.presence (pos r) front sent.form sent.short;
+            second = c.in_ok-start.ensures.stands.shortest part;
+          })),
     )

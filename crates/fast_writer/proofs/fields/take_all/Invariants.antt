@@ -1,5 +1,5 @@
 use Rattle.std.proofs.Common.{◌≡◌, ◌≤◌, ◌-◌, None, drop, length}
-use Rattle.fast_relay.specs.Runs.{IsRun}
+use Rattle.fast_writer.specs.Runs.{IsRun}
 use Rattle.fast_writer.specs.Levels.{level_in}
 use Rattle.fast_writer.specs.Takings.{TookFields}
 use Rattle.fast_writer.proofs.fields.take_all.Given as goal

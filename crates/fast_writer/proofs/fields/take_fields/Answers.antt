@@ -1,6 +1,6 @@
 use Rattle.std.proofs.Common.{◌≡◌, ◌-◌, arith, drop, length, length-drop, take}
 use Rattle.std.proofs.lemmas.List.{take_all}
-use Rattle.fast_relay.specs.Runs.{written}
+use Rattle.fast_writer.specs.Runs.{written}
 use Rattle.fast_writer.specs.Levels.{level_of}
 use Rattle.fast_writer.specs.Takings.{front_at}
 use Rattle.fast_writer.proofs.Relays.{begun, level_bytes}

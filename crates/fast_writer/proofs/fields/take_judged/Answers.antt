@@ -1,10 +1,13 @@
-use Rattle.fast_writer.proofs.Takings.{stood}
+use Rattle.fast_writer.proofs.Takings.{judged_taken}
 use Rattle.fast_writer.proofs.fields.take_judged.Goals as goal
 
-pub returns-in-Stands : goal.returns-in-Stands
-returns-in-Stands c = λ before was.
-    let bytes = c.args.bytes.now in
-    let at = c.args.at in
-    let judged = rw (c.in-Stands.is) at was in
-    stood c.args.level c.args.part.now before c.args.entry.now _ c.args.bits.now c.end_part.new.bits bytes at c.in-Stands.next c.args.segment.now c.end_part.new.segment c.keep.new.self c.end_part.result
-    c.requires.bit c.requires.needs c.requires.usual judged (c.keep.ensures.run bytes at c.requires.run judged.within) (c.keep.ensures.written bytes at c.requires.run) c.end_part.ensures
+pub end_best-requires-clause-first : goal.end_best-requires-clause-first
+end_best-requires-clause-first c = (c.in-Some.ensures.best c.args.part.now c.requires.judged.0 c.args.entry.now c.requires.judged.1).first
+
+pub end_best-requires-clause-within : goal.end_best-requires-clause-within
+end_best-requires-clause-within c = (c.in-Some.ensures.best c.args.part.now c.requires.judged.0 c.args.entry.now c.requires.judged.1).within
+
+pub returns-in-Some : goal.returns-in-Some
+returns-in-Some c = λ before was.
+    let best = c.in-Some.ensures.best c.args.part.now before c.args.entry.now was in
+    judged_taken c.args.level c.args.bits.now c.end_best.new.bits c.args.segment.now c.end_best.new.segment c.end_best.result c.requires.bit c.requires.needs c.requires.usual best c.end_best.ensures

@@ -4,7 +4,7 @@ use Rattle.fast_value.specs.declared.scalar.Scalar.{Scalar}
 use Rattle.fast_dictionary.specs.declared.entry.Entry.{Entry}
 use Rattle.fast_field.specs.Found.{value_found}
 use Rattle.fast_writer.proofs.SpeltParts.{appended_kinds, is_there, still_some}
-use Rattle.fast_writer.proofs.quick.relay_generally.Goals as goal
+use Rattle.fast_writer.proofs.relay.relay_generally.Goals as goal
 
 pub returns : goal.returns
 returns c =

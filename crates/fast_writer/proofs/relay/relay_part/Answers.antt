@@ -4,7 +4,7 @@ use Rattle.std.proofs.lemmas.Result.{err_from_is_err_and}
 use Rattle.fast_writer.specs.Levels.{level_of}
 use Rattle.fast_writer.proofs.Relays.{relays_under, stops_under}
 use Rattle.fast_walk.proofs.Telling.{kept_hold}
-use Rattle.fast_writer.proofs.quick.relay_part.Goals as goal
+use Rattle.fast_writer.proofs.relay.relay_part.Goals as goal
 
 pub relay_generally-requires-clause-entry : goal.relay_generally-requires-clause-entry
 relay_generally-requires-clause-entry g c = rw (c.in_ok-entry.ensures.value) (kept_hold (g.E.Entries.contents c.args.entries.now) c.requires.kept c.args.part.now.key)
