@@ -313,7 +313,7 @@ module _ (level : Level) where
   body_is b is c h = ap (λ (is : Instructions). body_on level (record { rest = is; done = b.done }) c) h
 
   -- at an instruction what is left is that of its body
-  top_is : (n : Next) (b : Body) (is : Instructions) (c : Cursor) → n ≡ at_instruction → b.rest ≡ is → top_on level n b c ≡ body_on level (record { rest = is; done = b.done }) c
+  pub top_is : (n : Next) (b : Body) (is : Instructions) (c : Cursor) → n ≡ at_instruction → b.rest ≡ is → top_on level n b c ≡ body_on level (record { rest = is; done = b.done }) c
   top_is n b is c next h = ap (λ (n : Next). top_on level n b c) next ∙ body_is b is c h
 
   pub field_on : (ws : List Waiting) (n : Next) (b : Body) (name : List ℕ) (number : ℕ) (presence : Presence) (whole : FieldPart) (is : Instructions) (c d e : Cursor) (v : Option Scalar)
