@@ -7,14 +7,14 @@
 ghost use Rattle.std.specs.Prelude.{◌≡◌, ◌≤◌, ◌<◌, ◌+◌, ◌++◌, [], ℕ, true, false, List, IfSome, IsTrue, Err, Ok, length, drop};
 ghost use Rattle.fast_wire.specs.Level.{judge, overlong_unsigned as overlong_unsigned_of};
 ghost use Rattle.fast_wire.specs.declared.nullable.Nullable.TheVariants.{Value};
-ghost use Rattle.fast_template.specs.Resolved.{list_of, part_needs_bit as part_needs_bit_of};
+ghost use Rattle.fast_template.specs.Resolved.{part_needs_bit as part_needs_bit_of};
 ghost use Rattle.fast_stream.specs.Bits.{bit_for};
 ghost use Rattle.fast_dictionary.specs.declared.entry.Entry.{Entry};
 ghost use Rattle.fast_dictionary.specs.Dictionary.{Dictionary, entry_of};
 ghost use Rattle.fast_wire.specs.Reading.{entity_at};
 ghost use Rattle.fast_field.specs.Faults.{field_fault};
 ghost use Rattle.fast_field.specs.FieldReading.{field_at, part_at, units_at};
-ghost use Rattle.fast_walk.specs.Lacks.{AreUnstopped, IsFirst, IsNextPart, IsUnitKind, IsVectorKind, Lacks, WalkLacks, Wants, WantsBehind, WantsByte, count_at, first_limit as first_limit_of, sends, sends_two as sends_two_of, sends_units as sends_units_of};
+ghost use Rattle.fast_walk.specs.Lacks.{AreUnstopped, IsNextPart, IsUnitKind, IsVectorKind, Lacks, WalkLacks, Wants, WantsBehind, WantsByte, count_at, first_limit as first_limit_of, sends, sends_two as sends_two_of, sends_units as sends_units_of};
 
 use crate::bits::first_for;
 use crate::traversal::{Stage, Traversal};
@@ -439,9 +439,7 @@ impl<'a> Walk<'a> {
         part: &FieldPart,
         bytes: &[u8],
     ) -> Option<Lack>
-        requires spare { 0 < self.now.spare }
-        requires next { self.now.next ≡ Next.Instruction }
-        requires first { IsFirst part.now (list_of self.now.rest.now) }
+        requires next { IsNextPart self.now part.now }
         requires served { IsTrue (E.serves entries.now part.now.key) }
         ensures { IfSome result (WalkLacks level self.now (E.contents entries.now) bytes.now) }
     {
@@ -461,9 +459,7 @@ impl<'a> Walk<'a> {
         part: &FieldPart,
         bytes: &[u8],
     ) -> Option<Lack>
-        requires spare { 0 < self.now.spare }
-        requires next { self.now.next ≡ Next.Instruction }
-        requires first { IsFirst part.now (list_of self.now.rest.now) }
+        requires next { IsNextPart self.now part.now }
         requires served { IsTrue (E.serves entries.now part.now.key) }
         ensures { IfSome result (WalkLacks level self.now (E.contents entries.now) bytes.now) }
     {
@@ -488,32 +484,12 @@ impl<'a> Walk<'a> {
         requires ready { IsReady (E.serves entries.now) self.now }
         ensures { IfSome result (WalkLacks level self.now (E.contents entries.now) bytes.now) }
     {
-        match self.next {
-            Next::Instruction if self.spare > 0 => match self.rest.split_first() {
-                Some((flat, _)) => match flat {
-                    Flat::Field { whole: part, .. } if is_of_two(part.operator, part.kind) => {
-                        self.lack_behind_first(alloc, level, entries, part, bytes)
-                    }
-                    _ => None,
-                },
-                None => None,
-            },
+        match self.next_part() {
+            Some(part) if is_of_two(part.operator, part.kind) => {
+                self.lack_behind_first(alloc, level, entries, part, bytes)
+            }
             _ => None,
         }
-    }
-
-    // What the mantissa lacks that is next.
-    fn mantissa_next_lack(
-        &self,
-        level: Level,
-        mantissa: &'a FieldPart,
-        bytes: &[u8],
-    ) -> Option<Lack>
-        requires next { self.now.next ≡ Next.Mantissa mantissa }
-        ensures { IfSome result (λ l. (d : Dictionary) → WalkLacks level self.now d bytes.now l) }
-    {
-        let bit = first_for(&self.bits, part_needs_bit(mantissa));
-        field_lack(level, mantissa, bit, bytes)
     }
 
     // What the piece that is next lacks, of which these bytes have come.
@@ -527,20 +503,9 @@ impl<'a> Walk<'a> {
         requires ready { IsReady (E.serves entries.now) self.now }
         ensures { IfSome result (WalkLacks level self.now (E.contents entries.now) bytes.now) }
     {
-        match self.next {
-            Next::Instruction if self.spare > 0 => match self.rest.split_first() {
-                Some((flat, _)) => match flat {
-                    Flat::Field { whole: part, .. }
-                    | Flat::Parts { exponent: part, .. }
-                    | Flat::Sequence { length: part, .. } => {
-                        self.first_lack(alloc, level, entries, part, bytes)
-                    }
-                    Flat::Group { .. } => None,
-                },
-                None => None,
-            },
-            Next::Mantissa(mantissa) => self.mantissa_next_lack(level, mantissa, bytes),
-            Next::Instruction | Next::Element(_) => None,
+        match self.next_part() {
+            None => None,
+            Some(part) => self.first_lack(alloc, level, entries, part, bytes),
         }
     }
 
@@ -564,52 +529,20 @@ impl<'a> Walk<'a> {
         }
     }
 
-    // The number of the part that is next, where something of it stands in the stream.
-    #[inline(always)]
-    fn first_sent(&self, part: &FieldPart) -> Option<u32>
-        requires spare { 0 < self.now.spare }
-        requires next { self.now.next ≡ Next.Instruction }
-        requires first { IsFirst part.now (list_of self.now.rest.now) }
-        ensures { IfSome result (WantsByte self.now) }
-    {
-        if is_part_sent(&self.bits, part) {
-            Some(part.number)
-        } else {
-            None
-        }
-    }
-
-    // The same of the mantissa that is next.
-    #[inline(always)]
-    fn mantissa_sent(&self, mantissa: &'a FieldPart) -> Option<u32>
-        requires next { self.now.next ≡ Next.Mantissa mantissa }
-        ensures { IfSome result (WantsByte self.now) }
-    {
-        if is_part_sent(&self.bits, mantissa) {
-            Some(mantissa.number)
-        } else {
-            None
-        }
-    }
-
     /// The number of the piece that is next, where it is a field that begins with a byte, so that without one nothing
     /// of it need be tried.
+    #[tactic(auto, using(crate::proofs::Lacking::next_wants))]
     #[inline(always)]
     pub(crate) fn wants_byte(&self) -> Option<u32>
         ensures { IfSome result (WantsByte self.now) }
     {
-        match self.next {
-            Next::Instruction if self.spare > 0 => match self.rest.split_first() {
-                Some((flat, _)) => match flat {
-                    Flat::Field { whole: part, .. }
-                    | Flat::Parts { exponent: part, .. }
-                    | Flat::Sequence { length: part, .. } => self.first_sent(part),
-                    Flat::Group { .. } => None,
-                },
-                None => None,
-            },
-            Next::Mantissa(mantissa) => self.mantissa_sent(mantissa),
-            Next::Instruction | Next::Element(_) => None,
+        let Some(part) = self.next_part() else {
+            return None;
+        };
+        if is_part_sent(&self.bits, part) {
+            Some(part.number)
+        } else {
+            None
         }
     }
 }
