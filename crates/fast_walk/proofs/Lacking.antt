@@ -1,7 +1,6 @@
 -- What is too short to be read stays so until what it lacks has come.
-use Rattle.std.proofs.Common.{◌≡◌, ℕ, zero, suc, ◌+◌, ◌<◌, ◌≤◌, Bool, true, false, List, [], ◌∷◌, ◌++◌, length, Option, Some, None, Result, Ok, Err, refl, sym, ap, subst, ◌∙◌, arith, length-append, ◌⊎◌, inl, inr, ◌-◌, append-nil}
-use Rattle.std.specs.Prelude.{nat_le, IfSome, IsTrue, pos}
-use Rattle.fast_value.specs.declared.key.Key.{Key}
+use Rattle.std.proofs.Common.{◌≡◌, ℕ, zero, suc, ◌+◌, ◌<◌, ◌≤◌, Bool, true, false, List, [], ◌∷◌, ◌++◌, length, Option, Some, None, Result, Ok, Err, refl, sym, ap, subst, ◌∙◌, arith, length-append, inl, inr, ◌-◌, append-nil}
+use Rattle.std.specs.Prelude.{nat_le, IfSome, pos}
 use Rattle.fast_template.specs.Resolved.{Instruction, Resolved, Instructions, no_instructions, then_instruction, whole_field, field_in_parts, group_of, sequence_of, list_of, part_needs_bit}
 use Rattle.fast_dictionary.specs.Dictionary.{entry_at}
 use Rattle.fast_stream.specs.Bits.{bit_for}
@@ -19,7 +18,7 @@ use Rattle.fast_walk.specs.declared.traversal.Stage.{Stage}
 use Rattle.fast_walk.specs.declared.traversal.Stage.TheVariants as stage
 use Rattle.fast_walk.specs.declared.traversal.Traversal.{Traversal}
 use Rattle.fast_walk.proofs.Heads.{content_fails}
-use Rattle.fast_walk.specs.Walks.{AreServed, IsReady, next_of, reads_on}
+use Rattle.fast_walk.specs.Walks.{next_of, reads_on}
 use Rattle.fast_walk.specs.declared.walk.Next.TheVariants as next
 use Rattle.fast_walk.specs.declared.walk.Walk.{Walk}
 use Rattle.fast_walk.proofs.Steps.{count_goes, part_stops}
@@ -148,33 +147,23 @@ bytes_waits Optional bytes more rest n few short h = rw (vector_nullable_waits b
 pub counted_waits : (level : Level) (k : Kind) (p : Presence) (bytes more rest : List ℕ) (n : ℕ) → IsVectorKind k → judge level 10 overlong_unsigned field_fault fault.R6 (bytes ++ more) ≡ Ok tt → n ≤ 65535 → length (rest ++ more) < n
     → count_at p bytes ≡ Ok (Value n, rest) → units_at level k p (bytes ++ more) ≡ Err fault.NeedMore
 unfolding units_at
-counted_waits level kind.Unicode p bytes more rest n v fit few short h = rw (fit, unicode_waits p bytes more rest n few short h) refl
-counted_waits level kind.Bytes p bytes more rest n v fit few short h = rw (fit, bytes_waits p bytes more rest n few short h) refl
-counted_waits level kind.Int32 p bytes more rest n v fit few short h = absurd v
-counted_waits level kind.UInt32 p bytes more rest n v fit few short h = absurd v
-counted_waits level kind.Int64 p bytes more rest n v fit few short h = absurd v
-counted_waits level kind.UInt64 p bytes more rest n v fit few short h = absurd v
-counted_waits level kind.Decimal p bytes more rest n v fit few short h = absurd v
-counted_waits level kind.Ascii p bytes more rest n v fit few short h = absurd v
+counted_waits level k p bytes more rest n (inl is) fit few short h = rw (is, fit, unicode_waits p bytes more rest n few short h) refl
+counted_waits level k p bytes more rest n (inr is) fit few short h = rw (is, fit, bytes_waits p bytes more rest n few short h) refl
 
 -- ---- what is lacking of them
 
-pub vector_lacks : (level : Level) (k : Kind) (p : Presence) (bytes rest : List ℕ) (n have : ℕ) (o : Option Lack) → (k ≡ kind.Unicode) ⊎ (k ≡ kind.Bytes) → ((more : List ℕ) → judge level 10 overlong_unsigned field_fault fault.R6 (bytes ++ more) ≡ Ok tt)
+pub vector_lacks : (level : Level) (k : Kind) (p : Presence) (bytes rest : List ℕ) (n have : ℕ) (o : Option Lack) → IsVectorKind k → ((more : List ℕ) → judge level 10 overlong_unsigned field_fault fault.R6 (bytes ++ more) ≡ Ok tt)
     → count_at p bytes ≡ Ok (Value n, rest) → have ≡ length rest → IfSome o (λ l. (n ≤ 65535) × (have + l.most < n))
     → IfSome o (λ l. IsVectorKind k × ((more : List ℕ) → IsLacking l more → units_at level k p (bytes ++ more) ≡ Err fault.NeedMore))
 vector_lacks level k p bytes rest n have None v fit h is few = tt
 vector_lacks level k p bytes rest n have (Some l) v fit h is few = (
-  of_kind k v,
+  v,
   λ more lacking.
       let size = length-append rest more in
       let short = lacking.few in
       let within = few.1 in
-      counted_waits level k p bytes more rest n (of_kind k v) (fit more) few.0 (omega (arith, size, is, within, short)) h,
+      counted_waits level k p bytes more rest n v (fit more) few.0 (omega (arith, size, is, within, short)) h,
 )
-  where
-    of_kind : (k : Kind) → (k ≡ kind.Unicode) ⊎ (k ≡ kind.Bytes) → IsVectorKind k
-    of_kind k (inl is) = subst IsVectorKind (sym is) tt
-    of_kind k (inr is) = subst IsVectorKind (sym is) tt
 
 -- ---- fields
 
@@ -253,14 +242,8 @@ entity_lacks level i e bit bytes more l s few h lacking =
 
 spelled_waits : (level : Level) (i : FieldPart) (k : Kind) (bytes : List ℕ) → IsVectorKind k → units_at level k i.presence bytes ≡ Err fault.NeedMore → spelled_at level i.part k i.presence bytes ≡ Err fault.NeedMore
 unfolding spelled_at
-spelled_waits level i kind.Unicode bytes v h = units_begin level kind.Unicode i.presence bytes h
-spelled_waits level i kind.Bytes bytes v h = units_begin level kind.Bytes i.presence bytes h
-spelled_waits level i kind.Ascii bytes v h = absurd v
-spelled_waits level i kind.Int32 bytes v h = absurd v
-spelled_waits level i kind.UInt32 bytes v h = absurd v
-spelled_waits level i kind.Int64 bytes v h = absurd v
-spelled_waits level i kind.UInt64 bytes v h = absurd v
-spelled_waits level i kind.Decimal bytes v h = absurd v
+spelled_waits level i k bytes (inl is) h = rw is (units_begin level kind.Unicode i.presence bytes (rw is at h))
+spelled_waits level i k bytes (inr is) h = rw is (units_begin level kind.Bytes i.presence bytes (rw is at h))
 
 vector_row : (level : Level) (o : Operator) (i : FieldPart) (e : Entry) (bit : Bool) (bytes : List ℕ) → sends_units o bit ≡ true → IsVectorKind i.kind → units_at level i.kind i.presence bytes ≡ Err fault.NeedMore → row_at level o i e bit bytes ≡ Err fault.NeedMore
 unfolding row_at whole_at

@@ -1,5 +1,5 @@
 -- What stands behind the first number of a delta: where that has come, and the field waits, it waits until what is lacking of the rest has come.
-use Rattle.std.proofs.Common.{subst, ap, ◌≡◌, ℕ, ℤ, Bool, true, false, List, ◌++◌, length, Option, Some, None, Result, Ok, Err, refl, sym, ◌∙◌, ◌+◌, ◌<◌, ◌-◌, arith, length-append, length-drop, take, drop}
+use Rattle.std.proofs.Common.{inl, inr, subst, ap, ◌≡◌, ℕ, ℤ, Bool, true, false, List, ◌++◌, length, Option, Some, None, Result, Ok, Err, refl, sym, ◌∙◌, ◌+◌, ◌<◌, ◌-◌, arith, length-append, length-drop, take, drop}
 use Rattle.std.proofs.lemmas.List.{take_all}
 use Rattle.std.specs.Prelude.{◌+ℤ◌, nat_le, IfSome, if◌then◌else◌}
 use Rattle.fast_wire.specs.Reading.{◌>>=◌, entity_at, signed_at, signed_nullable_at}
@@ -109,14 +109,9 @@ number_waits Strict Optional bytes more entity rest f h g w = rw (entity_goes 10
 
 delta_of : (level : Level) (k : Kind) (i : FieldPart) (e : Entry) (bytes : List ℕ) → IsUnitKind k → delta_at level k i e bytes ≡ unit_delta_at level i e bytes
 unfolding delta_at
-delta_of level kind.Ascii i e bytes h = refl
-delta_of level kind.Unicode i e bytes h = refl
-delta_of level kind.Bytes i e bytes h = refl
-delta_of level kind.Decimal i e bytes h = absurd h
-delta_of level kind.Int32 i e bytes h = absurd h
-delta_of level kind.UInt32 i e bytes h = absurd h
-delta_of level kind.Int64 i e bytes h = absurd h
-delta_of level kind.UInt64 i e bytes h = absurd h
+delta_of level k i e bytes (inl is) = rw is refl
+delta_of level k i e bytes (inr (inl is)) = rw is refl
+delta_of level k i e bytes (inr (inr is)) = rw is refl
 
 delta_row : (level : Level) (i : FieldPart) (e : Entry) (bit : Bool) (bytes : List ℕ) → i.operator ≡ operator.Delta → IsUnitKind i.kind
     → row_at level i.operator i e bit bytes ≡ (integer_at level false i.presence bytes >>= λ n. unless_null n (behind_removal level i e))
@@ -243,14 +238,8 @@ new_text_lacks level i None bytes is h = tt
 new_text_lacks level i (Some l) bytes is h = (h.0, h.1, h.2, λ more lacking. rw is (new_text_waits level (h.1 ++ more) (h.3 more lacking)))
 
 new_vector_begins : (level : Level) (k : Kind) (bytes : List ℕ) → IsVectorKind k → entity_at 10 bytes ≡ Err wire.NeedMore → part_at level k bytes ≡ Err fault.NeedMore
-new_vector_begins level kind.Unicode bytes v h = new_vector_waits level kind.Unicode bytes (unicode_begins level Mandatory bytes h)
-new_vector_begins level kind.Bytes bytes v h = new_vector_waits level kind.Bytes bytes (bytes_begin level Mandatory bytes h)
-new_vector_begins level kind.Ascii bytes v h = absurd v
-new_vector_begins level kind.Decimal bytes v h = absurd v
-new_vector_begins level kind.Int32 bytes v h = absurd v
-new_vector_begins level kind.UInt32 bytes v h = absurd v
-new_vector_begins level kind.Int64 bytes v h = absurd v
-new_vector_begins level kind.UInt64 bytes v h = absurd v
+new_vector_begins level k bytes (inl is) h = new_vector_waits level k bytes (rw is (unicode_begins level Mandatory bytes h))
+new_vector_begins level k bytes (inr is) h = new_vector_waits level k bytes (rw is (bytes_begin level Mandatory bytes h))
 
 pub new_length_lacks : (level : Level) (k : Kind) (bytes entity : List ℕ) (n : ℕ) (l : Lack) → IsVectorKind k → entity_at 10 bytes ≡ Ok (entity, drop n bytes) → length (take (length bytes - n) (drop n bytes)) + l.most < 10
     → (l.until_stop ≡ true) × AreUnstopped (take (length bytes - n) (drop n bytes)) → (x : List ℕ) × (y : List ℕ) × (entity_at 10 bytes ≡ Ok (x, y)) × ((more : List ℕ) → IsLacking l more → part_at level k (y ++ more) ≡ Err fault.NeedMore)

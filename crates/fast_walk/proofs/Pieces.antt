@@ -28,11 +28,11 @@ use Rattle.fast_walk.specs.declared.walk.Frame.{Frame as FrameNow}
 use Rattle.fast_walk.specs.declared.walk.Next.{Next as NextNow}
 use Rattle.fast_walk.specs.declared.walk.Next.TheVariants as next
 use Rattle.fast_walk.specs.declared.walk.Walk.{Walk as WalkNow}
-use Rattle.fast_walk.proofs.Steps.{count_goes, items_on, part_goes, part_stops, then_on}
+use Rattle.fast_walk.proofs.Steps.{count_goes, items_on, part_goes, part_stops}
 use Rattle.fast_field.proofs.ReadFields.{bytes_from}
 use Rattle.fast_wire.specs.Reader.{IsBytes}
 use Rattle.fast_walk.proofs.Telling.{asked_for, taken_keeps, told_part}
-use Rattle.fast_walk.proofs.Walking.{goes_kept, goes_on, is_instruction, left_last, piece_stops_on, served_push, top_is}
+use Rattle.fast_walk.proofs.Walking.{goes_kept, goes_on, is_instruction, left_last, piece_on, piece_stops_on, served_push}
 
 abbrev pub number_in : Instruction → ℕ
 number_in (whole_field name number presence whole) = number
@@ -150,7 +150,7 @@ moves_on level Has r s d e bytes rest {w} {v} {i} {is} next f begins some end sa
       (record { next = same ∙ ap next_of (sym end.next); rest = sym end.rest; around = rw (end.around) at.0.around }, has o here first at.1),
       record { set = refl; before = refl; template = refl; members = refl; start = refl },
       λ more. rw (end.bits, end.spare)
-          (ap (all_around level o.around) (top_is level o.next o.body _ _ here first ∙ then_on level i is o.body.done _ ∙ reads o.body.done more (count_goes (number_in i) w.spare d w.bits _ some))),
+          (piece_on level o.around o.next o.body i is _ here first ∙ ap (all_around level o.around) (reads o.body.done more (count_goes (number_in i) w.spare d w.bits _ some))),
     )
 
 module _ {R : Type 0} {level : Level} {Has : Having R} {Room : R → List (List Bool) → List Bool → Bool} {serves : Key → Bool} {w v : WalkNow} {r s : R} {d e : Dictionary} {bytes : List ℕ} {at n : ℕ} where

@@ -4,10 +4,10 @@ use Rattle.std.proofs.lemmas.List.{map_push}
 use Rattle.std.specs.Prelude.{option_to_list}
 use Rattle.fast_value.specs.declared.key.Key.{Key}
 use Rattle.fast_value.specs.declared.scalar.Scalar.{Scalar}
-use Rattle.fast_value.specs.declared.scalar.Scalar.TheVariants.{U32, I32, I64, Decimal}
+use Rattle.fast_value.specs.declared.scalar.Scalar.TheVariants.{I32, I64, Decimal}
 use Rattle.fast_value.specs.declared.kind.Presence.{Presence}
 use Rattle.fast_template.specs.declared.resolved.FieldPart.{FieldPart}
-use Rattle.fast_template.specs.Resolved.{Instruction, Instructions, whole_field, field_in_parts, group_of, sequence_of, no_instructions, then_instruction, is_optional, has_map, Resolved}
+use Rattle.fast_template.specs.Resolved.{Instruction, Instructions, whole_field, field_in_parts, group_of, no_instructions, then_instruction, is_optional, has_map, Resolved}
 use Rattle.fast_wire.specs.Level.{IsLeftClear, some_set}
 use Rattle.fast_wire.specs.declared.level.Level.{Level}
 use Rattle.fast_wire.specs.declared.level.Level.TheVariants.{Strict}
@@ -17,12 +17,13 @@ use Rattle.fast_stream.specs.Bits.{bit_for, after_bit}
 use Rattle.fast_stream.specs.Faults.{Stop}
 use Rattle.fast_stream.specs.Streams.{members_of}
 use Rattle.fast_stream.specs.Reading.{Cursor, Reads, node_at, field_part_at, own_map_at, behind_bit, piece_at, stopped}
-use Rattle.fast_walk.specs.OpenSegments.{Body, Sequel, Waiting, Inside, in_group, in_sequence, Next, at_instruction, at_mantissa, at_element, with_item, with_element, fewer, under_bits, body_on, mantissa_on, elements_on, top_on, behind_inside, all_around}
+use Rattle.fast_walk.specs.OpenSegments.{Body, Sequel, Waiting, Inside, in_group, in_sequence, Next, at_instruction, at_mantissa, at_element, with_item, with_element, fewer, under_bits, body_on, mantissa_on, top_on, behind_inside, all_around}
 use Rattle.fast_walk.specs.Received.{Received, Same, Goes, IsExponent, after_sequence, behind_last, closed_in, ended_in, in_next}
 use Rattle.fast_walk.specs.Room.{left_around}
 use Rattle.fast_walk.specs.Walks.{bare_inside, bare, bare_next, bare_sequel, frame_of, inside_of, AreAllServed, IsWaitingServed}
 use Rattle.fast_walk.specs.declared.walk.Frame.{Frame as FrameNow}
-use Rattle.fast_walk.proofs.Steps.{field_goes, no_group_goes, group_goes, piece_stops, end_goes, whole_goes, exponent_goes, no_exponent_goes, length_goes, no_length_goes, mantissa_goes, mantissa_stops, element_goes, no_map_stops, no_node_stops, no_more_goes, end_stops, set_stops}
+use Rattle.fast_walk.proofs.Steps.{all_around-more, all_around-stops, end_goes, end_stops, items_on, no_more_goes, set_stops, some_left, then_on, whole_goes}
+use Rattle.fast_walk.proofs.Steps.{element_on as element_around_on, group_on as group_around_on}
 
 -- ---- what is next
 
@@ -89,9 +90,6 @@ not_there true v h k = absurd cc
 not_there false v h k = k
 
 -- ---- an element
-
-abbrev part_read : Cursor → Option Scalar → Reads (Option Scalar)
-part_read k v = Ok (v, k)
 
 left_is : (s t : Sequel) → bare_sequel s ≡ t → t.left ≡ s.left
 left_is s t same = sym (ap (λ (x : Sequel). x.left) same)
@@ -313,58 +311,40 @@ module _ (level : Level) where
   body_is b is c h = ap (λ (is : Instructions). body_on level (record { rest = is; done = b.done }) c) h
 
   -- at an instruction what is left is that of its body
-  pub top_is : (n : Next) (b : Body) (is : Instructions) (c : Cursor) → n ≡ at_instruction → b.rest ≡ is → top_on level n b c ≡ body_on level (record { rest = is; done = b.done }) c
+  top_is : (n : Next) (b : Body) (is : Instructions) (c : Cursor) → n ≡ at_instruction → b.rest ≡ is → top_on level n b c ≡ body_on level (record { rest = is; done = b.done }) c
   top_is n b is c next h = ap (λ (n : Next). top_on level n b c) next ∙ body_is b is c h
+
+  -- its first instruction, and what is behind it
+  pub piece_on : (ws : List Waiting) (n : Next) (b : Body) (i : Instruction) (is : Instructions) (c : Cursor) → n ≡ at_instruction → b.rest ≡ then_instruction i is
+      → all_around level ws (top_on level n b c) ≡ all_around level ws (items_on level is b.done (piece_at level i c))
+  piece_on ws n b i is c next first = ap (all_around level ws) (top_is n b _ c next first ∙ then_on level i is b.done c)
 
   pub field_on : (ws : List Waiting) (n : Next) (b : Body) (name : List ℕ) (number : ℕ) (presence : Presence) (whole : FieldPart) (is : Instructions) (c d e : Cursor) (v : Option Scalar)
       → n ≡ at_instruction → b.rest ≡ then_instruction (whole_field name number presence whole) is → node_at number c ≡ Ok d → field_part_at level whole d ≡ Ok (v, e)
       → all_around level ws (top_on level n b c) ≡ all_around level ws (body_on level (record { rest = is; done = b.done ++ single v ∷ [] }) e)
-  field_on ws n b name number presence whole is c d e v next first h k =
-      ap (λ (r : Reads Items). all_around level ws r) (top_is n b _ c next first ∙ field_goes level name number presence whole is b.done c d e v h k)
+  field_on ws n b name number presence whole is c d e v next first h k = piece_on ws n b _ is c next first ∙ rw (h, k) refl
 
   pub exponent_on : (ws : List Waiting) (n : Next) (b : Body) (name : List ℕ) (number : ℕ) (presence : Presence) (exponent mantissa : FieldPart) (is : Instructions) (c d k : Cursor) (v : Option Scalar) (e : ℤ)
       → n ≡ at_instruction → b.rest ≡ then_instruction (field_in_parts name number presence exponent mantissa) is → v ≡ Some (I32 e) → node_at number c ≡ Ok d → field_part_at level exponent d ≡ Ok (v, k)
       → all_around level ws (top_on level n b c) ≡ all_around level ws (mantissa_on level e mantissa (record { rest = is; done = b.done }) k)
-  exponent_on ws n b name number presence exponent mantissa is c d k v e next first there h m =
-      ap (λ (r : Reads Items). all_around level ws r) (top_is n b _ c next first ∙ exponent_goes level name number presence exponent mantissa is b.done c d k e h (m ∙ ap (part_read k) there))
+  exponent_on ws n b name number presence exponent mantissa is c d k v e next first there h m = piece_on ws n b _ is c next first ∙ rw (h, m, there) refl
 
   pub no_exponent_on : (ws : List Waiting) (n : Next) (b : Body) (name : List ℕ) (number : ℕ) (presence : Presence) (exponent mantissa : FieldPart) (is : Instructions) (c d k : Cursor) (v : Option Scalar)
       → n ≡ at_instruction → b.rest ≡ then_instruction (field_in_parts name number presence exponent mantissa) is → v ≡ None → node_at number c ≡ Ok d → field_part_at level exponent d ≡ Ok (v, k)
       → all_around level ws (top_on level n b c) ≡ all_around level ws (body_on level (record { rest = is; done = b.done ++ single None ∷ [] }) k)
-  no_exponent_on ws n b name number presence exponent mantissa is c d k v next first there h m =
-      ap (λ (r : Reads Items). all_around level ws r) (top_is n b _ c next first ∙ no_exponent_goes level name number presence exponent mantissa is b.done c d k h (m ∙ ap (part_read k) there))
+  no_exponent_on ws n b name number presence exponent mantissa is c d k v next first there h m = piece_on ws n b _ is c next first ∙ rw (h, m, there) refl
 
   pub mantissa_on_goes : (ws : List Waiting) (n : Next) (e m : ℤ) (mantissa : FieldPart) (b : Body) (c k : Cursor) → n ≡ at_mantissa e mantissa → field_part_at level mantissa c ≡ Ok (Some (I64 m), k)
       → all_around level ws (top_on level n b c) ≡ all_around level ws (body_on level (with_item b (single (Some (Decimal e m)))) k)
-  mantissa_on_goes ws n e m mantissa b c k next h =
-      ap (λ (r : Reads Items). all_around level ws r) (ap (λ (n : Next). top_on level n b c) next ∙ mantissa_goes level e m mantissa b c k h)
+  mantissa_on_goes ws n e m mantissa b c k next h = rw (next, h) refl
 
   pub mantissa_on_stops : (ws : List Waiting) (n : Next) (e : ℤ) (mantissa : FieldPart) (b : Body) (c : Cursor) (s : Stop) → n ≡ at_mantissa e mantissa → field_part_at level mantissa c ≡ Err s
       → all_around level ws (top_on level n b c) ≡ Err s
-  mantissa_on_stops ws n e mantissa b c s next h = ap (λ (n : Next). all_around level ws (top_on level n b c)) next ∙ mantissa_stops level ws e mantissa b c s h
-
-  pub length_on : (ws : List Waiting) (n : Next) (b : Body) (name : List ℕ) (number : ℕ) (presence : Presence) (part : FieldPart) (members is : Instructions) (c d k : Cursor) (many : ℕ)
-      → n ≡ at_instruction → b.rest ≡ then_instruction (sequence_of name number presence part members) is → node_at number c ≡ Ok d → field_part_at level part d ≡ Ok (Some (U32 many), k)
-      → all_around level ws (top_on level n b c)
-      ≡ all_around level ws (elements_on level (record { number = number; own_map = has_map members; members = members; left = many; done = [] }) (record { rest = is; done = b.done }) k)
-  length_on ws n b name number presence part members is c d k many next first h m =
-      ap (λ (r : Reads Items). all_around level ws r) (top_is n b _ c next first ∙ length_goes level name number presence part members is b.done c d k many h m)
-
-  pub no_length_on : (ws : List Waiting) (n : Next) (b : Body) (name : List ℕ) (number : ℕ) (presence : Presence) (part : FieldPart) (members is : Instructions) (c d k : Cursor)
-      → n ≡ at_instruction → b.rest ≡ then_instruction (sequence_of name number presence part members) is → node_at number c ≡ Ok d → field_part_at level part d ≡ Ok (None, k)
-      → all_around level ws (top_on level n b c) ≡ all_around level ws (body_on level (record { rest = is; done = b.done ++ single None ∷ [] }) k)
-  no_length_on ws n b name number presence part members is c d k next first h m =
-      ap (λ (r : Reads Items). all_around level ws r) (top_is n b _ c next first ∙ no_length_goes level name number presence part members is b.done c d k h m)
+  mantissa_on_stops ws n e mantissa b c s next h = rw (next, h) (all_around-stops level ws s)
 
   pub piece_stops_on : (ws : List Waiting) (n : Next) (b : Body) (i : Instruction) (is : Instructions) (c : Cursor) (s : Stop)
       → n ≡ at_instruction → b.rest ≡ then_instruction i is → piece_at level i c ≡ Err s → all_around level ws (top_on level n b c) ≡ Err s
-  piece_stops_on ws n b i is c s next first h = ap (λ (r : Reads Items). all_around level ws r) (top_is n b _ c next first) ∙ piece_stops level ws i is b.done c s h
-
-  pub no_group_on : (ws : List Waiting) (n : Next) (b : Body) (name : List ℕ) (number : ℕ) (presence : Presence) (members is : Instructions) (c d : Cursor)
-      → n ≡ at_instruction → b.rest ≡ then_instruction (group_of name number presence members) is → node_at number c ≡ Ok d → bit_for (is_optional presence) d.bits ≡ false
-      → all_around level ws (top_on level n b c) ≡ all_around level ws (body_on level (record { rest = is; done = b.done ++ single None ∷ [] }) (behind_bit (is_optional presence) d))
-  no_group_on ws n b name number presence members is c d next first h k =
-      ap (λ (r : Reads Items). all_around level ws r) (top_is n b _ c next first ∙ no_group_goes level name number presence members is b.done c d h k)
+  piece_stops_on ws n b i is c s next first h = piece_on ws n b i is c next first ∙ rw h (all_around-stops level ws s)
 
   pub group_on : (ws : List Waiting) (n : Next) (b : Body) (name : List ℕ) (number : ℕ) (presence : Presence) (members is : Instructions) (c d e : Cursor)
       → n ≡ at_instruction → b.rest ≡ then_instruction (group_of name number presence members) is → node_at number c ≡ Ok d → bit_for (is_optional presence) d.bits ≡ true
@@ -372,7 +352,7 @@ module _ (level : Level) where
       → all_around level ws (top_on level n b c)
       ≡ all_around level (ws ++ record { bits = after_bit (is_optional presence) d.bits; number = number; body = record { rest = is; done = b.done }; inside = in_group } ∷ []) (body_on level (record { rest = members; done = [] }) e)
   group_on ws n b name number presence members is c d e next first h k m =
-      ap (λ (r : Reads Items). all_around level ws r) (top_is n b _ c next first) ∙ group_goes level name number presence members is b.done ws c d e h k m
+      piece_on ws n b _ is c next first ∙ ap (all_around level ws) (rw (h, k) (group_around_on level number members is b.done (behind_bit (is_optional presence) d) e m)) ∙ sym (all_around-more level ws _ _)
 
   map_is : (s t : Sequel) (c : Cursor) (r : Result Cursor Stop) → bare_sequel s ≡ t → own_map_at level t.number t.own_map c ≡ r → own_map_at level s.number s.own_map c ≡ r
   map_is s t c r same h = ap (λ (x : Sequel). own_map_at level x.number x.own_map c) same ∙ h
@@ -380,15 +360,16 @@ module _ (level : Level) where
   pub element_on : (ws : List Waiting) (n : Next) (b : Body) (s t : Sequel) (c d e : Cursor) → n ≡ at_element s → bare_sequel s ≡ t → 0 < t.left → node_at t.number c ≡ Ok d → own_map_at level t.number t.own_map d ≡ Ok e
       → all_around level ws (top_on level n b c) ≡ all_around level (ws ++ record { bits = d.bits; number = s.number; body = b; inside = in_sequence (fewer s) } ∷ []) (body_on level (record { rest = s.members; done = [] }) e)
   element_on ws n b s t c d e next same some h k =
-      ap (λ (n : Next). all_around level ws (top_on level n b c)) next ∙ element_goes level s b ws c d e (some_is s t same some) (node_is s t c (Ok d) same h) (map_is s t d (Ok e) same k)
+      ap (λ (n : Next). all_around level ws (top_on level n b c)) next
+      ∙ ap (all_around level ws) (some_left level s b c (some_is s t same some) ∙ element_around_on level s.number s.own_map s.members (s.left - 1) s.done b c d e (node_is s t c (Ok d) same h) (map_is s t d (Ok e) same k))
+      ∙ sym (all_around-more level ws _ _)
 
   pub no_node_on : (ws : List Waiting) (n : Next) (b : Body) (s t : Sequel) (c : Cursor) (f : Stop) → n ≡ at_element s → bare_sequel s ≡ t → 0 < t.left → node_at t.number c ≡ Err f → all_around level ws (top_on level n b c) ≡ Err f
-  no_node_on ws n b s t c f next same some h = ap (λ (n : Next). all_around level ws (top_on level n b c)) next ∙ no_node_stops level s b ws c f (some_is s t same some) (node_is s t c (Err f) same h)
+  no_node_on ws n b s t c f next same some h = rw (next, some_left level s b c (some_is s t same some), node_is s t c (Err f) same h) (all_around-stops level ws f)
 
   pub no_map_on : (ws : List Waiting) (n : Next) (b : Body) (s t : Sequel) (c d : Cursor) (f : Stop) → n ≡ at_element s → bare_sequel s ≡ t → 0 < t.left → node_at t.number c ≡ Ok d → own_map_at level t.number t.own_map d ≡ Err f
       → all_around level ws (top_on level n b c) ≡ Err f
-  no_map_on ws n b s t c d f next same some h k =
-      ap (λ (n : Next). all_around level ws (top_on level n b c)) next ∙ no_map_stops level s b ws c d f (some_is s t same some) (node_is s t c (Ok d) same h) (map_is s t d (Err f) same k)
+  no_map_on ws n b s t c d f next same some h k = rw (next, some_left level s b c (some_is s t same some), node_is s t c (Ok d) same h, map_is s t d (Err f) same k) (all_around-stops level ws f)
 
   pub no_more_on : (ws : List Waiting) (n : Next) (b : Body) (s : Sequel) (c : Cursor) → n ≡ at_element s → s.left ≡ 0
       → all_around level ws (top_on level n b c) ≡ all_around level ws (body_on level (with_item b (sequence_elements (elements_of s.done))) c)

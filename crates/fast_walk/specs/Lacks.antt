@@ -77,14 +77,11 @@ first_limit o k = whole_limit k
 
 -- a kind that is spelled by a vector
 abbrev pub IsVectorKind : Kind → Type 0
-IsVectorKind kind.Unicode = Unit {0}
-IsVectorKind kind.Bytes = Unit {0}
-IsVectorKind k = ⊥
+IsVectorKind k = (k ≡ kind.Unicode) ⊎ (k ≡ kind.Bytes)
 
 -- a kind of characters or bytes
 abbrev pub IsUnitKind : Kind → Type 0
-IsUnitKind kind.Ascii = Unit {0}
-IsUnitKind k = IsVectorKind k
+IsUnitKind k = (k ≡ kind.Ascii) ⊎ IsVectorKind k
 
 -- the length of a vector
 abbrev pub count_at : Presence → List ℕ → Result (Nullable ℕ × List ℕ) WireFault

@@ -9,7 +9,7 @@ use Rattle.fast_walk.specs.Received.{entered}
 use Rattle.fast_walk.specs.Room.{left_around}
 use Rattle.fast_walk.specs.Walks.{bare, frame_of, next_of}
 use Rattle.fast_walk.proofs.Pieces.{begins_served, count_stops, halts_at, less_behind, less_opened, moves_on, opened_on, stops_here}
-use Rattle.fast_walk.proofs.Steps.{count_goes, group_stops}
+use Rattle.fast_walk.proofs.Steps.{count_goes}
 use Rattle.fast_walk.proofs.Walking.{group_on, is_instruction}
 use Rattle.fast_walk.proofs.walk.Walk.group.Goals as goal
 
@@ -25,9 +25,11 @@ returns-in_err-bits-clause-piece g c =
     let old = c.args.self.now in
     let bytes = drop c.args.at c.args.bytes.now in
     let bit : bit_for (is_optional c.args.presence) old.bits ≡ true = rw (← c.is_optional-optional.ensures, ← c.first_for-present.ensures) c.if-present.true in
-    stops_here can (halts_at g.L.Leveled.at d bytes c.in_err-bits.field-0.0 c.requires.first (group_stops g.L.Leveled.at c.args.name.now c.args.number c.args.presence (list_of c.args.members.now) (cursor d old.bits old.spare bytes) (cursor d old.bits (old.spare - 1) bytes) _
-    (count_goes c.args.number old.spare d old.bits bytes c.in_ok-count.ensures) bit
-    (rw (c.level.ensures, c.has_map-own_map.ensures) at c.in_err-bits.ensures.stops other d (after_bit (is_optional c.args.presence) old.bits) (old.spare - 1)))))
+    stops_here can (halts_at g.L.Leveled.at d bytes c.in_err-bits.field-0.0 c.requires.first (rw (
+      count_goes c.args.number old.spare d old.bits bytes c.in_ok-count.ensures,
+      bit,
+      rw (c.level.ensures, c.has_map-own_map.ensures) at c.in_err-bits.ensures.stops other d (after_bit (is_optional c.args.presence) old.bits) (old.spare - 1),
+    ) refl)))
 
 pub returns-in_ok-left_out-clause-piece : goal.returns-in_ok-left_out-clause-piece
 returns-in_ok-left_out-clause-piece g c = λ serves d can.
