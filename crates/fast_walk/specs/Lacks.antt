@@ -13,7 +13,10 @@ use Rattle.fast_value.specs.declared.kind.Presence.{Presence}
 use Rattle.fast_value.specs.declared.kind.Presence.TheVariants.{Mandatory, Optional}
 use Rattle.fast_template.specs.declared.resolved.FieldPart.{FieldPart}
 use Rattle.fast_template.specs.Resolved.{Instructions, list_of, then_instruction, whole_field, field_in_parts, sequence_of}
+use Rattle.fast_dictionary.specs.declared.entry.Entry.{Entry}
 use Rattle.fast_dictionary.specs.Dictionary.{Dictionary}
+use Rattle.fast_field.specs.FieldReading.{field_at}
+use Rattle.fast_field.specs.declared.fault.FieldFault.TheVariants.{NeedMore}
 use Rattle.fast_stream.specs.declared.fault.Cause.TheVariants.{Truncated}
 use Rattle.fast_stream.specs.Reading.{Reads, stopped}
 use Rattle.fast_wire.specs.declared.level.Level.{Level}
@@ -42,6 +45,10 @@ Wants read want bytes l = (more : List ℕ) → IsLacking l more → read (bytes
 -- the same behind the entity that comes first
 abbrev pub WantsBehind : {A E : Type 0} → (List ℕ → Result A E) → E → List ℕ → Lack → Type 0
 WantsBehind read want bytes l = (entity rest : List ℕ) × (entity_at 10 bytes ≡ Ok (entity, rest)) × Wants read want rest l
+
+-- the same of a field that waits, whatever its entry is
+abbrev pub LacksWaiting : Level → FieldPart → Bool → List ℕ → Lack → Type 0
+LacksWaiting level p bit bytes l = (e : Entry) → field_at level p e bit bytes ≡ Err NeedMore → Wants (field_at level p e bit) NeedMore bytes l
 
 -- whether something of a field stands in the stream under this bit
 abbrev pub sends : Operator → Bool → Bool
