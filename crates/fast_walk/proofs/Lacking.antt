@@ -319,25 +319,6 @@ part_opens t part bit l body first at s few until same d = (body, next_lacks t.l
 stop_same : (c d : Cause) (i j m n : ℕ) → c ≡ d → i ≡ j → m ≡ n → ◌≡◌ {A = Stop} (record { cause = c; instruction = i; left = m }) (record { cause = d; instruction = j; left = n })
 stop_same c d i j m n is number left = rw (is, number, left) refl
 
-whole_some : (k : Kind) → 0 < whole_limit k
-whole_some kind.Ascii = omega arith
-whole_some kind.Unicode = omega arith
-whole_some kind.Bytes = omega arith
-whole_some kind.Decimal = omega arith
-whole_some kind.Int32 = omega arith
-whole_some kind.UInt32 = omega arith
-whole_some kind.Int64 = omega arith
-whole_some kind.UInt64 = omega arith
-
-limit_some : (o : Operator) (k : Kind) → 0 < first_limit o k
-limit_some operator.Delta k = omega arith
-limit_some operator.Plain k = whole_some k
-limit_some operator.Constant k = whole_some k
-limit_some operator.Default k = whole_some k
-limit_some operator.Copy k = whole_some k
-limit_some operator.Increment k = whole_some k
-limit_some operator.Tail k = whole_some k
-
 short_stops : (number : ℕ) (r : Reads Items) → StopsShort number 0 r → r ≡ stopped number [] Truncated
 short_stops number (Ok x) h = absurd h
 short_stops number (Err s) h = ap Err (stop_same s.cause Truncated s.instruction number s.left 0 h.0 h.1.0 h.1.1)
@@ -345,8 +326,7 @@ short_stops number (Err s) h = ap Err (stop_same s.cause Truncated s.instruction
 pub next_wants : (w : Walk) (part : FieldPart) → IsNextPart w part → sends part.operator (bit_for (part_needs_bit part) w.bits) ≡ true → WantsByte w part.number
 next_wants w part first s = λ level d o here.
     let none : Lack = record { number = part.number; most = 0; until_stop = true } in
-    let some = limit_some part.operator part.kind in
-    let lacks = next_lacks level w d part [] (Some none) first (λ more lacking. entity_lacks level part (entry_at d part.key) _ [] more none s (omega (arith, some)) (refl, tt) lacking) refl in
+    let lacks = next_lacks level w d part [] (Some none) first (λ more lacking. entity_lacks level part (entry_at d part.key) _ [] more none s (omega arith) (refl, tt) lacking) refl in
     short_stops part.number (reads_on level w d o []) (lacks o [] (record { few = omega arith; unstopped = λ _. tt }) here)
 
 -- ---- messages

@@ -1,5 +1,5 @@
 -- How many bytes more a piece lacks at least that has begun.
-use Rattle.std.specs.Prelude.{◌≡◌, ◌≤◌, ◌<◌, ℕ, Bool, true, false, List, [], ◌++◌, length, Result, Ok, Err, ◌⊎◌, pos}
+use Rattle.std.specs.Prelude.{◌≡◌, ◌≤◌, ◌<◌, ◌+◌, ℕ, Bool, true, false, List, [], ◌++◌, length, Result, Ok, Err, ◌⊎◌, pos}
 use Rattle.std.specs.List.{AllByRecursion}
 use Rattle.fast_wire.specs.Reading.{◌>>=◌, entity_at, unsigned_at, unsigned_nullable_at}
 use Rattle.fast_wire.specs.declared.fault.WireFault.{WireFault}
@@ -72,15 +72,20 @@ sends_two operator.Increment bit = false
 sends_two operator.Tail bit = false
 sends_two o bit = sends o bit
 
--- the most bytes of the entity that what stands whole begins with
-abbrev pub whole_limit : Kind → ℕ
-whole_limit kind.Ascii = 65540
-whole_limit k = 10
+-- the most bytes of the entity that what stands in the stream begins with, in front of its last
+abbrev pub whole_most : Kind → ℕ
+whole_most kind.Ascii = 65539
+whole_most k = 9
 
--- the most bytes of the entity that what stands in the stream begins with
+abbrev pub first_most : Operator → Kind → ℕ
+first_most operator.Delta k = 9
+first_most o k = whole_most k
+
+abbrev pub whole_limit : Kind → ℕ
+whole_limit k = whole_most k + 1
+
 abbrev pub first_limit : Operator → Kind → ℕ
-first_limit operator.Delta k = 10
-first_limit o k = whole_limit k
+first_limit o k = first_most o k + 1
 
 -- a kind that is spelled by a vector
 abbrev pub IsVectorKind : Kind → Type 0

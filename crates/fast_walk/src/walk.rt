@@ -472,18 +472,6 @@ impl<'a> Walk<'a> {
         self.count(sequel.number)?;
         let (bits, next) = read_own_map(alloc, sequel.number, own_map, level.level(), bytes, at)?;
         receiver.enter_element(alloc, sequel.own_map, sequel.members.len())?;
-        self.one_more(sequel, bits)?;
-        Ok(next)
-    }
-
-    // Opens the next element of a sequence.
-    #[inline(always)]
-    fn one_more(&mut self, sequel: Sequel<'a>, bits: Bits) -> Result<(), Halt>
-        requires spare { 0 < self.now.spare }
-        requires left { 0 < sequel.left }
-        ensures { MatchResult result (λ u. IsOpened self.old.around.items self.old.bits self.old.spare sequel.entry.number (list_of sequel.entry.members.now)
-            (list_of self.old.rest.now) (in_sequence (fewer (sequel_of sequel.entry))) bits self.new) (λ h. h.cause ≡ Cause.Memory) }
-    {
         let others = Sequel {
             number: sequel.number,
             own_map: sequel.own_map,
@@ -491,7 +479,8 @@ impl<'a> Walk<'a> {
             left: sequel.left - 1,
         };
         self.next = Next::Instruction;
-        self.open(sequel.members, self.rest, bits, Inside::Element(others))
+        self.open(sequel.members, self.rest, bits, Inside::Element(others))?;
+        Ok(next)
     }
 
     // The number of the segment that is open; 0 is the message.

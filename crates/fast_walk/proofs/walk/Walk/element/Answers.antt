@@ -51,7 +51,7 @@ returns-in_err-bits-clause-piece g c =
 pub returns-clause-piece : goal.returns-clause-piece
 returns-clause-piece g c = λ serves d can.
     let old = c.args.self.now in
-    let end = c.in_ok-one_more.ensures in
+    let end = c.in_ok-open.ensures in
     let members = rw (c.requires.next) at can.ready.next in (
       record {
         from = c.in_ok-bits.ensures.place.0;
