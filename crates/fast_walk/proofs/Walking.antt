@@ -20,8 +20,13 @@ use Rattle.fast_stream.specs.Reading.{Cursor, Reads, node_at, field_part_at, own
 use Rattle.fast_walk.specs.OpenSegments.{Body, Sequel, Waiting, Inside, in_group, in_sequence, Next, at_instruction, at_mantissa, at_element, with_item, with_element, fewer, under_bits, body_on, mantissa_on, top_on, behind_inside, all_around}
 use Rattle.fast_walk.specs.Received.{Received, Same, Goes, IsExponent, after_sequence, behind_last, closed_in, ended_in, in_next}
 use Rattle.fast_walk.specs.Room.{left_around}
-use Rattle.fast_walk.specs.Walks.{bare_inside, bare, bare_next, bare_sequel, frame_of, inside_of, AreAllServed, IsWaitingServed}
+use Rattle.fast_walk.specs.Walks.{bare_inside, bare, bare_next, bare_sequel, frame_of, inside_of, sequel_of, AreAllServed, IsLast, IsWaitingServed}
 use Rattle.fast_walk.specs.declared.walk.Frame.{Frame as FrameNow}
+use Rattle.fast_walk.specs.declared.walk.Inside.TheVariants as inside
+use Rattle.fast_walk.specs.declared.walk.Sequel.{Sequel as SequelNow}
+use Rattle.fast_walk.specs.declared.walk.Walk.{Walk as WalkNow}
+use Rattle.std.proofs.Math.Seq.{get_or-append_seam, set-append_seam}
+use Rattle.std.proofs.Common.{length-append, take}
 use Rattle.fast_walk.proofs.Steps.{all_around-more, all_around-stops, end_goes, end_stops, items_on, no_more_goes, set_stops, some_left, then_on, whole_goes}
 use Rattle.fast_walk.proofs.Steps.{element_on as element_around_on, group_on as group_around_on}
 
@@ -191,34 +196,18 @@ nothing_ends : (ws : List Waiting) (w : Waiting) → ◌≡◌ {A = List Waiting
 nothing_ends [] w h = absurd cc
 nothing_ends (v ∷ ws) w h = absurd cc
 
-last_at : (fs : List FrameNow) (i : ℕ) (f d : FrameNow) (ws : List Waiting) (w : Waiting) → length fs ≡ suc i → map frame_of fs ≡ ws ++ w ∷ []
-    → (frame_of (slice_index_or fs i d) ≡ w) × (map frame_of (slice_set fs i f) ≡ ws ++ frame_of f ∷ [])
-unfolding head_or tail_of
-last_at [] i f d ws w long h = absurd (nothing_ends ws w h)
-last_at (g ∷ []) zero f d [] w long h = (ap (head_or w) h, refl)
-last_at (g ∷ []) zero f d (v ∷ ws) w long h = absurd (nothing_ends ws w (ap tail_of h))
-last_at (g ∷ []) (suc i) f d ws w long h = absurd (omega (arith, long))
-last_at (g ∷ e ∷ fs) zero f d ws w long h = absurd (omega (arith, long))
-last_at (g ∷ e ∷ fs) (suc i) f d [] w long h = absurd (no_more (ap tail_of h))
-  where
-    no_more : map frame_of (e ∷ fs) ≡ [] → ⊥
-    no_more h = absurd cc
-last_at (g ∷ e ∷ fs) (suc i) f d (v ∷ ws) w long h =
-    let r = last_at (e ∷ fs) i f d ws w (omega (arith, long)) (ap tail_of h) in
-    (r.0, rw (ap (head_or w) h, r.1) refl)
+pub at_last : (fs fore : List FrameNow) (n : ℕ) (f d : FrameNow) → length fs ≡ n → fs ≡ fore ++ f ∷ [] → (slice_index_or fs (n - 1) d ≡ f) × ((g : FrameNow) → slice_set fs (n - 1) g ≡ fore ++ g ∷ [])
+at_last fs fore n f d long h =
+    let many = length-append fore (f ∷ []) in
+    let place : n - 1 ≡ length fore = omega (arith, many, long, ap (λ (xs : List FrameNow). length xs) h) in
+    rw (place, h) (get_or-append_seam fore f [] d, λ g. set-append_seam fore f [] g)
 
-pub last_frame : (fs : List FrameNow) (n : ℕ) (f d : FrameNow) (ws : List Waiting) (w : Waiting) → length fs ≡ n → map frame_of fs ≡ ws ++ w ∷ []
-    → (frame_of (slice_index_or fs (n - 1) d) ≡ w) × (map frame_of (slice_set fs (n - 1) f) ≡ ws ++ frame_of f ∷ [])
-last_frame [] n f d ws w long h = absurd (nothing_ends ws w h)
-last_frame (g ∷ fs) zero f d ws w long h = absurd (omega (arith, long))
-last_frame (g ∷ fs) (suc i) f d ws w long h = let e : suc i - 1 ≡ i = omega arith in rw e (last_at (g ∷ fs) i f d ws w long h)
-
-pub same_sequel : (s t : Sequel) → in_sequence s ≡ in_sequence t → s ≡ t
-unfolding inside_sequel
-same_sequel s t h = ap (inside_sequel t) h
-
-pub no_sequel : (t : Sequel) → in_group ≡ in_sequence t → ⊥
-no_sequel t h = absurd cc
+-- the last of the frames, and those in front of it
+pub split_last : (fs : List FrameNow) (n : ℕ) (f : FrameNow) → length fs ≡ suc n → slice_index_or fs n f ≡ f → fs ≡ take n fs ++ f ∷ []
+split_last [] n f long h = absurd (omega (arith, long))
+split_last (g ∷ []) zero f long h = ap (λ (x : FrameNow). x ∷ []) h
+split_last (g ∷ e ∷ fs) zero f long h = absurd (omega (arith, long))
+split_last (g ∷ fs) (suc n) f long h = ap (λ (xs : List FrameNow). g ∷ xs) (split_last fs n f (omega (arith, long)) h)
 
 -- ---- keys
 
@@ -272,13 +261,17 @@ has_last (u ∷ v ∷ us) some =
     let l = has_last (v ∷ us) (λ e. absurd cc) in
     record { before = u ∷ l.before; last = l.last; is = ap (λ (ws : List Waiting). u ∷ ws) l.is }
 
--- what the last frame is to the body that waits in it
-pub inside_last : (fs : List FrameNow) (n : ℕ) (f : FrameNow) (t : Sequel) (number : ℕ) → length fs ≡ n → (map frame_of fs ≡ [] → ⊥)
-    → ((ws : List Waiting) (w : Waiting) → map frame_of fs ≡ ws ++ w ∷ [] → (w.inside ≡ in_sequence t) × (w.number ≡ number)) → f ≡ slice_index_or fs (n - 1) f → inside_of f.inside ≡ in_sequence t
-inside_last fs n f t number long some last is =
-    let l = has_last (map frame_of fs) some in
-    let at = last_frame fs n f f l.before l.last long l.is in
-    ap (λ (w : Waiting). w.inside) (ap frame_of is ∙ at.0) ∙ (last l.before l.last l.is).0
+pub last_frames : {w : WalkNow} {s : SequelNow} (l : IsLast w s) → map frame_of w.around.items ≡ map frame_of l.fore ++ frame_of l.frame ∷ []
+last_frames l = ap (map frame_of) l.frames ∙ map_push frame_of l.fore l.frame
+
+pub some_frames : {w : WalkNow} {s : SequelNow} (l : IsLast w s) → map frame_of w.around.items ≡ [] → ⊥
+some_frames l none = let e = sym (last_frames l) ∙ none in nothing_ends (map frame_of l.fore) (frame_of l.frame) (sym e)
+
+pub last_is : {w : WalkNow} {s : SequelNow} (l : IsLast w s) (n : ℕ) (f : FrameNow) → length w.around.items ≡ n → f ≡ slice_index_or w.around.items (n - 1) f → f.inside ≡ inside.Element s
+last_is {w} l n f long is = ap (λ (x : FrameNow). x.inside) (is ∙ (at_last w.around.items l.fore n l.frame f long l.frames).0) ∙ l.inside
+
+pub last_inside : {w : WalkNow} {s : SequelNow} (l : IsLast w s) → inside_of l.frame.inside ≡ in_sequence (sequel_of s)
+last_inside l = ap inside_of l.inside
 
 pub no_frame : (fs : List FrameNow) → map frame_of fs ≡ [] → fs ≡ []
 no_frame [] h = refl
@@ -294,12 +287,12 @@ pub record HasNext (us fs : List Waiting) (t : Sequel) : Type 0 where
   pub is : last.last.inside ≡ in_sequence sequel
   pub same : bare_sequel sequel ≡ t
 
-pub has_next : (us fs : List Waiting) (t : Sequel) → map bare us ≡ fs → (fs ≡ [] → ⊥) → ((ws : List Waiting) (w : Waiting) → fs ≡ ws ++ w ∷ [] → (w.inside ≡ in_sequence t) × (w.number ≡ t.number)) → HasNext us fs t
-has_next us fs t h some told =
-    let n = has_last fs some in
-    let l = last_of us n.before n.last (h ∙ n.is) in
-    let e = is_element_of l.last.inside t (inside_of_last us n.before n.last l ∙ (told n.before n.last n.is).0) in
-    record { fore = n.before; frame = n.last; frames = n.is; last = l; sequel = e.sequel; is = e.is; same = e.same }
+abbrev pub has_next : (us : List Waiting) {w : WalkNow} {s : SequelNow} → map bare us ≡ map frame_of w.around.items → IsLast w s → HasNext us (map frame_of w.around.items) (sequel_of s)
+has_next us {w} {s} h last =
+    let fore = map frame_of last.fore in
+    let l = last_of us fore (frame_of last.frame) (h ∙ last_frames last) in
+    let e = is_element_of l.last.inside (sequel_of s) (inside_of_last us fore (frame_of last.frame) l ∙ last_inside last) in
+    record { fore = fore; frame = frame_of last.frame; frames = last_frames last; last = l; sequel = e.sequel; is = e.is; same = e.same }
 
 pub left_last : (fs fore : List Waiting) (f : Waiting) → fs ≡ fore ++ f ∷ [] → left_around fs ≡ left_around fore ++ f.bits ∷ []
 left_last fs fore f h = ap left_around h ∙ map_push (λ (w : Waiting). w.bits) fore f

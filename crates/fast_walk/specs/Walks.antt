@@ -181,6 +181,9 @@ pub record IsOpened (frames : List FrameNow) (outer : List Bool) (left number : 
 abbrev pub IsElement : NextNow → SequelNow → Type 0
 IsElement n s = n ≡ next.Element s
 
--- The innermost segment is an element of this sequence.
-abbrev pub IsLast : WalkNow → SequelNow → Type 0
-IsLast w s = (ws : List Waiting) (f : Waiting) → map frame_of w.around.items ≡ ws ++ f ∷ [] → (f.inside ≡ in_sequence (sequel_of s)) × (f.number ≡ s.number)
+-- The innermost segment is an element of this sequence, which the last frame waits for.
+pub record IsLast (w : WalkNow) (s : SequelNow) : Type 0 where
+  pub fore : List FrameNow
+  pub frame : FrameNow
+  pub frames : w.around.items ≡ fore ++ frame ∷ []
+  pub inside : frame.inside ≡ inside.Element s

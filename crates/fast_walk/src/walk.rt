@@ -117,6 +117,7 @@ fn go_behind<'a>(next: &mut Next<'a>, mantissa: Option<&'a FieldPart>)
 }
 
 impl<'a> Walk<'a> {
+    ghost use Rattle.fast_walk.specs.declared.walk.Frame.{Frame as FrameOf};
     ghost use Rattle.fast_walk.specs.Walks.{Begins, IsBehind, IsElement, IsInside, IsInsideServed, IsLast, IsNextServed, IsOpened, IsWhole, Moves, bare_inside, bare_next, frame_of, inside_of, next_of, number_of, rank_of, sequel_of, weight_of};
 
     /// At the beginning of a list of instructions.
@@ -522,9 +523,7 @@ impl<'a> Walk<'a> {
     // The sequence whose element is open, where another one is to come.
     #[inline(always)]
     fn next_sequel(&self) -> Option<Sequel<'a>>
-        ensures left { IfSome result (λ s. 0 < s.left) }
-        ensures inside { IfSome result (λ s. self.now.around.items ≢ []) }
-        ensures last { IfSome result (IsLast self.now) }
+        ensures { IfSome result (λ s. (0 < s.left) × IsLast self.now s) }
     {
         match self.around.last() {
             None => None,
@@ -549,7 +548,6 @@ impl<'a> Walk<'a> {
         requires place { at ≤ length bytes.now }
         requires next { self.now.next ≡ Next.Instruction }
         requires rest { self.now.rest.now ≡ [] }
-        requires inside { self.now.around.items ≢ [] }
         requires last { IsLast self.now sequel }
         requires left { 0 < sequel.left }
         requires room { HasRoom (R.room receiver.now) self.now }
@@ -570,22 +568,12 @@ impl<'a> Walk<'a> {
     #[inline(always)]
     fn go_on(&mut self, sequel: Sequel<'a>, fresh: Bits)
         requires spare { 0 < self.now.spare }
+        requires next { self.now.next ≡ Next.Instruction }
         requires left { 0 < sequel.left }
-        requires inside { self.now.around.items ≢ [] }
         requires last { IsLast self.now sequel }
-        ensures bits { self.new.bits ≡ fresh }
-        ensures spare { self.new.spare ≡ self.old.spare - 1 }
-        ensures next { self.new.next ≡ self.old.next }
-        ensures rest { self.new.rest.now ≡ sequel.entry.members.now }
-        ensures around { (ws : List Waiting) (w : Waiting)
-            → map frame_of self.old.around.items ≡ ws ++ w ∷ []
-            → map frame_of self.new.around.items ≡ ws ++ record {
-              bits = w.bits;
-              number = sequel.entry.number;
-              body = record { rest = w.body.rest; done = [] };
-              inside = in_sequence (fewer (sequel_of sequel.entry));
-            } ∷ [] }
-        ensures depth { length self.new.around.items ≡ length self.old.around.items }
+        ensures { (fore : List FrameOf) (f : FrameOf) → self.old.around.items ≡ fore ++ f ∷ []
+            → IsOpened fore f.bits self.old.spare sequel.entry.number (list_of sequel.entry.members.now)
+            (list_of f.rest.now) (in_sequence (fewer (sequel_of sequel.entry))) fresh self.new }
     {
         self.bits = fresh;
         self.spare -= 1;

@@ -1,22 +1,21 @@
-use Rattle.std.proofs.Common.{◌≡◌, ◌<◌, ◌++◌, ◌-◌, [], drop, map, refl, sym, ap, ◌∙◌, arith}
+use Rattle.std.proofs.Common.{◌<◌, ◌++◌, ◌-◌, ◌∷◌, [], List, length, length-append, drop, map, refl, sym, ap, ◌∙◌, arith}
 use Rattle.std.proofs.lemmas.Result.{err_from_is_err_and}
 use Rattle.fast_template.specs.Resolved.{list_of}
 use Rattle.fast_walk.specs.OpenSegments.{Sequel, cursor, with_element}
 use Rattle.fast_walk.specs.Received.{in_next}
 use Rattle.fast_stream.specs.Nodes.{items_of}
 use Rattle.fast_walk.specs.Room.{left_around}
-use Rattle.fast_walk.specs.Walks.{frame_of, next_of, sequel_of, weight_of}
-use Rattle.fast_walk.proofs.Pieces.{stops_here}
+use Rattle.fast_walk.specs.Walks.{frame_of, next_of, sequel_of}
+use Rattle.fast_walk.specs.declared.walk.Frame.{Frame as FrameNow}
+use Rattle.fast_walk.proofs.Pieces.{less_opened, opened_on, stops_here}
 use Rattle.fast_walk.proofs.Steps.{count_goes}
-use Rattle.fast_walk.proofs.Walking.{around_element, end_on_stops, has_last, has_next, is_instruction, left_last, next_on, no_frame, no_next_map_on, no_next_node_on, rest_of_last, served_pop, served_push}
+use Rattle.fast_walk.proofs.Walking.{around_element, end_on_stops, has_next, is_instruction, last_frames, last_inside, left_last, next_on, no_next_map_on, no_next_node_on, rest_of_last, served_pop, some_frames}
 use Rattle.fast_walk.proofs.walk.Walk.next_element.Goals as goal
 
 pub next_element-requires : goal.next_element-requires
 next_element-requires g c =
-    let old = c.args.self.now in
-    let fs = map frame_of old.around.items in
-    let l = has_last fs (λ none. c.requires.inside (no_frame old.around.items none)) in
-    record { room = (left_around l.before, l.last.bits, old.bits, rw (left_last fs l.before l.last l.is) at c.requires.room) }
+    let l = c.requires.last in
+    record { room = (left_around (map frame_of l.fore), l.frame.bits, c.args.self.now.bits, rw (left_last _ _ _ (last_frames l)) at c.requires.room) }
 
 pub returns-in_err-judge_end-clause-piece : goal.returns-in_err-judge_end-clause-piece
 returns-in_err-judge_end-clause-piece g c =
@@ -25,7 +24,7 @@ returns-in_err-judge_end-clause-piece g c =
     let old = c.args.self.now in
     let h = c.in_err-judge_end.ensures in
     rw (h.refused.1)
-    (end_on_stops g.L.Leveled.at o (map frame_of old.around.items) c.in_err-judge_end.field-0.0.number (cursor d old.bits old.spare _) at.around (λ none. c.requires.inside (no_frame old.around.items none))
+    (end_on_stops g.L.Leveled.at o (map frame_of old.around.items) c.in_err-judge_end.field-0.0.number (cursor d old.bits old.spare _) at.around (λ none. some_frames c.requires.last none)
     h.inside (is_instruction o.next (at.next ∙ ap next_of c.requires.next)) (at.rest ∙ ap list_of c.requires.rest) (rw (c.level-strictness.ensures) at h.refused.0) h.refused.2)))
 
 pub returns-in_err-count-clause-piece : goal.returns-in_err-count-clause-piece
@@ -36,7 +35,7 @@ returns-in_err-count-clause-piece g c =
     let bytes = drop c.args.at c.args.bytes.now in
     let t = sequel_of c.args.sequel in
     let fs = map frame_of old.around.items in
-    let n = has_next o.around fs t at.around (λ none. c.requires.inside (no_frame old.around.items none)) c.requires.last in
+    let n = has_next o.around at.around c.requires.last in
     no_next_node_on g.L.Leveled.at o fs t n (cursor d old.bits old.spare bytes) _ (rw (c.level-strictness.ensures) at c.in_ok-judge_end.ensures.clear) (is_instruction o.next (at.next ∙ ap next_of c.requires.next))
     (at.rest ∙ ap list_of c.requires.rest) c.requires.left (c.in_err-count.ensures d n.frame.bits bytes)))
 
@@ -48,7 +47,7 @@ returns-in_err-bits-clause-piece g c =
     let bytes = drop c.args.at c.args.bytes.now in
     let t = sequel_of c.args.sequel in
     let fs = map frame_of old.around.items in
-    let n = has_next o.around fs t at.around (λ none. c.requires.inside (no_frame old.around.items none)) c.requires.last in
+    let n = has_next o.around at.around c.requires.last in
     no_next_map_on g.L.Leveled.at o fs t n (cursor d old.bits old.spare bytes) (cursor d n.frame.bits (old.spare - 1) bytes) _ (rw (c.level-strictness.ensures) at c.in_ok-judge_end.ensures.clear)
     (is_instruction o.next (at.next ∙ ap next_of c.requires.next)) (at.rest ∙ ap list_of c.requires.rest) c.requires.left
     (count_goes t.number old.spare d n.frame.bits bytes c.in_ok-count.ensures) (rw (c.level-strictness.ensures) at c.in_err-bits.ensures.stops other d n.frame.bits (old.spare - 1))))
@@ -58,27 +57,28 @@ returns-clause-piece g c = λ serves d can.
     let old = c.args.self.now in
     let t = sequel_of c.args.sequel in
     let fs = map frame_of old.around.items in
-    let end = c.go_on.ensures in
-    let some : fs ≡ [] → ⊥ = λ none. c.requires.inside (no_frame old.around.items none) in
-    let l = has_last fs some in
-    let served = served_pop serves l.before l.last (rw (l.is) at can.ready.around) in
-    let members = rw ((c.requires.last l.before l.last l.is).0) at served.1.1 in (
+    let l = c.requires.last in
+    let end = c.go_on.ensures l.fore l.frame l.frames in
+    let served = served_pop serves (map frame_of l.fore) (frame_of l.frame) (rw (last_frames l) at can.ready.around) in
+    let members = rw (last_inside l) at served.1.1 in
+    let longer = ap (λ (fs : List FrameNow). length fs) l.frames ∙ length-append l.fore (l.frame ∷ []) in
+    let less = less_opened old.next c.in_ok-count.ensures end in (
       record {
         from = c.in_ok-bits.ensures.place.0;
         within = c.in_ok-bits.ensures.place.1;
         goes = λ o at.
             let next = is_instruction o.next (at.0.next ∙ ap next_of c.requires.next) in
             let rest = at.0.rest ∙ ap list_of c.requires.rest in
-            let n = has_next o.around fs t at.0.around some c.requires.last in
+            let n = has_next o.around at.0.around l in
             let left = ap (λ (s : Sequel). s.left) n.same in
             let more_left : 0 < n.sequel.left = omega (arith, left, c.requires.left) in (
               in_next o n.frame.bits n.last.before n.last.last.body n.sequel,
               (
                 record {
-                  next = ap next_of (sym (end.next ∙ c.requires.next));
-                  rest = ap (λ (s : Sequel). s.members) n.same ∙ ap list_of (sym end.rest);
+                  next = ap next_of (sym end.next);
+                  rest = ap (λ (s : Sequel). s.members) n.same ∙ sym end.rest;
                   around = around_element n.last.before n.fore n.frame.bits n.last.last.body n.frame.body.rest (with_element n.sequel (items_of o.body.done)) t n.last.rests (rest_of_last o.around n.fore n.frame n.last) n.same
-                      ∙ sym (end.around n.fore n.frame n.frames);
+                      ∙ sym end.around;
                 },
                 c.in_ok-next_element.ensures.has o d n.last.before n.last.last n.sequel n.frame.bits next rest n.last.is n.is (sym (ap (λ (s : Sequel). s.own_map) n.same)) more_left at.1,
               ),
@@ -89,12 +89,8 @@ returns-clause-piece g c = λ serves d can.
                   (next_on g.L.Leveled.at o fs t n (cursor d old.bits old.spare bytes) (cursor d n.frame.bits (old.spare - 1) bytes) _ (rw (c.level-strictness.ensures) at c.in_ok-judge_end.ensures.clear) next rest c.requires.left
                   (count_goes t.number old.spare d n.frame.bits bytes c.in_ok-count.ensures) (rw (c.level-strictness.ensures) at c.in_ok-bits.ensures.goes d n.frame.bits (old.spare - 1) more)),
             );
-        on = record {
-          ready = record { next = rw (end.next, c.requires.next) tt; rest = rw (end.rest) members; around = rw (end.around l.before l.last l.is) (served_push serves _ _ served.0 (served.1.0, members)) };
-          kept = can.kept;
-          room = rw (end.bits, left_last _ l.before _ (end.around l.before l.last l.is))
-              (c.in_ok-next_element.ensures.room (left_around l.before) l.last.bits old.bits c.in_ok-bits.bits c.in_ok-bits.ensures.room (rw (left_last fs l.before l.last l.is) at can.room));
-        };
+        on = opened_on end members (served.1.0, members) served.0 can.kept
+            (c.in_ok-next_element.ensures.room (left_around (map frame_of l.fore)) l.frame.bits old.bits c.in_ok-bits.bits c.in_ok-bits.ensures.room (rw (left_last _ _ _ (last_frames l)) at can.room));
       },
-      omega (arith, end.spare, end.depth, c.in_ok-count.ensures, ap weight_of end.next),
+      omega (arith, less, longer),
     )
