@@ -18,7 +18,7 @@ use Rattle.fast_stream.specs.Faults.{Stop}
 use Rattle.fast_stream.specs.Streams.{members_of}
 use Rattle.fast_stream.specs.Reading.{Cursor, Reads, node_at, field_part_at, own_map_at, behind_bit, piece_at, stopped}
 use Rattle.fast_walk.specs.OpenSegments.{Body, Sequel, Waiting, Inside, in_group, in_sequence, Next, at_instruction, at_mantissa, at_element, with_item, with_element, fewer, under_bits, body_on, mantissa_on, top_on, behind_inside, all_around}
-use Rattle.fast_walk.specs.Received.{Received, Same, Goes, IsExponent, after_sequence, behind_last, closed_in, ended_in, in_next}
+use Rattle.fast_walk.specs.Received.{Received, Same, Goes, IsExponent, after_sequence, behind_last, closed_in, ended_in}
 use Rattle.fast_walk.specs.Room.{left_around}
 use Rattle.fast_walk.specs.Walks.{bare_inside, bare, bare_next, bare_sequel, frame_of, inside_of, sequel_of, AreAllServed, IsLast, IsWaitingServed}
 use Rattle.fast_walk.specs.declared.walk.Frame.{Frame as FrameNow}
@@ -42,14 +42,9 @@ pub record IsMantissa (n : Next) (p : FieldPart) : Type 0 where
   pub exponent : ℤ
   pub is : n ≡ at_mantissa exponent p
 
-part_of : FieldPart → Next → FieldPart
-part_of p (at_mantissa e q) = q
-part_of p n = p
-
 pub is_mantissa : (n : Next) (z : ℤ) (p : FieldPart) → bare_next n ≡ at_mantissa z p → IsMantissa n p
-unfolding part_of
 is_mantissa at_instruction z p h = absurd cc
-is_mantissa (at_mantissa e q) z p h = record { exponent = e; is = ap (at_mantissa e) (ap (part_of p) h) }
+is_mantissa (at_mantissa e q) z p h = let same : q ≡ p = cc in record { exponent = e; is = ap (at_mantissa e) same }
 is_mantissa (at_element s) z p h = absurd cc
 
 -- the sequence whose element is next, with those that are read
@@ -58,29 +53,19 @@ pub record IsSequel (n : Next) (t : Sequel) : Type 0 where
   pub is : n ≡ at_element sequel
   pub same : bare_sequel sequel ≡ t
 
-sequel_in : Sequel → Next → Sequel
-sequel_in t (at_element s) = s
-sequel_in t n = t
-
 pub is_sequel : (n : Next) (t : Sequel) → bare_next n ≡ at_element t → IsSequel n t
-unfolding sequel_in
 is_sequel at_instruction t h = absurd cc
 is_sequel (at_mantissa e p) t h = absurd cc
-is_sequel (at_element s) t h = record { sequel = s; is = refl; same = ap (sequel_in t) h }
+is_sequel (at_element s) t h = record { sequel = s; is = refl; same = cc }
 
 pub record IsElementOf (i : Inside) (t : Sequel) : Type 0 where
   pub sequel : Sequel
   pub is : i ≡ in_sequence sequel
   pub same : bare_sequel sequel ≡ t
 
-inside_sequel : Sequel → Inside → Sequel
-inside_sequel t (in_sequence s) = s
-inside_sequel t in_group = t
-
 pub is_element_of : (i : Inside) (t : Sequel) → bare_inside i ≡ in_sequence t → IsElementOf i t
-unfolding inside_sequel
 is_element_of in_group t h = absurd cc
-is_element_of (in_sequence s) t h = record { sequel = s; is = refl; same = ap (inside_sequel t) h }
+is_element_of (in_sequence s) t h = record { sequel = s; is = refl; same = cc }
 
 pub record IsThere (v : Option Scalar) : Type 0 where
   pub exponent : ℤ
@@ -115,10 +100,6 @@ around_element us fs bits b is s t h k same =
 
 -- ---- the end of a segment
 
-tail_of : {X : Type 0} → List X → List X
-tail_of [] = []
-tail_of (x ∷ xs) = xs
-
 -- what was received last of the bodies around
 pub record Last (us : List Waiting) (fs : List Waiting) (f : Waiting) : Type 0 where
   pub before : List Waiting
@@ -127,23 +108,15 @@ pub record Last (us : List Waiting) (fs : List Waiting) (f : Waiting) : Type 0 w
   pub rests : map bare before ≡ fs
   pub same : bare last ≡ f
 
-abbrev behind : (u : Waiting) (us fs : List Waiting) (f g : Waiting) → bare u ≡ g → Last us fs f → Last (u ∷ us) (g ∷ fs) f
-behind u us fs f g h l = record { before = u ∷ l.before; last = l.last; is = ap (λ (vs : List Waiting). u ∷ vs) l.is; rests = rw (h, l.rests) refl; same = l.same }
-
-head_or : Waiting → List Waiting → Waiting
-head_or w [] = w
-head_or w (x ∷ xs) = x
-
 pub last_of : (us fs : List Waiting) (f : Waiting) → map bare us ≡ fs ++ f ∷ [] → Last us fs f
-unfolding head_or tail_of
 last_of [] [] f h = absurd cc
 last_of [] (g ∷ fs) f h = absurd cc
-last_of (u ∷ []) [] f h = record { before = []; last = u; is = refl; rests = refl; same = ap (head_or f) h }
-last_of (u ∷ v ∷ us) [] f h = absurd (no_more (ap tail_of h))
-  where
-    no_more : map bare (v ∷ us) ≡ [] → ⊥
-    no_more h = absurd cc
-last_of (u ∷ us) (g ∷ fs) f h = behind u us fs f g (ap (head_or f) h) (last_of us fs f (ap tail_of h))
+last_of (u ∷ []) [] f h = record { before = []; last = u; is = refl; rests = refl; same = cc }
+last_of (u ∷ v ∷ us) [] f h = absurd cc
+last_of (u ∷ us) (g ∷ fs) f h =
+    let one : bare u ≡ g = cc in
+    let l = last_of us fs f cc in
+    record { before = u ∷ l.before; last = l.last; is = ap (λ (vs : List Waiting). u ∷ vs) l.is; rests = rw (one, l.rests) refl; same = l.same }
 
 pub rest_of_last : (us fs : List Waiting) (f : Waiting) (l : Last us fs f) → l.last.body.rest ≡ f.body.rest
 rest_of_last us fs f l = ap (λ (w : Waiting). w.body.rest) l.same
@@ -416,36 +389,14 @@ module _ (level : Level) where
       ap (all_around level o.around) (top_is o.next o.body no_instructions c next rest ∙ whole_goes level o.body.done c)
       ∙ end_stops level o.around l.before l.last number _ _ l.is numbered (set_stops level number (items_of o.body.done) c strict left)
 
-  -- ---- the next element of a sequence
-
-  -- behind the element that is open the sequence goes on
-  sequel_on : (o : Received) (fs : List Waiting) (t : Sequel) (n : HasNext o.around fs t) (c : Cursor) → IsLeftClear level c.bits → o.next ≡ at_instruction → o.body.rest ≡ no_instructions
+  -- behind the element that is open its sequence goes on
+  pub sequel_on : (o : Received) (fs : List Waiting) (t : Sequel) (n : HasNext o.around fs t) (c : Cursor) → IsLeftClear level c.bits → o.next ≡ at_instruction → o.body.rest ≡ no_instructions
       → all_around level o.around (top_on level o.next o.body c)
       ≡ all_around level n.last.before (top_on level (at_element (with_element n.sequel (items_of o.body.done))) n.last.last.body (under_bits n.frame.bits c))
   sequel_on o fs t n c clear next rest =
       end_on o n.fore n.fore n.frame n.last c clear next rest
       ∙ ap (λ (i : Inside). all_around level (ended_in o n.last.before n.last.last.body i).around
       (top_on level (ended_in o n.last.before n.last.last.body i).next (ended_in o n.last.before n.last.last.body i).body (under_bits n.frame.bits c))) n.is
-
-  pub next_on : (o : Received) (fs : List Waiting) (t : Sequel) (n : HasNext o.around fs t) (c d e : Cursor) → IsLeftClear level c.bits → o.next ≡ at_instruction → o.body.rest ≡ no_instructions → 0 < t.left
-      → node_at t.number (under_bits n.frame.bits c) ≡ Ok d → own_map_at level t.number t.own_map d ≡ Ok e
-      → all_around level o.around (top_on level o.next o.body c)
-      ≡ all_around level (in_next o d.bits n.last.before n.last.last.body n.sequel).around (body_on level (record { rest = n.sequel.members; done = [] }) e)
-  next_on o fs t n c d e clear next rest some h k =
-      sequel_on o fs t n c clear next rest
-      ∙ element_on n.last.before (at_element (with_element n.sequel (items_of o.body.done))) n.last.last.body (with_element n.sequel (items_of o.body.done)) t (under_bits n.frame.bits c) d e refl n.same some h k
-
-  pub no_next_node_on : (o : Received) (fs : List Waiting) (t : Sequel) (n : HasNext o.around fs t) (c : Cursor) (f : Stop) → IsLeftClear level c.bits → o.next ≡ at_instruction → o.body.rest ≡ no_instructions → 0 < t.left
-      → node_at t.number (under_bits n.frame.bits c) ≡ Err f → all_around level o.around (top_on level o.next o.body c) ≡ Err f
-  no_next_node_on o fs t n c f clear next rest some h =
-      sequel_on o fs t n c clear next rest
-      ∙ no_node_on n.last.before (at_element (with_element n.sequel (items_of o.body.done))) n.last.last.body (with_element n.sequel (items_of o.body.done)) t (under_bits n.frame.bits c) f refl n.same some h
-
-  pub no_next_map_on : (o : Received) (fs : List Waiting) (t : Sequel) (n : HasNext o.around fs t) (c d : Cursor) (f : Stop) → IsLeftClear level c.bits → o.next ≡ at_instruction → o.body.rest ≡ no_instructions → 0 < t.left
-      → node_at t.number (under_bits n.frame.bits c) ≡ Ok d → own_map_at level t.number t.own_map d ≡ Err f → all_around level o.around (top_on level o.next o.body c) ≡ Err f
-  no_next_map_on o fs t n c d f clear next rest some h k =
-      sequel_on o fs t n c clear next rest
-      ∙ no_map_on n.last.before (at_element (with_element n.sequel (items_of o.body.done))) n.last.last.body (with_element n.sequel (items_of o.body.done)) t (under_bits n.frame.bits c) d f refl n.same some h k
 
   -- the end of the message's own body
   pub all_read : (us : List Waiting) (n : Next) (b : Body) (c : Cursor) → us ≡ [] → n ≡ at_instruction → b.rest ≡ no_instructions → all_around level us (top_on level n b c) ≡ Ok (items_of b.done, c)

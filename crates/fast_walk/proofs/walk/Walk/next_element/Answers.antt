@@ -1,7 +1,7 @@
 use Rattle.std.proofs.Common.{◌<◌, ◌++◌, ◌-◌, ◌∷◌, [], List, length, length-append, drop, map, refl, sym, ap, ◌∙◌, arith}
 use Rattle.std.proofs.lemmas.Result.{err_from_is_err_and}
 use Rattle.fast_template.specs.Resolved.{list_of}
-use Rattle.fast_walk.specs.OpenSegments.{Sequel, cursor, with_element}
+use Rattle.fast_walk.specs.OpenSegments.{Sequel, at_element, cursor, with_element}
 use Rattle.fast_walk.specs.Received.{in_next}
 use Rattle.fast_stream.specs.Nodes.{items_of}
 use Rattle.fast_walk.specs.Room.{left_around}
@@ -9,7 +9,7 @@ use Rattle.fast_walk.specs.Walks.{frame_of, next_of, sequel_of}
 use Rattle.fast_walk.specs.declared.walk.Frame.{Frame as FrameNow}
 use Rattle.fast_walk.proofs.Pieces.{less_opened, opened_on, stops_here}
 use Rattle.fast_walk.proofs.Steps.{count_goes}
-use Rattle.fast_walk.proofs.Walking.{around_element, end_on_stops, has_next, is_instruction, last_frames, last_inside, left_last, next_on, no_next_map_on, no_next_node_on, rest_of_last, served_pop, some_frames}
+use Rattle.fast_walk.proofs.Walking.{around_element, end_on_stops, has_next, is_instruction, last_frames, last_inside, left_last, element_on, no_map_on, no_node_on, sequel_on, rest_of_last, served_pop, some_frames}
 use Rattle.fast_walk.proofs.walk.Walk.next_element.Goals as goal
 
 pub next_element-requires : goal.next_element-requires
@@ -34,10 +34,10 @@ returns-in_err-count-clause-piece g c =
     let old = c.args.self.now in
     let bytes = drop c.args.at c.args.bytes.now in
     let t = sequel_of c.args.sequel in
-    let fs = map frame_of old.around.items in
     let n = has_next o.around at.around c.requires.last in
-    no_next_node_on g.L.Leveled.at o fs t n (cursor d old.bits old.spare bytes) _ (rw (c.level-strictness.ensures) at c.in_ok-judge_end.ensures.clear) (is_instruction o.next (at.next ∙ ap next_of c.requires.next))
-    (at.rest ∙ ap list_of c.requires.rest) c.requires.left (c.in_err-count.ensures d n.frame.bits bytes)))
+    let s = with_element n.sequel (items_of o.body.done) in
+    sequel_on g.L.Leveled.at o _ t n (cursor d old.bits old.spare bytes) (rw (c.level-strictness.ensures) at c.in_ok-judge_end.ensures.clear) (is_instruction o.next (at.next ∙ ap next_of c.requires.next)) (at.rest ∙ ap list_of c.requires.rest)
+    ∙ no_node_on g.L.Leveled.at n.last.before (at_element s) n.last.last.body s t (cursor d n.frame.bits old.spare bytes) _ refl n.same c.requires.left (c.in_err-count.ensures d n.frame.bits bytes)))
 
 pub returns-in_err-bits-clause-piece : goal.returns-in_err-bits-clause-piece
 returns-in_err-bits-clause-piece g c =
@@ -46,10 +46,10 @@ returns-in_err-bits-clause-piece g c =
     let old = c.args.self.now in
     let bytes = drop c.args.at c.args.bytes.now in
     let t = sequel_of c.args.sequel in
-    let fs = map frame_of old.around.items in
     let n = has_next o.around at.around c.requires.last in
-    no_next_map_on g.L.Leveled.at o fs t n (cursor d old.bits old.spare bytes) (cursor d n.frame.bits (old.spare - 1) bytes) _ (rw (c.level-strictness.ensures) at c.in_ok-judge_end.ensures.clear)
-    (is_instruction o.next (at.next ∙ ap next_of c.requires.next)) (at.rest ∙ ap list_of c.requires.rest) c.requires.left
+    let s = with_element n.sequel (items_of o.body.done) in
+    sequel_on g.L.Leveled.at o _ t n (cursor d old.bits old.spare bytes) (rw (c.level-strictness.ensures) at c.in_ok-judge_end.ensures.clear) (is_instruction o.next (at.next ∙ ap next_of c.requires.next)) (at.rest ∙ ap list_of c.requires.rest)
+    ∙ no_map_on g.L.Leveled.at n.last.before (at_element s) n.last.last.body s t (cursor d n.frame.bits old.spare bytes) (cursor d n.frame.bits (old.spare - 1) bytes) _ refl n.same c.requires.left
     (count_goes t.number old.spare d n.frame.bits bytes c.in_ok-count.ensures) (rw (c.level-strictness.ensures) at c.in_err-bits.ensures.stops other d n.frame.bits (old.spare - 1))))
 
 pub returns-clause-piece : goal.returns-clause-piece
@@ -86,7 +86,8 @@ returns-clause-piece g c = λ serves d can.
               λ more.
                   let bytes = drop c.args.at c.args.bytes.now ++ more in
                   rw (end.bits, end.spare)
-                  (next_on g.L.Leveled.at o fs t n (cursor d old.bits old.spare bytes) (cursor d n.frame.bits (old.spare - 1) bytes) _ (rw (c.level-strictness.ensures) at c.in_ok-judge_end.ensures.clear) next rest c.requires.left
+                  (sequel_on g.L.Leveled.at o fs t n (cursor d old.bits old.spare bytes) (rw (c.level-strictness.ensures) at c.in_ok-judge_end.ensures.clear) next rest
+                  ∙ element_on g.L.Leveled.at n.last.before (at_element (with_element n.sequel (items_of o.body.done))) n.last.last.body (with_element n.sequel (items_of o.body.done)) t (cursor d n.frame.bits old.spare bytes) (cursor d n.frame.bits (old.spare - 1) bytes) _ refl n.same c.requires.left
                   (count_goes t.number old.spare d n.frame.bits bytes c.in_ok-count.ensures) (rw (c.level-strictness.ensures) at c.in_ok-bits.ensures.goes d n.frame.bits (old.spare - 1) more)),
             );
         on = opened_on end members (served.1.0, members) served.0 can.kept
