@@ -2,7 +2,7 @@
 
 ghost use Rattle.std.specs.Prelude.{◌≡◌, ◌≢◌, ◌≤◌, ◌<◌, ◌++◌, ◌∷◌, ◌-◌, ◌+◌, [], ℕ, Bool, true, false, List, Option, IsSome, ◌⊎◌, IfOk, IfErr, IfSome, MatchResult, OnOk, length, drop, map};
 ghost use Rattle.fast_value.specs.declared.key.Key as key_type;
-ghost use Rattle.fast_template.specs.Resolved.{list_of, then_instruction, no_instructions, whole_field, field_in_parts, group_of, sequence_of, is_optional as is_optional_of};
+ghost use Rattle.fast_template.specs.Resolved.{list_of, no_instructions, whole_field, field_in_parts, group_of, sequence_of, is_optional as is_optional_of};
 ghost use Rattle.fast_dictionary.specs.Dictionary.{Dictionary};
 ghost use Rattle.fast_stream.specs.Bits.{after_bit};
 ghost use Rattle.fast_wire.specs.Level.{IsLeftClear, some_set};
