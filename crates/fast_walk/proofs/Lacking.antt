@@ -1,5 +1,5 @@
 -- What is too short to be read stays so until what it lacks has come.
-use Rattle.std.proofs.Common.{◌≡◌, ℕ, zero, suc, ◌+◌, ◌<◌, ◌≤◌, Bool, true, false, List, [], ◌∷◌, ◌++◌, length, Option, Some, None, Result, Ok, Err, refl, sym, ap, subst, ◌∙◌, arith, length-append, ◌⊎◌, inl, inr, ◌-◌, append-nil}
+use Rattle.std.proofs.Common.{◌≡◌, ℕ, zero, suc, ◌+◌, ◌<◌, ◌≤◌, Bool, true, false, List, [], ◌∷◌, ◌++◌, length, Option, Some, None, Result, Ok, Err, refl, sym, ap, subst, ◌∙◌, arith, length-append, inl, inr, ◌-◌, append-nil}
 use Rattle.std.specs.Prelude.{nat_le, IfSome, pos}
 use Rattle.fast_template.specs.Resolved.{Instruction, Resolved, Instructions, no_instructions, then_instruction, whole_field, field_in_parts, group_of, sequence_of, list_of, part_needs_bit}
 use Rattle.fast_dictionary.specs.Dictionary.{entry_at}
@@ -47,7 +47,7 @@ use Rattle.fast_field.specs.declared.fault.FieldFault.TheVariants as fault
 use Rattle.fast_field.specs.Faults.{field_fault}
 use Rattle.fast_field.specs.FieldReading.{part_at, units_at, units_usually_at, integer_at, integer_spelled_at, decimal_spelled_at, units_spelled_at, spelled_at, integer_delta_at, decimal_delta_at, unit_delta_at, delta_at, tail_at, whole_at, row_at, field_at}
 use Rattle.fast_walk.specs.declared.lack.Lack.{Lack}
-use Rattle.fast_walk.specs.Lacks.{AreUnstopped, IsFirst, IsLacking, IsNextPart, IsVectorKind, Lacks, StopsShort, WalkLacks, WantsByte, count_at, first_limit, sends, sends_units, whole_limit}
+use Rattle.fast_walk.specs.Lacks.{AreUnstopped, IsFirst, IsLacking, IsNextPart, IsVectorKind, Lacks, StopsShort, WalkLacks, Wants, WantsByte, count_at, first_limit, sends, sends_units, whole_limit}
 use Rattle.fast_field.specs.Values.{is_unsigned}
 use Rattle.fast_value.specs.declared.kind.Part.{Part}
 
@@ -147,33 +147,23 @@ bytes_waits Optional bytes more rest n few short h = rw (vector_nullable_waits b
 pub counted_waits : (level : Level) (k : Kind) (p : Presence) (bytes more rest : List ℕ) (n : ℕ) → IsVectorKind k → judge level 10 overlong_unsigned field_fault fault.R6 (bytes ++ more) ≡ Ok tt → n ≤ 65535 → length (rest ++ more) < n
     → count_at p bytes ≡ Ok (Value n, rest) → units_at level k p (bytes ++ more) ≡ Err fault.NeedMore
 unfolding units_at
-counted_waits level kind.Unicode p bytes more rest n v fit few short h = rw (fit, unicode_waits p bytes more rest n few short h) refl
-counted_waits level kind.Bytes p bytes more rest n v fit few short h = rw (fit, bytes_waits p bytes more rest n few short h) refl
-counted_waits level kind.Int32 p bytes more rest n v fit few short h = absurd v
-counted_waits level kind.UInt32 p bytes more rest n v fit few short h = absurd v
-counted_waits level kind.Int64 p bytes more rest n v fit few short h = absurd v
-counted_waits level kind.UInt64 p bytes more rest n v fit few short h = absurd v
-counted_waits level kind.Decimal p bytes more rest n v fit few short h = absurd v
-counted_waits level kind.Ascii p bytes more rest n v fit few short h = absurd v
+counted_waits level k p bytes more rest n (inl is) fit few short h = rw (is, fit, unicode_waits p bytes more rest n few short h) refl
+counted_waits level k p bytes more rest n (inr is) fit few short h = rw (is, fit, bytes_waits p bytes more rest n few short h) refl
 
 -- ---- what is lacking of them
 
-pub vector_lacks : (level : Level) (k : Kind) (p : Presence) (bytes rest : List ℕ) (n have : ℕ) (o : Option Lack) → (k ≡ kind.Unicode) ⊎ (k ≡ kind.Bytes) → ((more : List ℕ) → judge level 10 overlong_unsigned field_fault fault.R6 (bytes ++ more) ≡ Ok tt)
+pub vector_lacks : (level : Level) (k : Kind) (p : Presence) (bytes rest : List ℕ) (n have : ℕ) (o : Option Lack) → IsVectorKind k → ((more : List ℕ) → judge level 10 overlong_unsigned field_fault fault.R6 (bytes ++ more) ≡ Ok tt)
     → count_at p bytes ≡ Ok (Value n, rest) → have ≡ length rest → IfSome o (λ l. (n ≤ 65535) × (have + l.most < n))
     → IfSome o (λ l. IsVectorKind k × ((more : List ℕ) → IsLacking l more → units_at level k p (bytes ++ more) ≡ Err fault.NeedMore))
 vector_lacks level k p bytes rest n have None v fit h is few = tt
 vector_lacks level k p bytes rest n have (Some l) v fit h is few = (
-  of_kind k v,
+  v,
   λ more lacking.
       let size = length-append rest more in
       let short = lacking.few in
       let within = few.1 in
-      counted_waits level k p bytes more rest n (of_kind k v) (fit more) few.0 (omega (arith, size, is, within, short)) h,
+      counted_waits level k p bytes more rest n v (fit more) few.0 (omega (arith, size, is, within, short)) h,
 )
-  where
-    of_kind : (k : Kind) → (k ≡ kind.Unicode) ⊎ (k ≡ kind.Bytes) → IsVectorKind k
-    of_kind k (inl is) = subst IsVectorKind (sym is) tt
-    of_kind k (inr is) = subst IsVectorKind (sym is) tt
 
 -- ---- fields
 
@@ -252,14 +242,8 @@ entity_lacks level i e bit bytes more l s few h lacking =
 
 spelled_waits : (level : Level) (i : FieldPart) (k : Kind) (bytes : List ℕ) → IsVectorKind k → units_at level k i.presence bytes ≡ Err fault.NeedMore → spelled_at level i.part k i.presence bytes ≡ Err fault.NeedMore
 unfolding spelled_at
-spelled_waits level i kind.Unicode bytes v h = units_begin level kind.Unicode i.presence bytes h
-spelled_waits level i kind.Bytes bytes v h = units_begin level kind.Bytes i.presence bytes h
-spelled_waits level i kind.Ascii bytes v h = absurd v
-spelled_waits level i kind.Int32 bytes v h = absurd v
-spelled_waits level i kind.UInt32 bytes v h = absurd v
-spelled_waits level i kind.Int64 bytes v h = absurd v
-spelled_waits level i kind.UInt64 bytes v h = absurd v
-spelled_waits level i kind.Decimal bytes v h = absurd v
+spelled_waits level i k bytes (inl is) h = rw is (units_begin level kind.Unicode i.presence bytes (rw is at h))
+spelled_waits level i k bytes (inr is) h = rw is (units_begin level kind.Bytes i.presence bytes (rw is at h))
 
 vector_row : (level : Level) (o : Operator) (i : FieldPart) (e : Entry) (bit : Bool) (bytes : List ℕ) → sends_units o bit ≡ true → IsVectorKind i.kind → units_at level i.kind i.presence bytes ≡ Err fault.NeedMore → row_at level o i e bit bytes ≡ Err fault.NeedMore
 unfolding row_at whole_at
@@ -304,27 +288,25 @@ first_lacks level w d part (then_instruction (sequence_of name number presence c
 first_lacks level w d part (then_instruction (group_of name number presence members) others) bytes l some is rest first h same = absurd first
 first_lacks level w d part no_instructions bytes l some is rest first h same = absurd first
 
-pub if_first_lacks : (level : Level) (w : Walk) (d : Dictionary) (whole : FieldPart) (bytes : List ℕ) (o : Option Lack) → 0 < w.spare → w.next ≡ next.Instruction → IsFirst whole (list_of w.rest.now)
-    → IfSome o (λ l. (more : List ℕ) → IsLacking l more → field_at level whole (entry_at d whole.key) (bit_for (part_needs_bit whole) w.bits) (bytes ++ more) ≡ Err fault.NeedMore) → IfSome o (λ l. l.number ≡ whole.number)
-    → IfSome o (WalkLacks level w d bytes)
-if_first_lacks level w d whole bytes None some is first h same = tt
-if_first_lacks level w d whole bytes (Some l) some is first h same = first_lacks level w d whole (list_of w.rest.now) bytes l some is refl first h same
-
 -- where the mantissa that is next waits, all that is left to be read does
-pub mantissa_lacks : (level : Level) (w : Walk) (mantissa : FieldPart) (bytes : List ℕ) (o : Option Lack) → next_of w.next ≡ at_mantissa (pos 0) mantissa
-    → IfSome o (λ l. (e : Entry) (more : List ℕ) → IsLacking l more → field_at level mantissa e (bit_for (part_needs_bit mantissa) w.bits) (bytes ++ more) ≡ Err fault.NeedMore) → IfSome o (λ l. l.number ≡ mantissa.number)
-    → IfSome o (λ l. (d : Dictionary) → WalkLacks level w d bytes l)
-mantissa_lacks level w mantissa bytes None is h same = tt
-mantissa_lacks level w mantissa bytes (Some l) is h same = λ d o more lacking here.
+mantissa_lacks : (level : Level) (w : Walk) (d : Dictionary) (mantissa : FieldPart) (bytes : List ℕ) (l : Lack) → next_of w.next ≡ at_mantissa (pos 0) mantissa
+    → Wants (field_at level mantissa (entry_at d mantissa.key) (bit_for (part_needs_bit mantissa) w.bits)) fault.NeedMore bytes l → l.number ≡ mantissa.number → WalkLacks level w d bytes l
+mantissa_lacks level w d mantissa bytes l is h same = λ o more lacking here.
     let xs = bytes ++ more in
     let next = is_mantissa o.next _ mantissa (here.next ∙ is) in
-    let stops = mantissa_on_stops level o.around o.next next.exponent mantissa o.body (cursor d w.bits w.spare xs) _ next.is (part_stops level mantissa d w.bits w.spare xs fault.NeedMore (h (entry_at d mantissa.key) more lacking)) in
+    let stops = mantissa_on_stops level o.around o.next next.exponent mantissa o.body (cursor d w.bits w.spare xs) _ next.is (part_stops level mantissa d w.bits w.spare xs fault.NeedMore (h more lacking)) in
     subst (λ (r : Reads Items). StopsShort l.number (length xs) r) (sym stops) (refl, (sym same, refl))
+
+pub next_lacks : (level : Level) (w : Walk) (d : Dictionary) (part : FieldPart) (bytes : List ℕ) (o : Option Lack) → IsNextPart w part
+    → IfSome o (Wants (field_at level part (entry_at d part.key) (bit_for (part_needs_bit part) w.bits)) fault.NeedMore bytes) → IfSome o (λ l. l.number ≡ part.number) → IfSome o (WalkLacks level w d bytes)
+next_lacks level w d part bytes None first h same = tt
+next_lacks level w d part bytes (Some l) (inl first) h same = first_lacks level w d part (list_of w.rest.now) bytes l first.0 first.1 refl first.2 h same
+next_lacks level w d part bytes (Some l) (inr first) h same = mantissa_lacks level w d part bytes l first h same
 
 -- a part that is sent lacks the stop bit of its first entity
 pub part_opens : (t : Traversal) (part : FieldPart) (bit : Bool) (l : Lack) → t.stage ≡ stage.Body → IsNextPart t.walk part → bit ≡ bit_for (part_needs_bit part) t.walk.bits → sends part.operator bit ≡ true
     → l.most < first_limit part.operator part.kind → l.until_stop ≡ true → l.number ≡ part.number → (d : Dictionary) → Lacks t d [] l
-part_opens t part bit l body first at s few until same d = (body, of_part first)
+part_opens t part bit l body first at s few until same d = (body, next_lacks t.level t.walk d part [] (Some l) first (waits (entry_at d part.key)) same)
   where
     sent : sends part.operator (bit_for (part_needs_bit part) t.walk.bits) ≡ true
     sent = subst (λ (b : Bool). sends part.operator b ≡ true) at s
@@ -332,57 +314,20 @@ part_opens t part bit l body first at s few until same d = (body, of_part first)
     waits : (e : Entry) (more : List ℕ) → IsLacking l more → field_at t.level part e (bit_for (part_needs_bit part) t.walk.bits) more ≡ Err fault.NeedMore
     waits e more lacking = entity_lacks t.level part e (bit_for (part_needs_bit part) t.walk.bits) [] more l sent (omega (arith, few)) (until, tt) lacking
 
-    of_part : IsNextPart t.walk part → WalkLacks t.level t.walk d [] l
-    of_part (inl h) = if_first_lacks t.level t.walk d part [] (Some l) h.0 h.1 h.2 (waits (entry_at d part.key)) same
-    of_part (inr h) = mantissa_lacks t.level t.walk part [] (Some l) h waits same d
-
 -- ---- walks that have no byte left
 
 stop_same : (c d : Cause) (i j m n : ℕ) → c ≡ d → i ≡ j → m ≡ n → ◌≡◌ {A = Stop} (record { cause = c; instruction = i; left = m }) (record { cause = d; instruction = j; left = n })
 stop_same c d i j m n is number left = rw (is, number, left) refl
 
-whole_some : (k : Kind) → 0 < whole_limit k
-whole_some kind.Ascii = omega arith
-whole_some kind.Unicode = omega arith
-whole_some kind.Bytes = omega arith
-whole_some kind.Decimal = omega arith
-whole_some kind.Int32 = omega arith
-whole_some kind.UInt32 = omega arith
-whole_some kind.Int64 = omega arith
-whole_some kind.UInt64 = omega arith
-
-limit_some : (o : Operator) (k : Kind) → 0 < first_limit o k
-limit_some operator.Delta k = omega arith
-limit_some operator.Plain k = whole_some k
-limit_some operator.Constant k = whole_some k
-limit_some operator.Default k = whole_some k
-limit_some operator.Copy k = whole_some k
-limit_some operator.Increment k = whole_some k
-limit_some operator.Tail k = whole_some k
-
-field_wants : (level : Level) (i : FieldPart) (e : Entry) (bit : Bool) → sends i.operator bit ≡ true → field_at level i e bit [] ≡ Err fault.NeedMore
-field_wants level i e bit s = field_begins level i e bit [] s (entity_waits (first_limit i.operator i.kind) [] tt (limit_some i.operator i.kind))
-
--- so few more are none
-field_wants_on : (level : Level) (i : FieldPart) (e : Entry) (bit : Bool) (more : List ℕ) → sends i.operator bit ≡ true → length more ≤ 0 → field_at level i e bit more ≡ Err fault.NeedMore
-field_wants_on level i e bit [] s few = field_wants level i e bit s
-field_wants_on level i e bit (b ∷ bs) s few = absurd (omega (arith, few))
-
 short_stops : (number : ℕ) (r : Reads Items) → StopsShort number 0 r → r ≡ stopped number [] Truncated
 short_stops number (Ok x) h = absurd h
 short_stops number (Err s) h = ap Err (stop_same s.cause Truncated s.instruction number s.left 0 h.0 h.1.0 h.1.1)
 
-pub first_wants : (w : Walk) (part : FieldPart) (bit : Bool) → 0 < w.spare → w.next ≡ next.Instruction → IsFirst part (list_of w.rest.now) → bit ≡ bit_for (part_needs_bit part) w.bits → sends part.operator bit ≡ true → WantsByte w part.number
-first_wants w part bit some is first at s = λ level d o here.
+pub next_wants : (w : Walk) (part : FieldPart) → IsNextPart w part → sends part.operator (bit_for (part_needs_bit part) w.bits) ≡ true → WantsByte w part.number
+next_wants w part first s = λ level d o here.
     let none : Lack = record { number = part.number; most = 0; until_stop = true } in
-    let lacks = first_lacks level w d part (list_of w.rest.now) [] none some is refl first (λ more lacking. field_wants_on level part (entry_at d part.key) (bit_for (part_needs_bit part) w.bits) more (subst (λ (b : Bool). sends part.operator b ≡ true) at s) lacking.few) refl in
+    let lacks = next_lacks level w d part [] (Some none) first (λ more lacking. entity_lacks level part (entry_at d part.key) _ [] more none s (omega arith) (refl, tt) lacking) refl in
     short_stops part.number (reads_on level w d o []) (lacks o [] (record { few = omega arith; unstopped = λ _. tt }) here)
-
-pub mantissa_wants : (w : Walk) (mantissa : FieldPart) (bit : Bool) → next_of w.next ≡ at_mantissa (pos 0) mantissa → bit ≡ bit_for (part_needs_bit mantissa) w.bits → sends mantissa.operator bit ≡ true → WantsByte w mantissa.number
-mantissa_wants w mantissa bit is at s = λ level d o here.
-    let next = is_mantissa o.next _ mantissa (here.next ∙ is) in
-    mantissa_on_stops level o.around o.next next.exponent mantissa o.body (cursor d w.bits w.spare []) _ next.is
-    (part_stops level mantissa d w.bits w.spare [] fault.NeedMore (field_wants level mantissa (entry_at d mantissa.key) (bit_for (part_needs_bit mantissa) w.bits) (subst (λ (b : Bool). sends mantissa.operator b ≡ true) at s)))
 
 -- ---- messages
 

@@ -1,5 +1,5 @@
 -- What stands behind the first number of a delta: where that has come, and the field waits, it waits until what is lacking of the rest has come.
-use Rattle.std.proofs.Common.{subst, ap, ◌≡◌, ℕ, ℤ, Bool, true, false, List, ◌++◌, length, Option, Some, None, Result, Ok, Err, refl, sym, ◌∙◌, ◌+◌, ◌<◌, ◌-◌, arith, length-append, length-drop, take, drop}
+use Rattle.std.proofs.Common.{inl, inr, ap, ◌≡◌, ℕ, ℤ, Bool, true, false, List, ◌++◌, length, Option, Some, None, Result, Ok, Err, refl, sym, ◌∙◌, ◌+◌, ◌<◌, ◌-◌, arith, length-append, length-drop, take, drop}
 use Rattle.std.proofs.lemmas.List.{take_all}
 use Rattle.std.specs.Prelude.{◌+ℤ◌, nat_le, IfSome, if◌then◌else◌}
 use Rattle.fast_wire.specs.Reading.{◌>>=◌, entity_at, signed_at, signed_nullable_at}
@@ -34,7 +34,7 @@ use Rattle.fast_value.specs.declared.kind.Part.{Part}
 use Rattle.fast_value.specs.declared.kind.Part.TheVariants as part
 use Rattle.fast_field.specs.FieldReading.{as_value, entity_limit, overlong_fault, part_usually_at, units_at, check, decimal_delta_at, decimal_spelled_at, decimal_value, delta_at, field_at, integer_at, limited_value, mantissa_behind, mantissa_delta_behind, mantissa_entity_at, new_part_behind, part_at, part_checked, row_at, spelled_at, unit_delta_at, unless_null, whole_at}
 use Rattle.fast_walk.specs.declared.lack.Lack.{Lack}
-use Rattle.fast_walk.specs.Lacks.{AreUnstopped, IsLacking, IsUnitKind, IsVectorKind, sends_two}
+use Rattle.fast_walk.specs.Lacks.{AreUnstopped, IsUnitKind, IsVectorKind, LacksWaiting, Wants, WantsBehind, sends_two}
 use Rattle.fast_walk.proofs.Lacking.{ascii_waits, both_unstopped, bytes_begin, entity_waits, unicode_begins}
 
 abbrev as_units : List ℕ → List ℕ → Result (Nullable (List ℕ) × List ℕ) FieldFault
@@ -109,14 +109,9 @@ number_waits Strict Optional bytes more entity rest f h g w = rw (entity_goes 10
 
 delta_of : (level : Level) (k : Kind) (i : FieldPart) (e : Entry) (bytes : List ℕ) → IsUnitKind k → delta_at level k i e bytes ≡ unit_delta_at level i e bytes
 unfolding delta_at
-delta_of level kind.Ascii i e bytes h = refl
-delta_of level kind.Unicode i e bytes h = refl
-delta_of level kind.Bytes i e bytes h = refl
-delta_of level kind.Decimal i e bytes h = absurd h
-delta_of level kind.Int32 i e bytes h = absurd h
-delta_of level kind.UInt32 i e bytes h = absurd h
-delta_of level kind.Int64 i e bytes h = absurd h
-delta_of level kind.UInt64 i e bytes h = absurd h
+delta_of level k i e bytes (inl is) = rw is refl
+delta_of level k i e bytes (inr (inl is)) = rw is refl
+delta_of level k i e bytes (inr (inr is)) = rw is refl
 
 delta_row : (level : Level) (i : FieldPart) (e : Entry) (bit : Bool) (bytes : List ℕ) → i.operator ≡ operator.Delta → IsUnitKind i.kind
     → row_at level i.operator i e bit bytes ≡ (integer_at level false i.presence bytes >>= λ n. unless_null n (behind_removal level i e))
@@ -218,48 +213,40 @@ decimal_waits level i e bit bytes more entity rest s of h lacks w =
 slice_end : (xs : List ℕ) (n : ℕ) → take (length xs - n) (drop n xs) ≡ drop n xs
 slice_end xs n = take_all (length xs - n) (drop n xs) (let size = length-drop n xs in omega (arith, size))
 
--- what is lacking of the new part
-new_part_lacks_of : (limit : ℕ) (bytes entity rest : List ℕ) (o : Option Lack) → entity_at 10 bytes ≡ Ok (entity, rest) → IfSome o (λ l. length rest + l.most < limit) → IfSome o (λ l. (l.until_stop ≡ true) × AreUnstopped rest)
-    → IfSome o (λ l. (x : List ℕ) × (y : List ℕ) × (entity_at 10 bytes ≡ Ok (x, y)) × ((more : List ℕ) → IsLacking l more → entity_at limit (y ++ more) ≡ Err wire.NeedMore))
-new_part_lacks_of limit bytes entity rest None h few stop = tt
-new_part_lacks_of limit bytes entity rest (Some l) h few stop = (
-  entity,
-  rest,
-  h,
-  λ more lacking.
-      let size = length-append rest more in
-      let short = lacking.few in
-      entity_waits limit (rest ++ more) (both_unstopped rest more stop.1 (lacking.unstopped stop.0)) (omega (arith, size, few, short)),
-)
+-- what is lacking of the entity behind the first
+pub new_part_lacks : (limit : ℕ) (bytes entity : List ℕ) (n : ℕ) (l : Lack) → entity_at 10 bytes ≡ Ok (entity, drop n bytes) → length (take (length bytes - n) (drop n bytes)) + l.most < limit
+    → (l.until_stop ≡ true) × AreUnstopped (take (length bytes - n) (drop n bytes)) → Wants (entity_at limit) wire.NeedMore (drop n bytes) l
+new_part_lacks limit bytes entity n l h few stop = λ more lacking.
+    let unstopped = (rw (slice_end bytes n) at stop).1 in
+    let size = length-append (drop n bytes) more in
+    let most = rw (slice_end bytes n) at few in
+    let short = lacking.few in
+    entity_waits limit (drop n bytes ++ more) (both_unstopped (drop n bytes) more unstopped (lacking.unstopped stop.0)) (omega (arith, size, most, short))
 
-pub new_part_lacks : (limit : ℕ) (bytes entity : List ℕ) (n : ℕ) (o : Option Lack) → entity_at 10 bytes ≡ Ok (entity, drop n bytes) → IfSome o (λ l. length (take (length bytes - n) (drop n bytes)) + l.most < limit) → IfSome o (λ l. (l.until_stop ≡ true) × AreUnstopped (take (length bytes - n) (drop n bytes)))
-    → IfSome o (λ l. (x : List ℕ) × (y : List ℕ) × (entity_at 10 bytes ≡ Ok (x, y)) × ((more : List ℕ) → IsLacking l more → entity_at limit (y ++ more) ≡ Err wire.NeedMore))
-new_part_lacks limit bytes entity n o h few stop = new_part_lacks_of limit bytes entity (drop n bytes) o h (rw (slice_end bytes n) at few) (rw (slice_end bytes n) at stop)
+-- of characters, of a vector's length, and of a vector
+module _ (level : Level) (bytes entity : List ℕ) (n : ℕ) where
+  pub new_text_lacks : (o : Option Lack) → entity_at 10 bytes ≡ Ok (entity, drop n bytes) → IfSome o (λ l. length (take (length bytes - n) (drop n bytes)) + l.most < 65540)
+      → IfSome o (λ l. (l.until_stop ≡ true) × AreUnstopped (take (length bytes - n) (drop n bytes))) → IfSome o (WantsBehind (part_at level kind.Ascii) fault.NeedMore bytes)
+  new_text_lacks None h few stop = tt
+  new_text_lacks (Some l) h few stop = (entity, drop n bytes, h, λ more lacking. new_text_waits level (drop n bytes ++ more) (new_part_lacks 65540 bytes entity n l h few stop more lacking))
 
--- and of characters, or of a vector
-pub new_text_lacks : (level : Level) (i : FieldPart) (o : Option Lack) (bytes : List ℕ) → i.kind ≡ kind.Ascii → IfSome o (λ l. (x : List ℕ) × (y : List ℕ) × (entity_at 10 bytes ≡ Ok (x, y)) × ((more : List ℕ) → IsLacking l more → entity_at 65540 (y ++ more) ≡ Err wire.NeedMore))
-    → IfSome o (λ l. (x : List ℕ) × (y : List ℕ) × (entity_at 10 bytes ≡ Ok (x, y)) × ((more : List ℕ) → IsLacking l more → part_at level i.kind (y ++ more) ≡ Err fault.NeedMore))
-new_text_lacks level i None bytes is h = tt
-new_text_lacks level i (Some l) bytes is h = (h.0, h.1, h.2, λ more lacking. rw is (new_text_waits level (h.1 ++ more) (h.3 more lacking)))
+  pub new_length_lacks : (k : Kind) (l : Lack) → IsVectorKind k → entity_at 10 bytes ≡ Ok (entity, drop n bytes) → length (take (length bytes - n) (drop n bytes)) + l.most < 10
+      → (l.until_stop ≡ true) × AreUnstopped (take (length bytes - n) (drop n bytes)) → WantsBehind (part_at level k) fault.NeedMore bytes l
+  new_length_lacks k l (inl is) h few stop = (entity, drop n bytes, h, λ more lacking. new_vector_waits level k (drop n bytes ++ more) (rw is (unicode_begins level Mandatory _ (new_part_lacks 10 bytes entity n l h few stop more lacking))))
+  new_length_lacks k l (inr is) h few stop = (entity, drop n bytes, h, λ more lacking. new_vector_waits level k (drop n bytes ++ more) (rw is (bytes_begin level Mandatory _ (new_part_lacks 10 bytes entity n l h few stop more lacking))))
 
-new_vector_begins : (level : Level) (k : Kind) (bytes : List ℕ) → IsVectorKind k → entity_at 10 bytes ≡ Err wire.NeedMore → part_at level k bytes ≡ Err fault.NeedMore
-new_vector_begins level kind.Unicode bytes v h = new_vector_waits level kind.Unicode bytes (unicode_begins level Mandatory bytes h)
-new_vector_begins level kind.Bytes bytes v h = new_vector_waits level kind.Bytes bytes (bytes_begin level Mandatory bytes h)
-new_vector_begins level kind.Ascii bytes v h = absurd v
-new_vector_begins level kind.Decimal bytes v h = absurd v
-new_vector_begins level kind.Int32 bytes v h = absurd v
-new_vector_begins level kind.UInt32 bytes v h = absurd v
-new_vector_begins level kind.Int64 bytes v h = absurd v
-new_vector_begins level kind.UInt64 bytes v h = absurd v
+  pub new_vector_lacks : (k : Kind) (o : Option Lack) → entity_at 10 bytes ≡ Ok (entity, drop n bytes) → IfSome o (λ l. IsVectorKind k × Wants (units_at level k Mandatory) fault.NeedMore (take (length bytes - n) (drop n bytes)) l)
+      → IfSome o (WantsBehind (part_at level k) fault.NeedMore bytes)
+  new_vector_lacks k None h lacks = tt
+  new_vector_lacks k (Some l) h lacks = (entity, drop n bytes, h, λ more lacking. new_vector_waits level k (drop n bytes ++ more) ((rw (slice_end bytes n) at lacks.1) more lacking))
 
-pub new_length_lacks : (level : Level) (k : Kind) (bytes entity : List ℕ) (n : ℕ) (l : Lack) → IsVectorKind k → entity_at 10 bytes ≡ Ok (entity, drop n bytes) → length (take (length bytes - n) (drop n bytes)) + l.most < 10
-    → (l.until_stop ≡ true) × AreUnstopped (take (length bytes - n) (drop n bytes)) → (x : List ℕ) × (y : List ℕ) × (entity_at 10 bytes ≡ Ok (x, y)) × ((more : List ℕ) → IsLacking l more → part_at level k (y ++ more) ≡ Err fault.NeedMore)
-new_length_lacks level k bytes entity n l v h few stop =
-    let s = new_part_lacks 10 bytes entity n (Some l) h few stop in
-    (s.0, s.1, s.2, λ more lacking. new_vector_begins level k (s.1 ++ more) v (s.3 more lacking))
+-- of the whole field
+pub unit_lacks : (level : Level) (i : FieldPart) (k : Kind) (bit : Bool) (bytes : List ℕ) (o : Option Lack) → i.operator ≡ operator.Delta → i.kind ≡ k → IsUnitKind k → IfSome o (WantsBehind (part_at level k) fault.NeedMore bytes)
+    → IfSome o (LacksWaiting level i bit bytes)
+unit_lacks level i k bit bytes None is of u h = tt
+unit_lacks level i k bit bytes (Some l) is of u h = λ e waits more lacking. unit_delta_waits level i e bit bytes more h.0 h.1 is (rw of u) h.2 (rw of (h.3 more lacking)) waits
 
-pub new_vector_lacks : (level : Level) (k : Kind) (bytes entity : List ℕ) (n : ℕ) (o : Option Lack) → entity_at 10 bytes ≡ Ok (entity, drop n bytes)
-    → IfSome o (λ l. IsVectorKind k × ((more : List ℕ) → IsLacking l more → units_at level k Mandatory (take (length bytes - n) (drop n bytes) ++ more) ≡ Err fault.NeedMore))
-    → IfSome o (λ l. (x : List ℕ) × (y : List ℕ) × (entity_at 10 bytes ≡ Ok (x, y)) × ((more : List ℕ) → IsLacking l more → part_at level k (y ++ more) ≡ Err fault.NeedMore))
-new_vector_lacks level k bytes entity n None h lacks = tt
-new_vector_lacks level k bytes entity n (Some l) h lacks = (entity, drop n bytes, h, λ more lacking. new_vector_waits level k (drop n bytes ++ more) (subst (λ (xs : List ℕ). units_at level k Mandatory (xs ++ more) ≡ Err fault.NeedMore) (slice_end bytes n) (lacks.1 more lacking)))
+pub decimal_lacks : (level : Level) (i : FieldPart) (bit : Bool) (bytes entity : List ℕ) (n : ℕ) (o : Option Lack) → sends_two i.operator bit ≡ true → i.kind ≡ kind.Decimal → entity_at 10 bytes ≡ Ok (entity, drop n bytes)
+    → IfSome o (λ l. length (take (length bytes - n) (drop n bytes)) + l.most < 10) → IfSome o (λ l. (l.until_stop ≡ true) × AreUnstopped (take (length bytes - n) (drop n bytes))) → IfSome o (LacksWaiting level i bit bytes)
+decimal_lacks level i bit bytes entity n None s of h few stop = tt
+decimal_lacks level i bit bytes entity n (Some l) s of h few stop = λ e waits more lacking. decimal_waits level i e bit bytes more entity (drop n bytes) s of h (new_part_lacks 10 bytes entity n l h few stop more lacking) waits

@@ -1,24 +1,195 @@
--- What stands where a walk can go on, or has stopped, from its parts.
-use Rattle.std.proofs.Common.{◌≡◌, ℕ, Bool, List, refl}
+-- How a walk takes a piece, and where it stops at one.
+use Rattle.std.proofs.Common.{◌≡◌, ◌≢◌, ◌≤◌, ◌<◌, ◌-◌, ◌++◌, ◌+◌, ◌*◌, ◌∷◌, [], ℕ, Bool, List, Option, Ok, Err, drop, length, get_or, map, refl, sym, ap, ◌∙◌, arith}
+use Rattle.std.specs.Prelude.{IsTrue}
 use Rattle.fast_value.specs.declared.key.Key.{Key}
+use Rattle.fast_value.specs.declared.kind.Kind.{Kind}
+use Rattle.fast_value.specs.declared.kind.Part.{Part}
+use Rattle.fast_value.specs.declared.scalar.Scalar.{Scalar}
+use Rattle.fast_template.specs.declared.resolved.FieldPart.{FieldPart}
+use Rattle.fast_template.specs.Resolved.{Instruction, Instructions, whole_field, field_in_parts, group_of, sequence_of, then_instruction, list_of, part_needs_bit}
 use Rattle.fast_dictionary.specs.Dictionary.{Dictionary}
+use Rattle.fast_field.specs.Parts.{IsKindOfPart}
+use Rattle.fast_field.specs.declared.fault.FieldFault.{FieldFault}
+use Rattle.fast_field.specs.declared.fault.FieldFault.TheVariants as fault
 use Rattle.fast_wire.specs.declared.level.Level.{Level}
-use Rattle.fast_walk.specs.Pieces.{CanWalk, Stops}
-use Rattle.fast_walk.specs.Received.{CarriesOpen, Having}
-use Rattle.fast_walk.specs.Room.{HasRoom}
-use Rattle.fast_walk.specs.Told.{KeepScalars}
-use Rattle.fast_walk.specs.Walks.{HaltsAs, IsReady}
+use Rattle.fast_stream.specs.Bits.{after_bit, bit_for}
+use Rattle.fast_stream.specs.Faults.{Stop, cause_of_field}
+use Rattle.fast_stream.specs.Nodes.{Item}
+use Rattle.fast_stream.specs.Reading.{Cursor, field_part_at, node_at, piece_at, stopped}
+use Rattle.fast_stream.specs.declared.fault.Cause.TheVariants as cause
+use Rattle.fast_walk.specs.OpenSegments.{Inside, Next, all_around, at_instruction, cursor, top_on}
+use Rattle.fast_walk.specs.Pieces.{CanWalk, Holds, Reaches, Stops}
+use Rattle.fast_walk.specs.Told.{IsTold, KeepScalars}
+use Rattle.fast_walk.specs.Received.{CarriesOpen, Faults, Having, Received, Took, moved}
+use Rattle.fast_walk.specs.Room.{CarriesRoom, HasRoomBehind, left_around}
+use Rattle.fast_walk.specs.Walks.{AreAllServed, AreServed, At, Begins, HaltsAs, IsBehind, IsNextServed, IsOpened, IsServed, IsWaitingServed, Moves, bare_next, frame_of, next_of, rank_of, reads_on, weight_of}
 use Rattle.fast_walk.specs.declared.halt.Halt.{Halt}
+use Rattle.fast_walk.specs.declared.walk.Frame.{Frame as FrameNow}
+use Rattle.fast_walk.specs.declared.walk.Next.{Next as NextNow}
+use Rattle.fast_walk.specs.declared.walk.Next.TheVariants as next
 use Rattle.fast_walk.specs.declared.walk.Walk.{Walk as WalkNow}
+use Rattle.fast_walk.proofs.Steps.{count_goes, items_on, part_goes, part_stops}
+use Rattle.fast_field.proofs.ReadFields.{bytes_from}
+use Rattle.fast_wire.specs.Reader.{IsBytes}
+use Rattle.fast_walk.proofs.Telling.{asked_for, taken_keeps, told_part}
+use Rattle.fast_walk.proofs.Walking.{goes_kept, goes_on, is_instruction, left_last, piece_on, piece_stops_on, served_push}
 
-pub can_walk : {serves : Key → Bool} {d : Dictionary} {Room : List (List Bool) → List Bool → Bool} {w : WalkNow} → IsReady serves w → HasRoom Room w → KeepScalars d → CanWalk serves d Room w
-can_walk ready room kept = record { ready = ready; kept = kept; room = room }
+abbrev pub number_in : Instruction → ℕ
+number_in (whole_field name number presence whole) = number
+number_in (field_in_parts name number presence exponent mantissa) = number
+number_in (group_of name number presence members) = number
+number_in (sequence_of name number presence part members) = number
+
+not_counted : (level : Level) (i : Instruction) (c : Cursor) (s : Stop) → node_at (number_in i) c ≡ Err s → piece_at level i c ≡ Err s
+not_counted level (whole_field name number presence whole) c s h = rw h refl
+not_counted level (field_in_parts name number presence exponent mantissa) c s h = rw h refl
+not_counted level (group_of name number presence members) c s h = rw h refl
+not_counted level (sequence_of name number presence part members) c s h = rw h refl
+
+pub weighs : (n : NextNow) → (0 < weight_of n) × (weight_of n ≤ 2)
+weighs next.Instruction = (omega arith, omega arith)
+weighs (next.Mantissa m) = (omega arith, omega arith)
+weighs (next.Element s) = (omega arith, omega arith)
+
+module _ {serves : Key → Bool} {d : Dictionary} {Room : List (List Bool) → List Bool → Bool} {w : WalkNow} where
+  pub begins_served : {i : Instruction} {is : Instructions} → CanWalk serves d Room w → Begins w i is → IsServed serves i × AreServed serves is
+  begins_served can begins = rw (begins.first) at can.ready.rest
+
+  -- it can go on behind a part
+  pub part_on : {v : WalkNow} {Later : List (List Bool) → List Bool → Bool} {e : Dictionary} {p : FieldPart} {level asked : Level} {needs bit : Bool} {x : Option Scalar} {bytes rest : List ℕ} {part : Part} {kind : Kind} → CanWalk serves d Room w
+      → asked ≡ level → needs ≡ part_needs_bit p → bit ≡ bit_for needs w.bits → IsKindOfPart part kind → IsTold part kind p → IsBytes bytes → Took asked p bit d e x bytes rest → HasRoomBehind bit p Room Later
+      → v.bits ≡ after_bit needs w.bits → v.around.items ≡ w.around.items → IsNextServed serves (next_of v.next) → AreServed serves (list_of v.rest.now) → CanWalk serves e Later v
+  part_on {v} {Later} {e} {p} {level} {asked} {needs} {bit} {x} {bytes} {rest} {part} {kind} can l need b of told fits took room bits around next rest_served = record {
+    ready = record { next = next; rest = rest_served; around = rw around can.ready.around };
+    kept = taken_keeps asked p bit d e x bytes rest fits (told_part part kind p of told) (asked_for p needs bit w.bits need b) took can.kept;
+    room = rw (bits, around, need) (room _ w.bits (rw need at b) can.room);
+  }
+
+-- in a segment that is opened
+pub opened_on : {serves : Key → Bool} {d : Dictionary} {Room : List (List Bool) → List Bool → Bool} {v : WalkNow} {frames : List FrameNow} {outer own : List Bool} {left number : ℕ} {members is : Instructions} {i : Inside}
+    → IsOpened frames outer left number members is i own v → AreServed serves members → IsWaitingServed serves (record { bits = outer; number = number; body = record { rest = is; done = [] }; inside = i })
+    → AreAllServed serves (map frame_of frames) → KeepScalars d → IsTrue (Room (left_around (map frame_of frames) ++ outer ∷ []) own) → CanWalk serves d Room v
+opened_on {serves} end members waits served kept room = record {
+  ready = record { next = rw (end.next) tt; rest = rw (end.rest) members; around = rw (end.around) (served_push serves _ _ served waits) };
+  kept = kept;
+  room = rw (end.bits, left_last _ _ _ end.around) room;
+}
+
+pub less_opened : (n : NextNow) {v : WalkNow} {frames : List FrameNow} {outer own : List Bool} {left number : ℕ} {members is : Instructions} {i : Inside} → 0 < left → IsOpened frames outer left number members is i own v
+    → rank_of v < 4 * left + 2 * length frames + weight_of n
+less_opened n some end =
+    let light = weighs n in
+    omega (arith, end.spare, some, light, end.depth, ap weight_of end.next)
+
+pub less_behind : {w v : WalkNow} {needs : Bool} {n : NextNow} {is : Instructions} → 0 < w.spare → IsBehind w v needs n is → rank_of v < rank_of w
+less_behind {w} {v} some end =
+    let light = weighs w.next in
+    let heavy = weighs v.next in
+    omega (arith, end.spare, some, light, heavy, ap (λ (fs : List FrameNow). length fs) end.around)
+
+pub part_took : {d e : Dictionary} {p : FieldPart} {level asked : Level} {needs bit : Bool} {x : Option Scalar} {bytes rest : List ℕ} (bits : List Bool) → asked ≡ level → needs ≡ part_needs_bit p → bit ≡ bit_for needs bits
+    → Took asked p bit d e x bytes rest → (spare : ℕ) (more : List ℕ) → field_part_at level p (cursor d bits spare (bytes ++ more)) ≡ Ok (x, cursor e (after_bit needs bits) spare (rest ++ more))
+part_took {d} {e} {p} {level} {asked} {needs} {bit} {x} {bytes} {rest} bits l need b took spare more =
+    rw (took.entry, need) (part_goes level p d bits spare (bytes ++ more) (rest ++ more) x (rw (l, b, need) at took.value more))
+
+pub halts_at : (level : Level) (d : Dictionary) (bytes : List ℕ) (h : Halt) {w : WalkNow} {i : Instruction} {is : Instructions} → Begins w i is → piece_at level i (cursor d w.bits w.spare bytes) ≡ stopped h.number bytes h.cause → HaltsAs level w d bytes h
+halts_at level d bytes h {w} {i} {is} begins k o at =
+    piece_stops_on level o.around o.next o.body i is (cursor d w.bits w.spare bytes) _ (is_instruction o.next (at.next ∙ ap next_of begins.next)) (at.rest ∙ begins.first) k
 
 module _ {R : Type 0} {level : Level} {Has : Having R} {Room : R → List (List Bool) → List Bool → Bool} {w : WalkNow} {r : R} {d : Dictionary} {bytes : List ℕ} {h : Halt} where
-  -- nothing has changed but the receiver
-  pub stops_with : {s : R} {e : Dictionary} → HaltsAs level w d bytes h → e ≡ d → CarriesOpen (Has r) (Has s) → HasRoom (Room s) w → Stops level Has Room w r d w s e bytes h
-  stops_with halts entries has room = record { halts = halts; walk = refl; entries = entries; has = has; room = room }
+  -- ---- where it stops
 
   -- nothing has changed
-  pub stops_as_is : {v : WalkNow} {s : R} → HaltsAs level w d bytes h → (v ≡ w) × (s ≡ r) → HasRoom (Room r) w → Stops level Has Room w r d v s d bytes h
-  stops_as_is halts same room = record { halts = halts; walk = same.0; entries = refl; has = λ o e had. rw (same.1) had; room = rw (same.0, same.1) room }
+  pub stops_here : {serves : Key → Bool} → CanWalk serves d (Room r) w → HaltsAs level w d bytes h → Stops level Has Room w r d w r d bytes h
+  stops_here can halts = record { halts = halts; walk = refl; entries = refl; has = λ o e had. had; room = can.room }
+
+  -- a node too many
+  pub count_stops : {serves : Key → Bool} {i : Instruction} {is : Instructions} → CanWalk serves d (Room r) w → Begins w i is
+      → ((e : Dictionary) (bits : List Bool) (b : List ℕ) → node_at (number_in i) (cursor e bits w.spare b) ≡ stopped h.number b h.cause) → h.cause ≢ cause.Memory → Stops level Has Room w r d w r d bytes h
+  count_stops {serves} {i} can begins stops other = stops_here can (halts_at level d bytes h begins (not_counted level i _ _ (stops d w.bits bytes)))
+
+  -- a part that has a fault
+  pub fault_stops : {serves : Key → Bool} {s : R} {e : Dictionary} {f : FieldFault} {asked : Level} {needs bit : Bool} (p : FieldPart) → CanWalk serves d (Room r) w → asked ≡ level → needs ≡ part_needs_bit p → bit ≡ bit_for needs w.bits
+      → h.cause ≡ cause_of_field f → h.number ≡ p.number
+      → (f ≢ fault.Memory → Faults asked p bit d e bytes f (CarriesOpen (Has r) (Has s))) → (f ≢ fault.Memory → CarriesRoom (Room r) (Room s))
+      → (((spare : ℕ) → field_part_at level p (cursor d w.bits spare bytes) ≡ stopped h.number bytes h.cause) → HaltsAs level w d bytes h)
+      → h.cause ≢ cause.Memory → Stops level Has Room w r d w s e bytes h
+  fault_stops {serves} {s} {e} {f} p can l n b caused numbered faults room halts other =
+      let memory : f ≢ fault.Memory = λ is. other (caused ∙ ap cause_of_field is) in
+      let stops = faults memory in
+      record {
+        halts = halts (λ spare. rw (caused, numbered) (part_stops level p d w.bits spare bytes f (rw (l, b, n) at stops.0)));
+        walk = refl;
+        entries = stops.1;
+        has = stops.2;
+        room = room memory _ _ can.room;
+      }
+
+  -- the first part of an instruction
+  pub first_stops : {serves : Key → Bool} {s : R} {e : Dictionary} {f : FieldFault} {asked : Level} {needs bit : Bool} {i : Instruction} {is : Instructions} (p : FieldPart) → CanWalk serves d (Room r) w → Begins w i is → 0 < w.spare
+      → asked ≡ level → needs ≡ part_needs_bit p → bit ≡ bit_for needs w.bits → h.cause ≡ cause_of_field f → h.number ≡ p.number
+      → (f ≢ fault.Memory → Faults asked p bit d e bytes f (CarriesOpen (Has r) (Has s))) → (f ≢ fault.Memory → CarriesRoom (Room r) (Room s))
+      → ((c k : Cursor) (t : Stop) → node_at (number_in i) c ≡ Ok k → field_part_at level p k ≡ Err t → piece_at level i c ≡ Err t)
+      → h.cause ≢ cause.Memory → Stops level Has Room w r d w s e bytes h
+  first_stops {i = i} p can begins some l n b caused numbered faults room first =
+      fault_stops p can l n b caused numbered faults room (λ stops. halts_at level d bytes h begins (first _ _ _ (count_goes (number_in i) w.spare d w.bits bytes some) (stops (w.spare - 1))))
+
+-- ---- where it goes on
+
+-- behind the first part of an instruction
+pub moves_on : (level : Level) {R : Type 0} (Has : Having R) (r s : R) (d e : Dictionary) (bytes rest : List ℕ) {w v : WalkNow} {i : Instruction} {is : Instructions} {needs : Bool} {n : NextNow} (next : Next) (f : List Item → List Item)
+    → Begins w i is → 0 < w.spare → IsBehind w v needs n is → bare_next next ≡ next_of n
+    → ((o : Received) → o.next ≡ at_instruction → o.body.rest ≡ then_instruction i is → Has r o d → Has s (moved o next (record { rest = is; done = f o.body.done }) o.around) e)
+    → ((done : List Item) (more : List ℕ) → node_at (number_in i) (cursor d w.bits w.spare (bytes ++ more)) ≡ Ok (cursor d w.bits (w.spare - 1) (bytes ++ more))
+    → items_on level is done (piece_at level i (cursor d w.bits w.spare (bytes ++ more))) ≡ top_on level next (record { rest = is; done = f done }) (cursor e (after_bit needs w.bits) (w.spare - 1) (rest ++ more)))
+    → Moves level Has w r d v s e bytes rest
+moves_on level Has r s d e bytes rest {w} {v} {i} {is} next f begins some end same has reads o at =
+    let here = is_instruction o.next (at.0.next ∙ ap next_of begins.next) in
+    let first = at.0.rest ∙ begins.first in (
+      moved o next (record { rest = is; done = f o.body.done }) o.around,
+      (record { next = same ∙ ap next_of (sym end.next); rest = sym end.rest; around = rw (end.around) at.0.around }, has o here first at.1),
+      record { set = refl; before = refl; template = refl; members = refl; start = refl },
+      λ more. rw (end.bits, end.spare)
+          (piece_on level o.around o.next o.body i is _ here first ∙ ap (all_around level o.around) (reads o.body.done more (count_goes (number_in i) w.spare d w.bits _ some))),
+    )
+
+module _ {R : Type 0} {level : Level} {Has : Having R} {Room : R → List (List Bool) → List Bool → Bool} {serves : Key → Bool} {w v : WalkNow} {r s : R} {d e : Dictionary} {bytes : List ℕ} {at n : ℕ} where
+  -- the first part of an instruction
+  pub part_takes : {i : Instruction} {is : Instructions} {p : FieldPart} {asked : Level} {needs bit : Bool} {x : Option Scalar} {part : Part} {kind : Kind} {nextNow : NextNow}
+      (next : Next) (f : List Item → List Item) → CanWalk serves d (Room r) w → Begins w i is → 0 < w.spare → IsBehind w v needs nextNow is → bare_next next ≡ next_of nextNow → asked ≡ level → needs ≡ part_needs_bit p → bit ≡ bit_for needs w.bits
+      → IsKindOfPart part kind → IsTold part kind p → ((k : ℕ) → get_or bytes k 0 < 256) → Took asked p bit d e x (drop at bytes) (drop n bytes) → HasRoomBehind bit p (Room r) (Room s) → IsNextServed serves (next_of nextNow)
+      → (at ≤ n) × (n ≤ length bytes)
+      → ((o : Received) → o.next ≡ at_instruction → o.body.rest ≡ then_instruction i is → Has r o d → Has s (moved o next (record { rest = is; done = f o.body.done }) o.around) e)
+      → ((done : List Item) (c k l : Cursor) → node_at (number_in i) c ≡ Ok k → field_part_at level p k ≡ Ok (x, l) → items_on level is done (piece_at level i c) ≡ top_on level next (record { rest = is; done = f done }) l)
+      → Reaches level Has Room serves w r d v s e bytes at n × (rank_of v < rank_of w)
+  part_takes {is = is} next f can begins some end same l need b of told fits took room served place has reads = (
+    record {
+      from = place.0;
+      within = place.1;
+      goes = moves_on level Has r s d e (drop at bytes) (drop n bytes) next f begins some end same has (λ done more h. reads done _ _ _ h (part_took w.bits l need b took (w.spare - 1) more));
+      on = part_on can l need b of told (bytes_from bytes at fits) took room end.bits end.around (rw (end.next) served) (rw (end.rest) (begins_served can begins).1);
+    },
+    less_behind some end,
+  )
+
+-- ---- one place behind the other
+
+pub reaches_on : {R : Type 0} {level : Level} {Has : Having R} {Room : R → List (List Bool) → List Bool → Bool} {serves : Key → Bool} {w v u : WalkNow} {r s t : R} {d e f : Dictionary} {bytes : List ℕ} {at n m : ℕ}
+    → Reaches level Has Room serves w r d v s e bytes at n → Reaches level Has Room serves v s e u t f bytes n m → Reaches level Has Room serves w r d u t f bytes at m
+reaches_on {level = level} {Has = Has} {w = w} {v = v} {u = u} {r = r} {s = s} {t = t} {d = d} {e = e} {f = f} {bytes = bytes} {at = at} {n = n} {m = m} one more = record {
+  from = omega (arith, one.from, more.from);
+  within = more.within;
+  goes = goes_on (At Has w r d) (At Has v s e) (At Has u t f) (reads_on level w d) (reads_on level v e) (reads_on level u f) (drop at bytes) (drop n bytes) (drop m bytes) one.goes more.goes;
+  on = more.on;
+}
+
+-- where a piece stops, the walk is as it was, and can go on
+pub holds_at : {R : Type 0} {level : Level} {Has : Having R} {Room : R → List (List Bool) → List Bool → Bool} {serves : Key → Bool} {w v u : WalkNow} {r s t : R} {d e f : Dictionary} {bytes : List ℕ} {at n : ℕ} {h : Halt}
+    → Reaches level Has Room serves w r d v s e bytes at n → Stops level Has Room v s e u t f (drop n bytes) h → Holds level Has Room serves w r d u t f (drop at bytes) (drop n bytes) h
+holds_at {level = level} {Has = Has} {w = w} {v = v} {r = r} {s = s} {t = t} {d = d} {e = e} {bytes = bytes} {at = at} {n = n} one stops = record {
+  goes = rw (stops.walk, stops.entries)
+      (goes_on (At Has w r d) (At Has v s e) (At Has v t e) (reads_on level w d) (reads_on level v e) (reads_on level v e) (drop at bytes) (drop n bytes) (drop n bytes) one.goes
+      (goes_kept (At Has v s e) (At Has v t e) (reads_on level v e) (drop n bytes) (λ o at. (at.0, stops.has o e at.1))));
+  halts = rw (stops.walk, stops.entries) stops.halts;
+  on = record { ready = rw (stops.walk) one.on.ready; kept = rw (stops.entries) one.on.kept; room = stops.room };
+}

@@ -1,10 +1,9 @@
 -- How reading goes on from one piece to the next.
-use Rattle.std.proofs.Common.{◌≡◌, ℕ, zero, suc, ◌-◌, ◌<◌, ℤ, Bool, true, false, List, [], ◌∷◌, ◌++◌, Option, Some, None, Result, Ok, Err, refl, sym, ap, ◌∙◌, arith, append-nil}
+use Rattle.std.proofs.Common.{◌≡◌, ℕ, zero, suc, ◌-◌, ◌<◌, Bool, true, List, [], ◌∷◌, ◌++◌, Option, Some, Result, Ok, Err, refl, sym, ap, ◌∙◌, arith, append-nil}
 use Rattle.fast_value.specs.declared.scalar.Scalar.{Scalar}
-use Rattle.fast_value.specs.declared.scalar.Scalar.TheVariants.{U32, I32, I64, Decimal}
+use Rattle.fast_value.specs.declared.scalar.Scalar.TheVariants.{U32}
 use Rattle.fast_template.specs.declared.resolved.FieldPart.{FieldPart}
-use Rattle.fast_value.specs.declared.kind.Presence.{Presence}
-use Rattle.fast_template.specs.Resolved.{Instruction, Instructions, whole_field, field_in_parts, group_of, sequence_of, no_instructions, then_instruction, is_optional, has_map}
+use Rattle.fast_template.specs.Resolved.{Instruction, Instructions, no_instructions, then_instruction, has_map}
 use Rattle.fast_dictionary.specs.Dictionary.{Dictionary}
 use Rattle.fast_wire.specs.Reading.{◌>>=◌, entity_at, map_at}
 use Rattle.fast_wire.specs.declared.fault.WireFault.{WireFault}
@@ -12,12 +11,12 @@ use Rattle.fast_wire.proofs.GoingOn.{entity_goes}
 use Rattle.fast_wire.specs.Level.{judge, verdict, overlong_map, some_set, IsLeftClear}
 use Rattle.fast_wire.specs.declared.level.Level.{Level}
 use Rattle.fast_wire.specs.declared.level.Level.TheVariants.{Usual, Strict}
-use Rattle.fast_stream.specs.Nodes.{Item, single, group_items, sequence_elements, Items, no_items, then_item, items_of, Elements, no_elements, then_element, elements_of}
+use Rattle.fast_stream.specs.Nodes.{Item, group_items, sequence_elements, Items, no_items, then_item, items_of, Elements, no_elements, then_element, elements_of}
 use Rattle.fast_stream.specs.Bits.{bit_for}
 use Rattle.fast_stream.specs.declared.fault.Cause.TheVariants.{R7, R8}
 use Rattle.fast_stream.specs.Faults.{Stop, cause_of_wire}
-use Rattle.fast_stream.specs.Reading.{Cursor, Reads, node_at, field_part_at, own_map_at, closing, segment_at, each_at, elements_at, group_at, behind_bit, piece_at, body_at}
-use Rattle.fast_walk.specs.OpenSegments.{items_before, elements_before, Body, Sequel, ended_on, in_group, in_sequence, Waiting, with_item, under_bits, body_on, mantissa_on, elements_on, behind_inside, around_on, all_around}
+use Rattle.fast_stream.specs.Reading.{Cursor, Reads, node_at, field_part_at, own_map_at, closing, segment_at, each_at, elements_at, group_at, piece_at, body_at}
+use Rattle.fast_walk.specs.OpenSegments.{items_before, elements_before, Body, Sequel, ended_on, in_group, in_sequence, Waiting, with_item, under_bits, body_on, elements_on, behind_inside, around_on, all_around}
 use Rattle.fast_template.specs.Resolved.{part_needs_bit}
 use Rattle.fast_dictionary.specs.Dictionary.{entry_at}
 use Rattle.fast_field.specs.declared.fault.FieldFault.{FieldFault}
@@ -26,7 +25,7 @@ use Rattle.fast_stream.specs.Bits.{after_bit}
 use Rattle.fast_stream.specs.Bodies.{written}
 use Rattle.fast_stream.specs.Faults.{cause_of_field}
 use Rattle.fast_stream.specs.Reading.{stopped}
-use Rattle.fast_walk.specs.OpenSegments.{cursor, fewer}
+use Rattle.fast_walk.specs.OpenSegments.{cursor}
 
 -- ---- lists of items
 
@@ -252,110 +251,17 @@ module _ (level : Level) where
   unfolding field_part_at
   part_stops p d bits spare bytes f h = rw h refl
 
-  -- a field
-  pub field_goes : (name : List ℕ) (number : ℕ) (presence : Presence) (whole : FieldPart) (is : Instructions) (done : List Item) (c d e : Cursor) (v : Option Scalar)
-      → node_at number c ≡ Ok d → field_part_at level whole d ≡ Ok (v, e)
-      → body_on level (record { rest = then_instruction (whole_field name number presence whole) is; done = done }) c ≡ body_on level (record { rest = is; done = done ++ single v ∷ [] }) e
-  field_goes name number presence whole is done c d e v h k = then_on (whole_field name number presence whole) is done c ∙ rw (h, k) refl
-
-  -- a group that is left out
-  pub no_group_goes : (name : List ℕ) (number : ℕ) (presence : Presence) (members is : Instructions) (done : List Item) (c d : Cursor)
-      → node_at number c ≡ Ok d → bit_for (is_optional presence) d.bits ≡ false
-      → body_on level (record { rest = then_instruction (group_of name number presence members) is; done = done }) c
-      ≡ body_on level (record { rest = is; done = done ++ single None ∷ [] }) (behind_bit (is_optional presence) d)
-  no_group_goes name number presence members is done c d h k = then_on (group_of name number presence members) is done c ∙ rw (h, k) refl
-
-  -- a group that is there
-  pub group_goes : (name : List ℕ) (number : ℕ) (presence : Presence) (members is : Instructions) (done : List Item) (ws : List Waiting) (c d e : Cursor)
-      → node_at number c ≡ Ok d → bit_for (is_optional presence) d.bits ≡ true → own_map_at level number (has_map members) (behind_bit (is_optional presence) d) ≡ Ok e
-      → all_around level ws (body_on level (record { rest = then_instruction (group_of name number presence members) is; done = done }) c)
-      ≡ all_around level (ws ++ record { bits = after_bit (is_optional presence) d.bits; number = number; body = record { rest = is; done = done }; inside = in_group } ∷ []) (body_on level (record { rest = members; done = [] }) e)
-  group_goes name number presence members is done ws c d e h k m =
-      ap (all_around level ws)
-      (then_on (group_of name number presence members) is done c ∙ rw (h, k) (group_on number members is done (behind_bit (is_optional presence) d) e m))
-      ∙ sym (all_around-more ws _ _)
-
-  pub group_stops : (name : List ℕ) (number : ℕ) (presence : Presence) (members : Instructions) (c d : Cursor) (s : Stop)
-      → node_at number c ≡ Ok d → bit_for (is_optional presence) d.bits ≡ true → own_map_at level number (has_map members) (behind_bit (is_optional presence) d) ≡ Err s
-      → piece_at level (group_of name number presence members) c ≡ Err s
-  group_stops name number presence members c d s h k m = rw (h, k, m) refl
-
-  -- a fault of the first instruction
-  pub piece_stops : (ws : List Waiting) (i : Instruction) (is : Instructions) (done : List Item) (c : Cursor) (s : Stop) → piece_at level i c ≡ Err s
-      → all_around level ws (body_on level (record { rest = then_instruction i is; done = done }) c) ≡ Err s
-  piece_stops ws i is done c s h = ap (all_around level ws) (then_on i is done c ∙ ap (items_on is done) h) ∙ all_around-stops ws s
-
-  -- one element more
-  element_goes_on : (n : ℕ) (s : Sequel) (b : Body) (ws : List Waiting) (c d e : Cursor) → s.left ≡ n → 0 < s.left → node_at s.number c ≡ Ok d → own_map_at level s.number s.own_map d ≡ Ok e
-      → all_around level ws (elements_on level s b c) ≡ all_around level (ws ++ record { bits = d.bits; number = s.number; body = b; inside = in_sequence (fewer s) } ∷ []) (body_on level (record { rest = s.members; done = [] }) e)
-  element_goes_on zero s b ws c d e is some h k = absurd (omega (arith, is, some))
-  element_goes_on (suc n) s b ws c d e is some h k =
-      let less : s.left - 1 ≡ n = omega (arith, is) in
-      rw (less, ap (λ (m : ℕ). elements_on level (record { number = s.number; own_map = s.own_map; members = s.members; left = m; done = s.done }) b c) is)
-      (ap (all_around level ws) (element_on s.number s.own_map s.members n s.done b c d e h k) ∙ sym (all_around-more ws _ _))
-
-  pub element_goes : (s : Sequel) (b : Body) (ws : List Waiting) (c d e : Cursor) → 0 < s.left → node_at s.number c ≡ Ok d → own_map_at level s.number s.own_map d ≡ Ok e
-      → all_around level ws (elements_on level s b c) ≡ all_around level (ws ++ record { bits = d.bits; number = s.number; body = b; inside = in_sequence (fewer s) } ∷ []) (body_on level (record { rest = s.members; done = [] }) e)
-  element_goes s b ws c d e some h k = element_goes_on s.left s b ws c d e refl some h k
-
-  pub element_stops : (n : ℕ) (s : Sequel) (b : Body) (c d : Cursor) (f : Stop) → s.left ≡ suc n → node_at s.number c ≡ Ok d → own_map_at level s.number s.own_map d ≡ Err f
-      → elements_on level s b c ≡ Err f
-  element_stops n s b c d f is h k = ap (λ (m : ℕ). elements_on level (record { number = s.number; own_map = s.own_map; members = s.members; left = m; done = s.done }) b c) is ∙ rw (h, k) refl
+  -- where some are left, one is
+  pub some_left : (s : Sequel) (b : Body) (c : Cursor) → 0 < s.left
+      → elements_on level s b c ≡ elements_on level (record { number = s.number; own_map = s.own_map; members = s.members; left = suc (s.left - 1); done = s.done }) b c
+  some_left s b c some =
+      let one : s.left ≡ suc (s.left - 1) = omega (arith, some) in
+      ap (λ (m : ℕ). elements_on level (record { number = s.number; own_map = s.own_map; members = s.members; left = m; done = s.done }) b c) one
 
   -- no element more
   pub no_more_goes : (s : Sequel) (b : Body) (c : Cursor) → s.left ≡ 0 → elements_on level s b c ≡ body_on level (with_item b (sequence_elements (elements_of s.done))) c
   no_more_goes s b c is =
       ap (λ (m : ℕ). elements_on level (record { number = s.number; own_map = s.own_map; members = s.members; left = m; done = s.done }) b c) is ∙ no_element_on s.number s.own_map s.members s.done b c
-
-  element_stops_at : (n : ℕ) (s : Sequel) (b : Body) (ws : List Waiting) (c d : Cursor) (f : Stop) → s.left ≡ n → 0 < s.left → node_at s.number c ≡ Ok d → own_map_at level s.number s.own_map d ≡ Err f
-      → all_around level ws (elements_on level s b c) ≡ Err f
-  element_stops_at zero s b ws c d f is some h k = absurd (omega (arith, is, some))
-  element_stops_at (suc n) s b ws c d f is some h k = ap (all_around level ws) (element_stops n s b c d f is h k) ∙ all_around-stops ws f
-
-  pub no_map_stops : (s : Sequel) (b : Body) (ws : List Waiting) (c d : Cursor) (f : Stop) → 0 < s.left → node_at s.number c ≡ Ok d → own_map_at level s.number s.own_map d ≡ Err f
-      → all_around level ws (elements_on level s b c) ≡ Err f
-  no_map_stops s b ws c d f some h k = element_stops_at s.left s b ws c d f refl some h k
-
-  no_node_at : (n : ℕ) (s : Sequel) (b : Body) (ws : List Waiting) (c : Cursor) (f : Stop) → s.left ≡ n → 0 < s.left → node_at s.number c ≡ Err f → all_around level ws (elements_on level s b c) ≡ Err f
-  no_node_at zero s b ws c f is some h = absurd (omega (arith, is, some))
-  no_node_at (suc n) s b ws c f is some h =
-      ap (all_around level ws) (ap (λ (m : ℕ). elements_on level (record { number = s.number; own_map = s.own_map; members = s.members; left = m; done = s.done }) b c) is ∙ rw h refl) ∙ all_around-stops ws f
-
-  pub no_node_stops : (s : Sequel) (b : Body) (ws : List Waiting) (c : Cursor) (f : Stop) → 0 < s.left → node_at s.number c ≡ Err f → all_around level ws (elements_on level s b c) ≡ Err f
-  no_node_stops s b ws c f some h = no_node_at s.left s b ws c f refl some h
-
-  -- a decimal whose exponent is there
-  pub exponent_goes : (name : List ℕ) (number : ℕ) (presence : Presence) (exponent mantissa : FieldPart) (is : Instructions) (done : List Item) (c d k : Cursor) (e : ℤ)
-      → node_at number c ≡ Ok d → field_part_at level exponent d ≡ Ok (Some (I32 e), k)
-      → body_on level (record { rest = then_instruction (field_in_parts name number presence exponent mantissa) is; done = done }) c ≡ mantissa_on level e mantissa (record { rest = is; done = done }) k
-  exponent_goes name number presence exponent mantissa is done c d k e h m = then_on (field_in_parts name number presence exponent mantissa) is done c ∙ rw (h, m) refl
-
-  -- a decimal in parts that is absent
-  pub no_exponent_goes : (name : List ℕ) (number : ℕ) (presence : Presence) (exponent mantissa : FieldPart) (is : Instructions) (done : List Item) (c d k : Cursor)
-      → node_at number c ≡ Ok d → field_part_at level exponent d ≡ Ok (None, k)
-      → body_on level (record { rest = then_instruction (field_in_parts name number presence exponent mantissa) is; done = done }) c ≡ body_on level (record { rest = is; done = done ++ single None ∷ [] }) k
-  no_exponent_goes name number presence exponent mantissa is done c d k h m = then_on (field_in_parts name number presence exponent mantissa) is done c ∙ rw (h, m) refl
-
-  pub mantissa_goes : (e m : ℤ) (mantissa : FieldPart) (b : Body) (c k : Cursor) → field_part_at level mantissa c ≡ Ok (Some (I64 m), k)
-      → mantissa_on level e mantissa b c ≡ body_on level (with_item b (single (Some (Decimal e m)))) k
-  mantissa_goes e m mantissa b c k h = rw h refl
-
-  pub mantissa_stops : (ws : List Waiting) (e : ℤ) (mantissa : FieldPart) (b : Body) (c : Cursor) (s : Stop) → field_part_at level mantissa c ≡ Err s → all_around level ws (mantissa_on level e mantissa b c) ≡ Err s
-  mantissa_stops ws e mantissa b c s h = ap (all_around level ws) (rw h refl) ∙ all_around-stops ws s
-
-  -- the length of a sequence that is there
-  pub length_goes : (name : List ℕ) (number : ℕ) (presence : Presence) (part : FieldPart) (members is : Instructions) (done : List Item) (c d k : Cursor) (n : ℕ)
-      → node_at number c ≡ Ok d → field_part_at level part d ≡ Ok (Some (U32 n), k)
-      → body_on level (record { rest = then_instruction (sequence_of name number presence part members) is; done = done }) c
-      ≡ elements_on level (record { number = number; own_map = has_map members; members = members; left = n; done = [] }) (record { rest = is; done = done }) k
-  length_goes name number presence part members is done c d k n h m =
-      then_on (sequence_of name number presence part members) is done c ∙ rw (h, m) (length_on number members is n done k)
-
-  -- a sequence that is absent
-  pub no_length_goes : (name : List ℕ) (number : ℕ) (presence : Presence) (part : FieldPart) (members is : Instructions) (done : List Item) (c d k : Cursor)
-      → node_at number c ≡ Ok d → field_part_at level part d ≡ Ok (None, k)
-      → body_on level (record { rest = then_instruction (sequence_of name number presence part members) is; done = done }) c ≡ body_on level (record { rest = is; done = done ++ single None ∷ [] }) k
-  no_length_goes name number presence part members is done c d k h m = then_on (sequence_of name number presence part members) is done c ∙ rw (h, m) refl
 
   -- the end of the message's own body
   pub whole_goes : (done : List Item) (c : Cursor) → body_on level (record { rest = no_instructions; done = done }) c ≡ Ok (items_of done, c)

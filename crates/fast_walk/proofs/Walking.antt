@@ -4,10 +4,10 @@ use Rattle.std.proofs.lemmas.List.{map_push}
 use Rattle.std.specs.Prelude.{option_to_list}
 use Rattle.fast_value.specs.declared.key.Key.{Key}
 use Rattle.fast_value.specs.declared.scalar.Scalar.{Scalar}
-use Rattle.fast_value.specs.declared.scalar.Scalar.TheVariants.{U32, I32, I64, Decimal}
+use Rattle.fast_value.specs.declared.scalar.Scalar.TheVariants.{I32, I64, Decimal}
 use Rattle.fast_value.specs.declared.kind.Presence.{Presence}
 use Rattle.fast_template.specs.declared.resolved.FieldPart.{FieldPart}
-use Rattle.fast_template.specs.Resolved.{Instruction, Instructions, whole_field, field_in_parts, group_of, sequence_of, no_instructions, then_instruction, is_optional, has_map, Resolved}
+use Rattle.fast_template.specs.Resolved.{Instruction, Instructions, whole_field, field_in_parts, group_of, no_instructions, then_instruction, is_optional, has_map, Resolved}
 use Rattle.fast_wire.specs.Level.{IsLeftClear, some_set}
 use Rattle.fast_wire.specs.declared.level.Level.{Level}
 use Rattle.fast_wire.specs.declared.level.Level.TheVariants.{Strict}
@@ -17,12 +17,18 @@ use Rattle.fast_stream.specs.Bits.{bit_for, after_bit}
 use Rattle.fast_stream.specs.Faults.{Stop}
 use Rattle.fast_stream.specs.Streams.{members_of}
 use Rattle.fast_stream.specs.Reading.{Cursor, Reads, node_at, field_part_at, own_map_at, behind_bit, piece_at, stopped}
-use Rattle.fast_walk.specs.OpenSegments.{Body, Sequel, Waiting, Inside, in_group, in_sequence, Next, at_instruction, at_mantissa, at_element, with_item, with_element, fewer, under_bits, body_on, mantissa_on, elements_on, top_on, behind_inside, all_around}
-use Rattle.fast_walk.specs.Received.{Received, Same, Goes, IsExponent, after_sequence, behind_last, closed_in, ended_in, in_next}
+use Rattle.fast_walk.specs.OpenSegments.{Body, Sequel, Waiting, Inside, in_group, in_sequence, Next, at_instruction, at_mantissa, at_element, with_item, with_element, fewer, under_bits, body_on, mantissa_on, top_on, behind_inside, all_around}
+use Rattle.fast_walk.specs.Received.{Received, Same, Goes, IsExponent, after_sequence, behind_last, closed_in, ended_in}
 use Rattle.fast_walk.specs.Room.{left_around}
-use Rattle.fast_walk.specs.Walks.{bare_inside, bare, bare_next, bare_sequel, frame_of, inside_of, AreAllServed, IsWaitingServed}
+use Rattle.fast_walk.specs.Walks.{bare_inside, bare, bare_next, bare_sequel, frame_of, inside_of, sequel_of, AreAllServed, IsLast, IsWaitingServed}
 use Rattle.fast_walk.specs.declared.walk.Frame.{Frame as FrameNow}
-use Rattle.fast_walk.proofs.Steps.{field_goes, no_group_goes, group_goes, piece_stops, end_goes, whole_goes, exponent_goes, no_exponent_goes, length_goes, no_length_goes, mantissa_goes, mantissa_stops, element_goes, no_map_stops, no_node_stops, no_more_goes, end_stops, set_stops}
+use Rattle.fast_walk.specs.declared.walk.Inside.TheVariants as inside
+use Rattle.fast_walk.specs.declared.walk.Sequel.{Sequel as SequelNow}
+use Rattle.fast_walk.specs.declared.walk.Walk.{Walk as WalkNow}
+use Rattle.std.proofs.Math.Seq.{get_or-append_seam, set-append_seam}
+use Rattle.std.proofs.Common.{length-append, take}
+use Rattle.fast_walk.proofs.Steps.{all_around-more, all_around-stops, end_goes, end_stops, items_on, no_more_goes, set_stops, some_left, then_on, whole_goes}
+use Rattle.fast_walk.proofs.Steps.{element_on as element_around_on, group_on as group_around_on}
 
 -- ---- what is next
 
@@ -36,14 +42,9 @@ pub record IsMantissa (n : Next) (p : FieldPart) : Type 0 where
   pub exponent : ℤ
   pub is : n ≡ at_mantissa exponent p
 
-part_of : FieldPart → Next → FieldPart
-part_of p (at_mantissa e q) = q
-part_of p n = p
-
 pub is_mantissa : (n : Next) (z : ℤ) (p : FieldPart) → bare_next n ≡ at_mantissa z p → IsMantissa n p
-unfolding part_of
 is_mantissa at_instruction z p h = absurd cc
-is_mantissa (at_mantissa e q) z p h = record { exponent = e; is = ap (at_mantissa e) (ap (part_of p) h) }
+is_mantissa (at_mantissa e q) z p h = let same : q ≡ p = cc in record { exponent = e; is = ap (at_mantissa e) same }
 is_mantissa (at_element s) z p h = absurd cc
 
 -- the sequence whose element is next, with those that are read
@@ -52,29 +53,19 @@ pub record IsSequel (n : Next) (t : Sequel) : Type 0 where
   pub is : n ≡ at_element sequel
   pub same : bare_sequel sequel ≡ t
 
-sequel_in : Sequel → Next → Sequel
-sequel_in t (at_element s) = s
-sequel_in t n = t
-
 pub is_sequel : (n : Next) (t : Sequel) → bare_next n ≡ at_element t → IsSequel n t
-unfolding sequel_in
 is_sequel at_instruction t h = absurd cc
 is_sequel (at_mantissa e p) t h = absurd cc
-is_sequel (at_element s) t h = record { sequel = s; is = refl; same = ap (sequel_in t) h }
+is_sequel (at_element s) t h = record { sequel = s; is = refl; same = cc }
 
 pub record IsElementOf (i : Inside) (t : Sequel) : Type 0 where
   pub sequel : Sequel
   pub is : i ≡ in_sequence sequel
   pub same : bare_sequel sequel ≡ t
 
-inside_sequel : Sequel → Inside → Sequel
-inside_sequel t (in_sequence s) = s
-inside_sequel t in_group = t
-
 pub is_element_of : (i : Inside) (t : Sequel) → bare_inside i ≡ in_sequence t → IsElementOf i t
-unfolding inside_sequel
 is_element_of in_group t h = absurd cc
-is_element_of (in_sequence s) t h = record { sequel = s; is = refl; same = ap (inside_sequel t) h }
+is_element_of (in_sequence s) t h = record { sequel = s; is = refl; same = cc }
 
 pub record IsThere (v : Option Scalar) : Type 0 where
   pub exponent : ℤ
@@ -89,9 +80,6 @@ not_there true v h k = absurd cc
 not_there false v h k = k
 
 -- ---- an element
-
-abbrev part_read : Cursor → Option Scalar → Reads (Option Scalar)
-part_read k v = Ok (v, k)
 
 left_is : (s t : Sequel) → bare_sequel s ≡ t → t.left ≡ s.left
 left_is s t same = sym (ap (λ (x : Sequel). x.left) same)
@@ -112,10 +100,6 @@ around_element us fs bits b is s t h k same =
 
 -- ---- the end of a segment
 
-tail_of : {X : Type 0} → List X → List X
-tail_of [] = []
-tail_of (x ∷ xs) = xs
-
 -- what was received last of the bodies around
 pub record Last (us : List Waiting) (fs : List Waiting) (f : Waiting) : Type 0 where
   pub before : List Waiting
@@ -124,23 +108,15 @@ pub record Last (us : List Waiting) (fs : List Waiting) (f : Waiting) : Type 0 w
   pub rests : map bare before ≡ fs
   pub same : bare last ≡ f
 
-abbrev behind : (u : Waiting) (us fs : List Waiting) (f g : Waiting) → bare u ≡ g → Last us fs f → Last (u ∷ us) (g ∷ fs) f
-behind u us fs f g h l = record { before = u ∷ l.before; last = l.last; is = ap (λ (vs : List Waiting). u ∷ vs) l.is; rests = rw (h, l.rests) refl; same = l.same }
-
-head_or : Waiting → List Waiting → Waiting
-head_or w [] = w
-head_or w (x ∷ xs) = x
-
 pub last_of : (us fs : List Waiting) (f : Waiting) → map bare us ≡ fs ++ f ∷ [] → Last us fs f
-unfolding head_or tail_of
 last_of [] [] f h = absurd cc
 last_of [] (g ∷ fs) f h = absurd cc
-last_of (u ∷ []) [] f h = record { before = []; last = u; is = refl; rests = refl; same = ap (head_or f) h }
-last_of (u ∷ v ∷ us) [] f h = absurd (no_more (ap tail_of h))
-  where
-    no_more : map bare (v ∷ us) ≡ [] → ⊥
-    no_more h = absurd cc
-last_of (u ∷ us) (g ∷ fs) f h = behind u us fs f g (ap (head_or f) h) (last_of us fs f (ap tail_of h))
+last_of (u ∷ []) [] f h = record { before = []; last = u; is = refl; rests = refl; same = cc }
+last_of (u ∷ v ∷ us) [] f h = absurd cc
+last_of (u ∷ us) (g ∷ fs) f h =
+    let one : bare u ≡ g = cc in
+    let l = last_of us fs f cc in
+    record { before = u ∷ l.before; last = l.last; is = ap (λ (vs : List Waiting). u ∷ vs) l.is; rests = rw (one, l.rests) refl; same = l.same }
 
 pub rest_of_last : (us fs : List Waiting) (f : Waiting) (l : Last us fs f) → l.last.body.rest ≡ f.body.rest
 rest_of_last us fs f l = ap (λ (w : Waiting). w.body.rest) l.same
@@ -193,34 +169,18 @@ nothing_ends : (ws : List Waiting) (w : Waiting) → ◌≡◌ {A = List Waiting
 nothing_ends [] w h = absurd cc
 nothing_ends (v ∷ ws) w h = absurd cc
 
-last_at : (fs : List FrameNow) (i : ℕ) (f d : FrameNow) (ws : List Waiting) (w : Waiting) → length fs ≡ suc i → map frame_of fs ≡ ws ++ w ∷ []
-    → (frame_of (slice_index_or fs i d) ≡ w) × (map frame_of (slice_set fs i f) ≡ ws ++ frame_of f ∷ [])
-unfolding head_or tail_of
-last_at [] i f d ws w long h = absurd (nothing_ends ws w h)
-last_at (g ∷ []) zero f d [] w long h = (ap (head_or w) h, refl)
-last_at (g ∷ []) zero f d (v ∷ ws) w long h = absurd (nothing_ends ws w (ap tail_of h))
-last_at (g ∷ []) (suc i) f d ws w long h = absurd (omega (arith, long))
-last_at (g ∷ e ∷ fs) zero f d ws w long h = absurd (omega (arith, long))
-last_at (g ∷ e ∷ fs) (suc i) f d [] w long h = absurd (no_more (ap tail_of h))
-  where
-    no_more : map frame_of (e ∷ fs) ≡ [] → ⊥
-    no_more h = absurd cc
-last_at (g ∷ e ∷ fs) (suc i) f d (v ∷ ws) w long h =
-    let r = last_at (e ∷ fs) i f d ws w (omega (arith, long)) (ap tail_of h) in
-    (r.0, rw (ap (head_or w) h, r.1) refl)
+pub at_last : (fs fore : List FrameNow) (n : ℕ) (f d : FrameNow) → length fs ≡ n → fs ≡ fore ++ f ∷ [] → (slice_index_or fs (n - 1) d ≡ f) × ((g : FrameNow) → slice_set fs (n - 1) g ≡ fore ++ g ∷ [])
+at_last fs fore n f d long h =
+    let many = length-append fore (f ∷ []) in
+    let place : n - 1 ≡ length fore = omega (arith, many, long, ap (λ (xs : List FrameNow). length xs) h) in
+    rw (place, h) (get_or-append_seam fore f [] d, λ g. set-append_seam fore f [] g)
 
-pub last_frame : (fs : List FrameNow) (n : ℕ) (f d : FrameNow) (ws : List Waiting) (w : Waiting) → length fs ≡ n → map frame_of fs ≡ ws ++ w ∷ []
-    → (frame_of (slice_index_or fs (n - 1) d) ≡ w) × (map frame_of (slice_set fs (n - 1) f) ≡ ws ++ frame_of f ∷ [])
-last_frame [] n f d ws w long h = absurd (nothing_ends ws w h)
-last_frame (g ∷ fs) zero f d ws w long h = absurd (omega (arith, long))
-last_frame (g ∷ fs) (suc i) f d ws w long h = let e : suc i - 1 ≡ i = omega arith in rw e (last_at (g ∷ fs) i f d ws w long h)
-
-pub same_sequel : (s t : Sequel) → in_sequence s ≡ in_sequence t → s ≡ t
-unfolding inside_sequel
-same_sequel s t h = ap (inside_sequel t) h
-
-pub no_sequel : (t : Sequel) → in_group ≡ in_sequence t → ⊥
-no_sequel t h = absurd cc
+-- the last of the frames, and those in front of it
+pub split_last : (fs : List FrameNow) (n : ℕ) (f : FrameNow) → length fs ≡ suc n → slice_index_or fs n f ≡ f → fs ≡ take n fs ++ f ∷ []
+split_last [] n f long h = absurd (omega (arith, long))
+split_last (g ∷ []) zero f long h = ap (λ (x : FrameNow). x ∷ []) h
+split_last (g ∷ e ∷ fs) zero f long h = absurd (omega (arith, long))
+split_last (g ∷ fs) (suc n) f long h = ap (λ (xs : List FrameNow). g ∷ xs) (split_last fs n f (omega (arith, long)) h)
 
 -- ---- keys
 
@@ -274,13 +234,17 @@ has_last (u ∷ v ∷ us) some =
     let l = has_last (v ∷ us) (λ e. absurd cc) in
     record { before = u ∷ l.before; last = l.last; is = ap (λ (ws : List Waiting). u ∷ ws) l.is }
 
--- what the last frame is to the body that waits in it
-pub inside_last : (fs : List FrameNow) (n : ℕ) (f : FrameNow) (t : Sequel) (number : ℕ) → length fs ≡ n → (map frame_of fs ≡ [] → ⊥)
-    → ((ws : List Waiting) (w : Waiting) → map frame_of fs ≡ ws ++ w ∷ [] → (w.inside ≡ in_sequence t) × (w.number ≡ number)) → f ≡ slice_index_or fs (n - 1) f → inside_of f.inside ≡ in_sequence t
-inside_last fs n f t number long some last is =
-    let l = has_last (map frame_of fs) some in
-    let at = last_frame fs n f f l.before l.last long l.is in
-    ap (λ (w : Waiting). w.inside) (ap frame_of is ∙ at.0) ∙ (last l.before l.last l.is).0
+pub last_frames : {w : WalkNow} {s : SequelNow} (l : IsLast w s) → map frame_of w.around.items ≡ map frame_of l.fore ++ frame_of l.frame ∷ []
+last_frames l = ap (map frame_of) l.frames ∙ map_push frame_of l.fore l.frame
+
+pub some_frames : {w : WalkNow} {s : SequelNow} (l : IsLast w s) → map frame_of w.around.items ≡ [] → ⊥
+some_frames l none = let e = sym (last_frames l) ∙ none in nothing_ends (map frame_of l.fore) (frame_of l.frame) (sym e)
+
+pub last_is : {w : WalkNow} {s : SequelNow} (l : IsLast w s) (n : ℕ) (f : FrameNow) → length w.around.items ≡ n → f ≡ slice_index_or w.around.items (n - 1) f → f.inside ≡ inside.Element s
+last_is {w} l n f long is = ap (λ (x : FrameNow). x.inside) (is ∙ (at_last w.around.items l.fore n l.frame f long l.frames).0) ∙ l.inside
+
+pub last_inside : {w : WalkNow} {s : SequelNow} (l : IsLast w s) → inside_of l.frame.inside ≡ in_sequence (sequel_of s)
+last_inside l = ap inside_of l.inside
 
 pub no_frame : (fs : List FrameNow) → map frame_of fs ≡ [] → fs ≡ []
 no_frame [] h = refl
@@ -296,12 +260,12 @@ pub record HasNext (us fs : List Waiting) (t : Sequel) : Type 0 where
   pub is : last.last.inside ≡ in_sequence sequel
   pub same : bare_sequel sequel ≡ t
 
-pub has_next : (us fs : List Waiting) (t : Sequel) → map bare us ≡ fs → (fs ≡ [] → ⊥) → ((ws : List Waiting) (w : Waiting) → fs ≡ ws ++ w ∷ [] → (w.inside ≡ in_sequence t) × (w.number ≡ t.number)) → HasNext us fs t
-has_next us fs t h some told =
-    let n = has_last fs some in
-    let l = last_of us n.before n.last (h ∙ n.is) in
-    let e = is_element_of l.last.inside t (inside_of_last us n.before n.last l ∙ (told n.before n.last n.is).0) in
-    record { fore = n.before; frame = n.last; frames = n.is; last = l; sequel = e.sequel; is = e.is; same = e.same }
+abbrev pub has_next : (us : List Waiting) {w : WalkNow} {s : SequelNow} → map bare us ≡ map frame_of w.around.items → IsLast w s → HasNext us (map frame_of w.around.items) (sequel_of s)
+has_next us {w} {s} h last =
+    let fore = map frame_of last.fore in
+    let l = last_of us fore (frame_of last.frame) (h ∙ last_frames last) in
+    let e = is_element_of l.last.inside (sequel_of s) (inside_of_last us fore (frame_of last.frame) l ∙ last_inside last) in
+    record { fore = fore; frame = frame_of last.frame; frames = last_frames last; last = l; sequel = e.sequel; is = e.is; same = e.same }
 
 pub left_last : (fs fore : List Waiting) (f : Waiting) → fs ≡ fore ++ f ∷ [] → left_around fs ≡ left_around fore ++ f.bits ∷ []
 left_last fs fore f h = ap left_around h ∙ map_push (λ (w : Waiting). w.bits) fore f
@@ -316,55 +280,37 @@ module _ (level : Level) where
   top_is : (n : Next) (b : Body) (is : Instructions) (c : Cursor) → n ≡ at_instruction → b.rest ≡ is → top_on level n b c ≡ body_on level (record { rest = is; done = b.done }) c
   top_is n b is c next h = ap (λ (n : Next). top_on level n b c) next ∙ body_is b is c h
 
+  -- its first instruction, and what is behind it
+  pub piece_on : (ws : List Waiting) (n : Next) (b : Body) (i : Instruction) (is : Instructions) (c : Cursor) → n ≡ at_instruction → b.rest ≡ then_instruction i is
+      → all_around level ws (top_on level n b c) ≡ all_around level ws (items_on level is b.done (piece_at level i c))
+  piece_on ws n b i is c next first = ap (all_around level ws) (top_is n b _ c next first ∙ then_on level i is b.done c)
+
   pub field_on : (ws : List Waiting) (n : Next) (b : Body) (name : List ℕ) (number : ℕ) (presence : Presence) (whole : FieldPart) (is : Instructions) (c d e : Cursor) (v : Option Scalar)
       → n ≡ at_instruction → b.rest ≡ then_instruction (whole_field name number presence whole) is → node_at number c ≡ Ok d → field_part_at level whole d ≡ Ok (v, e)
       → all_around level ws (top_on level n b c) ≡ all_around level ws (body_on level (record { rest = is; done = b.done ++ single v ∷ [] }) e)
-  field_on ws n b name number presence whole is c d e v next first h k =
-      ap (λ (r : Reads Items). all_around level ws r) (top_is n b _ c next first ∙ field_goes level name number presence whole is b.done c d e v h k)
+  field_on ws n b name number presence whole is c d e v next first h k = piece_on ws n b _ is c next first ∙ rw (h, k) refl
 
   pub exponent_on : (ws : List Waiting) (n : Next) (b : Body) (name : List ℕ) (number : ℕ) (presence : Presence) (exponent mantissa : FieldPart) (is : Instructions) (c d k : Cursor) (v : Option Scalar) (e : ℤ)
       → n ≡ at_instruction → b.rest ≡ then_instruction (field_in_parts name number presence exponent mantissa) is → v ≡ Some (I32 e) → node_at number c ≡ Ok d → field_part_at level exponent d ≡ Ok (v, k)
       → all_around level ws (top_on level n b c) ≡ all_around level ws (mantissa_on level e mantissa (record { rest = is; done = b.done }) k)
-  exponent_on ws n b name number presence exponent mantissa is c d k v e next first there h m =
-      ap (λ (r : Reads Items). all_around level ws r) (top_is n b _ c next first ∙ exponent_goes level name number presence exponent mantissa is b.done c d k e h (m ∙ ap (part_read k) there))
+  exponent_on ws n b name number presence exponent mantissa is c d k v e next first there h m = piece_on ws n b _ is c next first ∙ rw (h, m, there) refl
 
   pub no_exponent_on : (ws : List Waiting) (n : Next) (b : Body) (name : List ℕ) (number : ℕ) (presence : Presence) (exponent mantissa : FieldPart) (is : Instructions) (c d k : Cursor) (v : Option Scalar)
       → n ≡ at_instruction → b.rest ≡ then_instruction (field_in_parts name number presence exponent mantissa) is → v ≡ None → node_at number c ≡ Ok d → field_part_at level exponent d ≡ Ok (v, k)
       → all_around level ws (top_on level n b c) ≡ all_around level ws (body_on level (record { rest = is; done = b.done ++ single None ∷ [] }) k)
-  no_exponent_on ws n b name number presence exponent mantissa is c d k v next first there h m =
-      ap (λ (r : Reads Items). all_around level ws r) (top_is n b _ c next first ∙ no_exponent_goes level name number presence exponent mantissa is b.done c d k h (m ∙ ap (part_read k) there))
+  no_exponent_on ws n b name number presence exponent mantissa is c d k v next first there h m = piece_on ws n b _ is c next first ∙ rw (h, m, there) refl
 
   pub mantissa_on_goes : (ws : List Waiting) (n : Next) (e m : ℤ) (mantissa : FieldPart) (b : Body) (c k : Cursor) → n ≡ at_mantissa e mantissa → field_part_at level mantissa c ≡ Ok (Some (I64 m), k)
       → all_around level ws (top_on level n b c) ≡ all_around level ws (body_on level (with_item b (single (Some (Decimal e m)))) k)
-  mantissa_on_goes ws n e m mantissa b c k next h =
-      ap (λ (r : Reads Items). all_around level ws r) (ap (λ (n : Next). top_on level n b c) next ∙ mantissa_goes level e m mantissa b c k h)
+  mantissa_on_goes ws n e m mantissa b c k next h = rw (next, h) refl
 
   pub mantissa_on_stops : (ws : List Waiting) (n : Next) (e : ℤ) (mantissa : FieldPart) (b : Body) (c : Cursor) (s : Stop) → n ≡ at_mantissa e mantissa → field_part_at level mantissa c ≡ Err s
       → all_around level ws (top_on level n b c) ≡ Err s
-  mantissa_on_stops ws n e mantissa b c s next h = ap (λ (n : Next). all_around level ws (top_on level n b c)) next ∙ mantissa_stops level ws e mantissa b c s h
-
-  pub length_on : (ws : List Waiting) (n : Next) (b : Body) (name : List ℕ) (number : ℕ) (presence : Presence) (part : FieldPart) (members is : Instructions) (c d k : Cursor) (many : ℕ)
-      → n ≡ at_instruction → b.rest ≡ then_instruction (sequence_of name number presence part members) is → node_at number c ≡ Ok d → field_part_at level part d ≡ Ok (Some (U32 many), k)
-      → all_around level ws (top_on level n b c)
-      ≡ all_around level ws (elements_on level (record { number = number; own_map = has_map members; members = members; left = many; done = [] }) (record { rest = is; done = b.done }) k)
-  length_on ws n b name number presence part members is c d k many next first h m =
-      ap (λ (r : Reads Items). all_around level ws r) (top_is n b _ c next first ∙ length_goes level name number presence part members is b.done c d k many h m)
-
-  pub no_length_on : (ws : List Waiting) (n : Next) (b : Body) (name : List ℕ) (number : ℕ) (presence : Presence) (part : FieldPart) (members is : Instructions) (c d k : Cursor)
-      → n ≡ at_instruction → b.rest ≡ then_instruction (sequence_of name number presence part members) is → node_at number c ≡ Ok d → field_part_at level part d ≡ Ok (None, k)
-      → all_around level ws (top_on level n b c) ≡ all_around level ws (body_on level (record { rest = is; done = b.done ++ single None ∷ [] }) k)
-  no_length_on ws n b name number presence part members is c d k next first h m =
-      ap (λ (r : Reads Items). all_around level ws r) (top_is n b _ c next first ∙ no_length_goes level name number presence part members is b.done c d k h m)
+  mantissa_on_stops ws n e mantissa b c s next h = rw (next, h) (all_around-stops level ws s)
 
   pub piece_stops_on : (ws : List Waiting) (n : Next) (b : Body) (i : Instruction) (is : Instructions) (c : Cursor) (s : Stop)
       → n ≡ at_instruction → b.rest ≡ then_instruction i is → piece_at level i c ≡ Err s → all_around level ws (top_on level n b c) ≡ Err s
-  piece_stops_on ws n b i is c s next first h = ap (λ (r : Reads Items). all_around level ws r) (top_is n b _ c next first) ∙ piece_stops level ws i is b.done c s h
-
-  pub no_group_on : (ws : List Waiting) (n : Next) (b : Body) (name : List ℕ) (number : ℕ) (presence : Presence) (members is : Instructions) (c d : Cursor)
-      → n ≡ at_instruction → b.rest ≡ then_instruction (group_of name number presence members) is → node_at number c ≡ Ok d → bit_for (is_optional presence) d.bits ≡ false
-      → all_around level ws (top_on level n b c) ≡ all_around level ws (body_on level (record { rest = is; done = b.done ++ single None ∷ [] }) (behind_bit (is_optional presence) d))
-  no_group_on ws n b name number presence members is c d next first h k =
-      ap (λ (r : Reads Items). all_around level ws r) (top_is n b _ c next first ∙ no_group_goes level name number presence members is b.done c d h k)
+  piece_stops_on ws n b i is c s next first h = piece_on ws n b i is c next first ∙ rw h (all_around-stops level ws s)
 
   pub group_on : (ws : List Waiting) (n : Next) (b : Body) (name : List ℕ) (number : ℕ) (presence : Presence) (members is : Instructions) (c d e : Cursor)
       → n ≡ at_instruction → b.rest ≡ then_instruction (group_of name number presence members) is → node_at number c ≡ Ok d → bit_for (is_optional presence) d.bits ≡ true
@@ -372,7 +318,7 @@ module _ (level : Level) where
       → all_around level ws (top_on level n b c)
       ≡ all_around level (ws ++ record { bits = after_bit (is_optional presence) d.bits; number = number; body = record { rest = is; done = b.done }; inside = in_group } ∷ []) (body_on level (record { rest = members; done = [] }) e)
   group_on ws n b name number presence members is c d e next first h k m =
-      ap (λ (r : Reads Items). all_around level ws r) (top_is n b _ c next first) ∙ group_goes level name number presence members is b.done ws c d e h k m
+      piece_on ws n b _ is c next first ∙ ap (all_around level ws) (rw (h, k) (group_around_on level number members is b.done (behind_bit (is_optional presence) d) e m)) ∙ sym (all_around-more level ws _ _)
 
   map_is : (s t : Sequel) (c : Cursor) (r : Result Cursor Stop) → bare_sequel s ≡ t → own_map_at level t.number t.own_map c ≡ r → own_map_at level s.number s.own_map c ≡ r
   map_is s t c r same h = ap (λ (x : Sequel). own_map_at level x.number x.own_map c) same ∙ h
@@ -380,15 +326,16 @@ module _ (level : Level) where
   pub element_on : (ws : List Waiting) (n : Next) (b : Body) (s t : Sequel) (c d e : Cursor) → n ≡ at_element s → bare_sequel s ≡ t → 0 < t.left → node_at t.number c ≡ Ok d → own_map_at level t.number t.own_map d ≡ Ok e
       → all_around level ws (top_on level n b c) ≡ all_around level (ws ++ record { bits = d.bits; number = s.number; body = b; inside = in_sequence (fewer s) } ∷ []) (body_on level (record { rest = s.members; done = [] }) e)
   element_on ws n b s t c d e next same some h k =
-      ap (λ (n : Next). all_around level ws (top_on level n b c)) next ∙ element_goes level s b ws c d e (some_is s t same some) (node_is s t c (Ok d) same h) (map_is s t d (Ok e) same k)
+      ap (λ (n : Next). all_around level ws (top_on level n b c)) next
+      ∙ ap (all_around level ws) (some_left level s b c (some_is s t same some) ∙ element_around_on level s.number s.own_map s.members (s.left - 1) s.done b c d e (node_is s t c (Ok d) same h) (map_is s t d (Ok e) same k))
+      ∙ sym (all_around-more level ws _ _)
 
   pub no_node_on : (ws : List Waiting) (n : Next) (b : Body) (s t : Sequel) (c : Cursor) (f : Stop) → n ≡ at_element s → bare_sequel s ≡ t → 0 < t.left → node_at t.number c ≡ Err f → all_around level ws (top_on level n b c) ≡ Err f
-  no_node_on ws n b s t c f next same some h = ap (λ (n : Next). all_around level ws (top_on level n b c)) next ∙ no_node_stops level s b ws c f (some_is s t same some) (node_is s t c (Err f) same h)
+  no_node_on ws n b s t c f next same some h = rw (next, some_left level s b c (some_is s t same some), node_is s t c (Err f) same h) (all_around-stops level ws f)
 
   pub no_map_on : (ws : List Waiting) (n : Next) (b : Body) (s t : Sequel) (c d : Cursor) (f : Stop) → n ≡ at_element s → bare_sequel s ≡ t → 0 < t.left → node_at t.number c ≡ Ok d → own_map_at level t.number t.own_map d ≡ Err f
       → all_around level ws (top_on level n b c) ≡ Err f
-  no_map_on ws n b s t c d f next same some h k =
-      ap (λ (n : Next). all_around level ws (top_on level n b c)) next ∙ no_map_stops level s b ws c d f (some_is s t same some) (node_is s t c (Ok d) same h) (map_is s t d (Err f) same k)
+  no_map_on ws n b s t c d f next same some h k = rw (next, some_left level s b c (some_is s t same some), node_is s t c (Ok d) same h, map_is s t d (Err f) same k) (all_around-stops level ws f)
 
   pub no_more_on : (ws : List Waiting) (n : Next) (b : Body) (s : Sequel) (c : Cursor) → n ≡ at_element s → s.left ≡ 0
       → all_around level ws (top_on level n b c) ≡ all_around level ws (body_on level (with_item b (sequence_elements (elements_of s.done))) c)
@@ -442,36 +389,14 @@ module _ (level : Level) where
       ap (all_around level o.around) (top_is o.next o.body no_instructions c next rest ∙ whole_goes level o.body.done c)
       ∙ end_stops level o.around l.before l.last number _ _ l.is numbered (set_stops level number (items_of o.body.done) c strict left)
 
-  -- ---- the next element of a sequence
-
-  -- behind the element that is open the sequence goes on
-  sequel_on : (o : Received) (fs : List Waiting) (t : Sequel) (n : HasNext o.around fs t) (c : Cursor) → IsLeftClear level c.bits → o.next ≡ at_instruction → o.body.rest ≡ no_instructions
+  -- behind the element that is open its sequence goes on
+  pub sequel_on : (o : Received) (fs : List Waiting) (t : Sequel) (n : HasNext o.around fs t) (c : Cursor) → IsLeftClear level c.bits → o.next ≡ at_instruction → o.body.rest ≡ no_instructions
       → all_around level o.around (top_on level o.next o.body c)
       ≡ all_around level n.last.before (top_on level (at_element (with_element n.sequel (items_of o.body.done))) n.last.last.body (under_bits n.frame.bits c))
   sequel_on o fs t n c clear next rest =
       end_on o n.fore n.fore n.frame n.last c clear next rest
       ∙ ap (λ (i : Inside). all_around level (ended_in o n.last.before n.last.last.body i).around
       (top_on level (ended_in o n.last.before n.last.last.body i).next (ended_in o n.last.before n.last.last.body i).body (under_bits n.frame.bits c))) n.is
-
-  pub next_on : (o : Received) (fs : List Waiting) (t : Sequel) (n : HasNext o.around fs t) (c d e : Cursor) → IsLeftClear level c.bits → o.next ≡ at_instruction → o.body.rest ≡ no_instructions → 0 < t.left
-      → node_at t.number (under_bits n.frame.bits c) ≡ Ok d → own_map_at level t.number t.own_map d ≡ Ok e
-      → all_around level o.around (top_on level o.next o.body c)
-      ≡ all_around level (in_next o d.bits n.last.before n.last.last.body n.sequel).around (body_on level (record { rest = n.sequel.members; done = [] }) e)
-  next_on o fs t n c d e clear next rest some h k =
-      sequel_on o fs t n c clear next rest
-      ∙ element_on n.last.before (at_element (with_element n.sequel (items_of o.body.done))) n.last.last.body (with_element n.sequel (items_of o.body.done)) t (under_bits n.frame.bits c) d e refl n.same some h k
-
-  pub no_next_node_on : (o : Received) (fs : List Waiting) (t : Sequel) (n : HasNext o.around fs t) (c : Cursor) (f : Stop) → IsLeftClear level c.bits → o.next ≡ at_instruction → o.body.rest ≡ no_instructions → 0 < t.left
-      → node_at t.number (under_bits n.frame.bits c) ≡ Err f → all_around level o.around (top_on level o.next o.body c) ≡ Err f
-  no_next_node_on o fs t n c f clear next rest some h =
-      sequel_on o fs t n c clear next rest
-      ∙ no_node_on n.last.before (at_element (with_element n.sequel (items_of o.body.done))) n.last.last.body (with_element n.sequel (items_of o.body.done)) t (under_bits n.frame.bits c) f refl n.same some h
-
-  pub no_next_map_on : (o : Received) (fs : List Waiting) (t : Sequel) (n : HasNext o.around fs t) (c d : Cursor) (f : Stop) → IsLeftClear level c.bits → o.next ≡ at_instruction → o.body.rest ≡ no_instructions → 0 < t.left
-      → node_at t.number (under_bits n.frame.bits c) ≡ Ok d → own_map_at level t.number t.own_map d ≡ Err f → all_around level o.around (top_on level o.next o.body c) ≡ Err f
-  no_next_map_on o fs t n c d f clear next rest some h k =
-      sequel_on o fs t n c clear next rest
-      ∙ no_map_on n.last.before (at_element (with_element n.sequel (items_of o.body.done))) n.last.last.body (with_element n.sequel (items_of o.body.done)) t (under_bits n.frame.bits c) d f refl n.same some h k
 
   -- the end of the message's own body
   pub all_read : (us : List Waiting) (n : Next) (b : Body) (c : Cursor) → us ≡ [] → n ≡ at_instruction → b.rest ≡ no_instructions → all_around level us (top_on level n b c) ≡ Ok (items_of b.done, c)

@@ -1,5 +1,5 @@
 -- How many bytes more a piece lacks at least that has begun.
-use Rattle.std.specs.Prelude.{◌≡◌, ◌≤◌, ◌<◌, ℕ, Bool, true, false, List, [], ◌++◌, length, Result, Ok, Err, ◌⊎◌, pos}
+use Rattle.std.specs.Prelude.{◌≡◌, ◌≤◌, ◌<◌, ◌+◌, ℕ, Bool, true, false, List, [], ◌++◌, length, Result, Ok, Err, ◌⊎◌, pos}
 use Rattle.std.specs.List.{AllByRecursion}
 use Rattle.fast_wire.specs.Reading.{◌>>=◌, entity_at, unsigned_at, unsigned_nullable_at}
 use Rattle.fast_wire.specs.declared.fault.WireFault.{WireFault}
@@ -13,7 +13,10 @@ use Rattle.fast_value.specs.declared.kind.Presence.{Presence}
 use Rattle.fast_value.specs.declared.kind.Presence.TheVariants.{Mandatory, Optional}
 use Rattle.fast_template.specs.declared.resolved.FieldPart.{FieldPart}
 use Rattle.fast_template.specs.Resolved.{Instructions, list_of, then_instruction, whole_field, field_in_parts, sequence_of}
+use Rattle.fast_dictionary.specs.declared.entry.Entry.{Entry}
 use Rattle.fast_dictionary.specs.Dictionary.{Dictionary}
+use Rattle.fast_field.specs.FieldReading.{field_at}
+use Rattle.fast_field.specs.declared.fault.FieldFault.TheVariants.{NeedMore}
 use Rattle.fast_stream.specs.declared.fault.Cause.TheVariants.{Truncated}
 use Rattle.fast_stream.specs.Reading.{Reads, stopped}
 use Rattle.fast_wire.specs.declared.level.Level.{Level}
@@ -43,6 +46,10 @@ Wants read want bytes l = (more : List ℕ) → IsLacking l more → read (bytes
 abbrev pub WantsBehind : {A E : Type 0} → (List ℕ → Result A E) → E → List ℕ → Lack → Type 0
 WantsBehind read want bytes l = (entity rest : List ℕ) × (entity_at 10 bytes ≡ Ok (entity, rest)) × Wants read want rest l
 
+-- the same of a field that waits, whatever its entry is
+abbrev pub LacksWaiting : Level → FieldPart → Bool → List ℕ → Lack → Type 0
+LacksWaiting level p bit bytes l = (e : Entry) → field_at level p e bit bytes ≡ Err NeedMore → Wants (field_at level p e bit) NeedMore bytes l
+
 -- whether something of a field stands in the stream under this bit
 abbrev pub sends : Operator → Bool → Bool
 sends operator.Plain bit = true
@@ -65,26 +72,28 @@ sends_two operator.Increment bit = false
 sends_two operator.Tail bit = false
 sends_two o bit = sends o bit
 
--- the most bytes of the entity that what stands whole begins with
-abbrev pub whole_limit : Kind → ℕ
-whole_limit kind.Ascii = 65540
-whole_limit k = 10
+-- the most bytes of the entity that what stands in the stream begins with, in front of its last
+abbrev pub whole_most : Kind → ℕ
+whole_most kind.Ascii = 65539
+whole_most k = 9
 
--- the most bytes of the entity that what stands in the stream begins with
+abbrev pub first_most : Operator → Kind → ℕ
+first_most operator.Delta k = 9
+first_most o k = whole_most k
+
+abbrev pub whole_limit : Kind → ℕ
+whole_limit k = whole_most k + 1
+
 abbrev pub first_limit : Operator → Kind → ℕ
-first_limit operator.Delta k = 10
-first_limit o k = whole_limit k
+first_limit o k = first_most o k + 1
 
 -- a kind that is spelled by a vector
 abbrev pub IsVectorKind : Kind → Type 0
-IsVectorKind kind.Unicode = Unit {0}
-IsVectorKind kind.Bytes = Unit {0}
-IsVectorKind k = ⊥
+IsVectorKind k = (k ≡ kind.Unicode) ⊎ (k ≡ kind.Bytes)
 
 -- a kind of characters or bytes
 abbrev pub IsUnitKind : Kind → Type 0
-IsUnitKind kind.Ascii = Unit {0}
-IsUnitKind k = IsVectorKind k
+IsUnitKind k = (k ≡ kind.Ascii) ⊎ IsVectorKind k
 
 -- the length of a vector
 abbrev pub count_at : Presence → List ℕ → Result (Nullable ℕ × List ℕ) WireFault

@@ -1,12 +1,13 @@
 -- What stands where a walk has taken a piece, and where it has stopped at one.
-use Rattle.std.specs.Prelude.{◌≡◌, ℕ, Bool, List}
+use Rattle.std.specs.Prelude.{◌≡◌, ◌≢◌, ◌≤◌, ◌<◌, ℕ, Bool, List, Result, Ok, Err, drop, length}
 use Rattle.fast_value.specs.declared.key.Key.{Key}
 use Rattle.fast_dictionary.specs.Dictionary.{Dictionary}
 use Rattle.fast_wire.specs.declared.level.Level.{Level}
+use Rattle.fast_stream.specs.declared.fault.Cause.TheVariants.{Memory}
 use Rattle.fast_walk.specs.Received.{CarriesOpen, Having}
 use Rattle.fast_walk.specs.Room.{HasRoom}
 use Rattle.fast_walk.specs.Told.{KeepScalars}
-use Rattle.fast_walk.specs.Walks.{HaltsAs, IsReady, Moves}
+use Rattle.fast_walk.specs.Walks.{HaltsAs, IsReady, Moves, rank_of}
 use Rattle.fast_walk.specs.declared.halt.Halt.{Halt}
 use Rattle.fast_walk.specs.declared.walk.Walk.{Walk as WalkNow}
 
@@ -24,6 +25,23 @@ pub record Stops {R : Type 0} (level : Level) (Has : Having R) (Room : R → Lis
   pub entries : e ≡ d
   pub has : CarriesOpen (Has r) (Has s)
   pub room : HasRoom (Room s) v
+
+-- From one place of the bytes the walk has come to another: reading has gone on, and can go on from there.
+pub record Reaches {R : Type 0} (level : Level) (Has : Having R) (Room : R → List (List Bool) → List Bool → Bool) (serves : Key → Bool)
+    (w : WalkNow) (r : R) (d : Dictionary) (v : WalkNow) (s : R) (e : Dictionary) (bytes : List ℕ) (at next : ℕ) : Type 0 where
+  pub from : at ≤ next
+  pub within : next ≤ length bytes
+  pub goes : Moves level Has w r d v s e (drop at bytes) (drop next bytes)
+  pub on : CanWalk serves e (Room s) v
+
+-- what a call for a piece answers: the place behind it, or where reading stops
+abbrev pub IsTaken : {R : Type 0} → Level → Having R → (R → List (List Bool) → List Bool → Bool) → (Key → Bool) → WalkNow → R → Dictionary → WalkNow → R → Dictionary → List ℕ → ℕ → Result ℕ Halt → Type 0
+IsTaken level Has Room serves w r d v s e bytes at (Ok n) = Reaches level Has Room serves w r d v s e bytes at n × (rank_of v < rank_of w)
+IsTaken level Has Room serves w r d v s e bytes at (Err h) = h.cause ≢ Memory → Stops level Has Room w r d v s e (drop at bytes) h
+
+-- the same of a call that puts no entry
+abbrev pub IsTakenWith : {R : Type 0} → Level → Having R → (R → List (List Bool) → List Bool → Bool) → WalkNow → R → WalkNow → R → List ℕ → ℕ → Result ℕ Halt → Type 0
+IsTakenWith level Has Room w r v s bytes at result = (serves : Key → Bool) (d : Dictionary) → CanWalk serves d (Room r) w → IsTaken level Has Room serves w r d v s d bytes at result
 
 -- Reading has gone on from these bytes to the rest, stops there, and can go on from there.
 pub record Holds {R : Type 0} (level : Level) (Has : Having R) (Room : R → List (List Bool) → List Bool → Bool) (serves : Key → Bool)

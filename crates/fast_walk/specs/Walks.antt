@@ -1,5 +1,5 @@
 -- How a walk through a message's open segments stands to what was received.
-use Rattle.std.specs.Prelude.{◌≡◌, ℕ, ◌+◌, ◌*◌, pos, Bool, List, [], ◌∷◌, ◌++◌, map, length, IsTrue}
+use Rattle.std.specs.Prelude.{◌≡◌, ℕ, ◌+◌, ◌-◌, ◌*◌, pos, Bool, List, [], ◌∷◌, ◌++◌, map, length, IsTrue}
 use Rattle.fast_value.specs.declared.key.Key.{Key}
 use Rattle.fast_value.specs.declared.kind.Kind.{Kind}
 use Rattle.fast_value.specs.declared.kind.Kind.TheVariants as kind
@@ -11,6 +11,7 @@ use Rattle.fast_template.specs.declared.resolved.FieldPart.{FieldPart}
 use Rattle.fast_template.specs.Resolved.{Instruction, Instructions, whole_field, field_in_parts, group_of, sequence_of, no_instructions, then_instruction, list_of}
 use Rattle.fast_dictionary.specs.Dictionary.{Dictionary}
 use Rattle.fast_wire.specs.declared.level.Level.{Level}
+use Rattle.fast_stream.specs.Bits.{after_bit}
 use Rattle.fast_stream.specs.Nodes.{Items}
 use Rattle.fast_stream.specs.Reading.{Reads, stopped}
 use Rattle.fast_walk.specs.OpenSegments.{Sequel, Inside, in_group, in_sequence, Waiting, Next, at_instruction, at_mantissa, at_element, all_around, top_on, cursor}
@@ -133,10 +134,6 @@ pub record IsReady (serves : Key → Bool) (w : WalkNow) : Type 0 where
   pub rest : AreServed serves (list_of w.rest.now)
   pub around : AreAllServed serves (map frame_of w.around.items)
 
--- What was served still is.
-abbrev pub StaysServed : WalkNow → WalkNow → Type 0
-StaysServed w v = (serves : Key → Bool) → IsReady serves w → IsReady serves v
-
 -- ---- the end
 
 -- Each piece makes this less.
@@ -155,11 +152,38 @@ IsInside w = w.next ≡ next.Instruction → w.around.items ≡ [] → w.rest.no
 abbrev pub IsWhole : WalkNow → Type 0
 IsWhole w = (w.next ≡ next.Instruction) × (w.around.items ≡ []) × (w.rest.now ≡ [])
 
+-- ---- pieces
+
+-- This instruction is next, with those behind it.
+pub record Begins (w : WalkNow) (i : Instruction) (is : Instructions) : Type 0 where
+  pub next : w.next ≡ next.Instruction
+  pub first : list_of w.rest.now ≡ then_instruction i is
+
+-- behind the first part of an instruction: a node is counted, and its bit taken
+pub record IsBehind (w v : WalkNow) (needs : Bool) (n : NextNow) (is : Instructions) : Type 0 where
+  pub bits : v.bits ≡ after_bit needs w.bits
+  pub spare : v.spare ≡ w.spare - 1
+  pub next : v.next ≡ n
+  pub rest : list_of v.rest.now ≡ is
+  pub around : v.around.items ≡ w.around.items
+
+-- in a segment inside the one that was open, with a map of its own: its node is counted
+pub record IsOpened (frames : List FrameNow) (outer : List Bool) (left number : ℕ) (members is : Instructions) (i : Inside) (own : List Bool) (v : WalkNow) : Type 0 where
+  pub bits : v.bits ≡ own
+  pub spare : v.spare ≡ left - 1
+  pub next : v.next ≡ next.Instruction
+  pub rest : list_of v.rest.now ≡ members
+  pub around : map frame_of v.around.items ≡ map frame_of frames ++ record { bits = outer; number = number; body = record { rest = is; done = [] }; inside = i } ∷ []
+  pub depth : length v.around.items ≡ length frames + 1
+
 -- ---- elements
 
 abbrev pub IsElement : NextNow → SequelNow → Type 0
 IsElement n s = n ≡ next.Element s
 
--- The innermost segment is an element of this sequence.
-abbrev pub IsLast : WalkNow → SequelNow → Type 0
-IsLast w s = (ws : List Waiting) (f : Waiting) → map frame_of w.around.items ≡ ws ++ f ∷ [] → (f.inside ≡ in_sequence (sequel_of s)) × (f.number ≡ s.number)
+-- The innermost segment is an element of this sequence, which the last frame waits for.
+pub record IsLast (w : WalkNow) (s : SequelNow) : Type 0 where
+  pub fore : List FrameNow
+  pub frame : FrameNow
+  pub frames : w.around.items ≡ fore ++ frame ∷ []
+  pub inside : frame.inside ≡ inside.Element s

@@ -4,17 +4,17 @@
 //! Asked of instructions: of the entity that one begins with, and of a vector behind its length. What else there is, is
 //! read again.
 
-ghost use Rattle.std.specs.Prelude.{◌≡◌, ◌≤◌, ◌<◌, ◌+◌, ◌++◌, [], ℕ, true, false, List, IfSome, IsTrue, Err, Ok, length, drop};
+ghost use Rattle.std.specs.Prelude.{◌≡◌, ◌≤◌, ◌<◌, ◌+◌, ◌++◌, [], ℕ, Bool, true, false, List, IfSome, IsTrue, Err, Ok, length, drop};
 ghost use Rattle.fast_wire.specs.Level.{judge, overlong_unsigned as overlong_unsigned_of};
+ghost use Rattle.fast_wire.specs.declared.level.Level.{Level as LevelOf};
 ghost use Rattle.fast_wire.specs.declared.nullable.Nullable.TheVariants.{Value};
-ghost use Rattle.fast_template.specs.Resolved.{list_of, part_needs_bit as part_needs_bit_of};
+ghost use Rattle.fast_template.specs.Resolved.{part_needs_bit as part_needs_bit_of};
 ghost use Rattle.fast_stream.specs.Bits.{bit_for};
 ghost use Rattle.fast_dictionary.specs.declared.entry.Entry.{Entry};
 ghost use Rattle.fast_dictionary.specs.Dictionary.{Dictionary, entry_of};
-ghost use Rattle.fast_wire.specs.Reading.{entity_at};
 ghost use Rattle.fast_field.specs.Faults.{field_fault};
 ghost use Rattle.fast_field.specs.FieldReading.{field_at, part_at, units_at};
-ghost use Rattle.fast_walk.specs.Lacks.{AreUnstopped, IsFirst, IsNextPart, IsUnitKind, IsVectorKind, Lacks, WalkLacks, Wants, WantsBehind, WantsByte, count_at, first_limit as first_limit_of, sends, sends_two as sends_two_of, sends_units as sends_units_of};
+ghost use Rattle.fast_walk.specs.Lacks.{AreUnstopped, IsNextPart, IsVectorKind, Lacks, LacksWaiting, WalkLacks, Wants, WantsBehind, WantsByte, count_at, first_limit as first_limit_of, sends, sends_two as sends_two_of, sends_units as sends_units_of};
 
 use crate::bits::first_for;
 use crate::traversal::{Stage, Traversal};
@@ -23,7 +23,7 @@ use fast_dictionary::{Entries, EntryRef};
 use fast_field::{FieldFault, find_field};
 use fast_template::{FieldPart, Flat, Kind, Operator, Presence, part_needs_bit};
 use fast_wire::{
-    Bits, Level, Nullable, WireFault, entity_end, find_stop, overlong_unsigned, read_unsigned,
+    Bits, Level, Nullable, entity_end, find_stop, overlong_unsigned, read_unsigned,
     read_unsigned_nullable,
 };
 use std::alloc::Global;
@@ -214,7 +214,7 @@ fn rest_lack(level: Level, part: &FieldPart, bit: bool, bytes: &[u8]) -> Option<
 // What characters lack that stand behind a removal.
 #[inline(always)]
 fn new_text_lack(number: u32, bytes: &[u8]) -> Option<Lack>
-    ensures lacks { IfSome result (WantsBehind (entity_at 65540) WireFault.NeedMore bytes.now) }
+    ensures lacks { (level : LevelOf) → IfSome result (WantsBehind (part_at level Kind.Ascii) FieldFault.NeedMore bytes.now) }
     ensures number { IfSome result (λ l. l.number ≡ number) }
 {
     match entity_end(bytes, 0, NUMBER_LIMIT) {
@@ -244,8 +244,7 @@ fn new_vector_lack(level: Level, number: u32, kind: Kind, bytes: &[u8]) -> Optio
 // What the new part of a string or a vector lacks of which the removal has come.
 #[inline(always)]
 fn new_part_lack(level: Level, part: &FieldPart, bytes: &[u8]) -> Option<Lack>
-    ensures delta { IfSome result (λ l. (part.now.operator ≡ Operator.Delta) × IsUnitKind part.now.kind) }
-    ensures lacks { IfSome result (WantsBehind (part_at level part.now.kind) FieldFault.NeedMore bytes.now) }
+    ensures lacks { (bit : Bool) → IfSome result (LacksWaiting level part.now bit bytes.now) }
     ensures number { IfSome result (λ l. l.number ≡ part.now.number) }
 {
     match part.operator {
@@ -272,8 +271,7 @@ fn sends_two(operator: Operator, bit: bool) -> bool
 // What the mantissa of a decimal in one piece lacks, of which the exponent has come, or their differences.
 #[inline(always)]
 fn mantissa_lack(part: &FieldPart, bit: bool, bytes: &[u8]) -> Option<Lack>
-    ensures decimal { IfSome result (λ l. (sends_two_of part.now.operator bit ≡ true) × (part.now.kind ≡ Kind.Decimal)) }
-    ensures lacks { IfSome result (WantsBehind (entity_at 10) WireFault.NeedMore bytes.now) }
+    ensures lacks { (level : LevelOf) → IfSome result (LacksWaiting level part.now bit bytes.now) }
     ensures number { IfSome result (λ l. l.number ≡ part.now.number) }
 {
     match part.kind {
@@ -287,76 +285,31 @@ fn mantissa_lack(part: &FieldPart, bit: bool, bytes: &[u8]) -> Option<Lack>
     }
 }
 
-// Whether these bytes are too few for a field of this entry.
+// What is lacking where the field waits, and not at a fault in front of it.
 #[inline(always)]
-fn is_waiting(
+fn if_waiting(
+    lack: Option<Lack>,
     alloc: Global,
     level: Level,
     part: &FieldPart,
     kept: EntryRef,
     bit: bool,
     bytes: &[u8],
-) -> bool
-    ensures { result ≡ true → field_at level part.now (entry_of kept.entry) bit bytes.now ≡ Err FieldFault.NeedMore }
+) -> Option<Lack>
+    requires lacks { IfSome lack (LacksWaiting level part.now bit bytes.now) }
+    requires number { IfSome lack (λ l. l.number ≡ part.now.number) }
+    ensures lacks { IfSome result (Wants (field_at level part.now (entry_of kept.entry) bit) FieldFault.NeedMore bytes.now) }
+    ensures number { IfSome result (λ l. l.number ≡ part.now.number) }
 {
+    let Some(lack) = lack else {
+        return None;
+    };
     match find_field(alloc, part, kept, bit, level, bytes, 0) {
-        Ok(_) => false,
+        Ok(_) => None,
         Err(fault) => match fault {
-            FieldFault::NeedMore => true,
-            _ => false,
+            FieldFault::NeedMore => Some(lack),
+            _ => None,
         },
-    }
-}
-
-// What the mantissa of a decimal lacks whose exponent has come, or of a delta of one, where the field waits, and not at a
-// fault in front of it.
-#[inline(always)]
-fn decimal_lack(
-    alloc: Global,
-    level: Level,
-    part: &FieldPart,
-    kept: EntryRef,
-    bit: bool,
-    bytes: &[u8],
-) -> Option<Lack>
-    ensures lacks { IfSome result (Wants (field_at level part.now (entry_of kept.entry) bit) FieldFault.NeedMore bytes.now) }
-    ensures number { IfSome result (λ l. l.number ≡ part.now.number) }
-{
-    match mantissa_lack(part, bit, bytes) {
-        None => None,
-        Some(lack) => {
-            if is_waiting(alloc, level, part, kept, bit, bytes) {
-                Some(lack)
-            } else {
-                None
-            }
-        }
-    }
-}
-
-// What the new part of a string or a vector lacks of which the removal has come, where the field waits, and not at a fault
-// of the entry.
-#[inline(always)]
-fn unit_delta_lack(
-    alloc: Global,
-    level: Level,
-    part: &FieldPart,
-    kept: EntryRef,
-    bit: bool,
-    bytes: &[u8],
-) -> Option<Lack>
-    ensures lacks { IfSome result (Wants (field_at level part.now (entry_of kept.entry) bit) FieldFault.NeedMore bytes.now) }
-    ensures number { IfSome result (λ l. l.number ≡ part.now.number) }
-{
-    match new_part_lack(level, part, bytes) {
-        None => None,
-        Some(lack) => {
-            if is_waiting(alloc, level, part, kept, bit, bytes) {
-                Some(lack)
-            } else {
-                None
-            }
-        }
     }
 }
 
@@ -374,8 +327,24 @@ fn delta_lack(
     ensures number { IfSome result (λ l. l.number ≡ part.now.number) }
 {
     match part.kind {
-        Kind::Decimal => decimal_lack(alloc, level, part, kept, bit, bytes),
-        _ => unit_delta_lack(alloc, level, part, kept, bit, bytes),
+        Kind::Decimal => if_waiting(
+            mantissa_lack(part, bit, bytes),
+            alloc,
+            level,
+            part,
+            kept,
+            bit,
+            bytes,
+        ),
+        _ => if_waiting(
+            new_part_lack(level, part, bytes),
+            alloc,
+            level,
+            part,
+            kept,
+            bit,
+            bytes,
+        ),
     }
 }
 
@@ -394,8 +363,24 @@ fn second_lack(
     // (the operators that are met most often are looked at one by one)
     match part.operator {
         Operator::Delta => match part.kind {
-            Kind::Ascii => unit_delta_lack(alloc, level, part, kept, bit, bytes),
-            Kind::Decimal => decimal_lack(alloc, level, part, kept, bit, bytes),
+            Kind::Ascii => if_waiting(
+                new_part_lack(level, part, bytes),
+                alloc,
+                level,
+                part,
+                kept,
+                bit,
+                bytes,
+            ),
+            Kind::Decimal => if_waiting(
+                mantissa_lack(part, bit, bytes),
+                alloc,
+                level,
+                part,
+                kept,
+                bit,
+                bytes,
+            ),
             _ => None,
         },
         _ => delta_lack(alloc, level, part, kept, bit, bytes),
@@ -439,9 +424,7 @@ impl<'a> Walk<'a> {
         part: &FieldPart,
         bytes: &[u8],
     ) -> Option<Lack>
-        requires spare { 0 < self.now.spare }
-        requires next { self.now.next ≡ Next.Instruction }
-        requires first { IsFirst part.now (list_of self.now.rest.now) }
+        requires next { IsNextPart self.now part.now }
         requires served { IsTrue (E.serves entries.now part.now.key) }
         ensures { IfSome result (WalkLacks level self.now (E.contents entries.now) bytes.now) }
     {
@@ -461,9 +444,7 @@ impl<'a> Walk<'a> {
         part: &FieldPart,
         bytes: &[u8],
     ) -> Option<Lack>
-        requires spare { 0 < self.now.spare }
-        requires next { self.now.next ≡ Next.Instruction }
-        requires first { IsFirst part.now (list_of self.now.rest.now) }
+        requires next { IsNextPart self.now part.now }
         requires served { IsTrue (E.serves entries.now part.now.key) }
         ensures { IfSome result (WalkLacks level self.now (E.contents entries.now) bytes.now) }
     {
@@ -488,32 +469,12 @@ impl<'a> Walk<'a> {
         requires ready { IsReady (E.serves entries.now) self.now }
         ensures { IfSome result (WalkLacks level self.now (E.contents entries.now) bytes.now) }
     {
-        match self.next {
-            Next::Instruction if self.spare > 0 => match self.rest.split_first() {
-                Some((flat, _)) => match flat {
-                    Flat::Field { whole: part, .. } if is_of_two(part.operator, part.kind) => {
-                        self.lack_behind_first(alloc, level, entries, part, bytes)
-                    }
-                    _ => None,
-                },
-                None => None,
-            },
+        match self.next_part() {
+            Some(part) if is_of_two(part.operator, part.kind) => {
+                self.lack_behind_first(alloc, level, entries, part, bytes)
+            }
             _ => None,
         }
-    }
-
-    // What the mantissa lacks that is next.
-    fn mantissa_next_lack(
-        &self,
-        level: Level,
-        mantissa: &'a FieldPart,
-        bytes: &[u8],
-    ) -> Option<Lack>
-        requires next { self.now.next ≡ Next.Mantissa mantissa }
-        ensures { IfSome result (λ l. (d : Dictionary) → WalkLacks level self.now d bytes.now l) }
-    {
-        let bit = first_for(&self.bits, part_needs_bit(mantissa));
-        field_lack(level, mantissa, bit, bytes)
     }
 
     // What the piece that is next lacks, of which these bytes have come.
@@ -527,20 +488,9 @@ impl<'a> Walk<'a> {
         requires ready { IsReady (E.serves entries.now) self.now }
         ensures { IfSome result (WalkLacks level self.now (E.contents entries.now) bytes.now) }
     {
-        match self.next {
-            Next::Instruction if self.spare > 0 => match self.rest.split_first() {
-                Some((flat, _)) => match flat {
-                    Flat::Field { whole: part, .. }
-                    | Flat::Parts { exponent: part, .. }
-                    | Flat::Sequence { length: part, .. } => {
-                        self.first_lack(alloc, level, entries, part, bytes)
-                    }
-                    Flat::Group { .. } => None,
-                },
-                None => None,
-            },
-            Next::Mantissa(mantissa) => self.mantissa_next_lack(level, mantissa, bytes),
-            Next::Instruction | Next::Element(_) => None,
+        match self.next_part() {
+            None => None,
+            Some(part) => self.first_lack(alloc, level, entries, part, bytes),
         }
     }
 
@@ -564,52 +514,20 @@ impl<'a> Walk<'a> {
         }
     }
 
-    // The number of the part that is next, where something of it stands in the stream.
-    #[inline(always)]
-    fn first_sent(&self, part: &FieldPart) -> Option<u32>
-        requires spare { 0 < self.now.spare }
-        requires next { self.now.next ≡ Next.Instruction }
-        requires first { IsFirst part.now (list_of self.now.rest.now) }
-        ensures { IfSome result (WantsByte self.now) }
-    {
-        if is_part_sent(&self.bits, part) {
-            Some(part.number)
-        } else {
-            None
-        }
-    }
-
-    // The same of the mantissa that is next.
-    #[inline(always)]
-    fn mantissa_sent(&self, mantissa: &'a FieldPart) -> Option<u32>
-        requires next { self.now.next ≡ Next.Mantissa mantissa }
-        ensures { IfSome result (WantsByte self.now) }
-    {
-        if is_part_sent(&self.bits, mantissa) {
-            Some(mantissa.number)
-        } else {
-            None
-        }
-    }
-
     /// The number of the piece that is next, where it is a field that begins with a byte, so that without one nothing
     /// of it need be tried.
+    #[tactic(auto, using(crate::proofs::Lacking::next_wants))]
     #[inline(always)]
     pub(crate) fn wants_byte(&self) -> Option<u32>
         ensures { IfSome result (WantsByte self.now) }
     {
-        match self.next {
-            Next::Instruction if self.spare > 0 => match self.rest.split_first() {
-                Some((flat, _)) => match flat {
-                    Flat::Field { whole: part, .. }
-                    | Flat::Parts { exponent: part, .. }
-                    | Flat::Sequence { length: part, .. } => self.first_sent(part),
-                    Flat::Group { .. } => None,
-                },
-                None => None,
-            },
-            Next::Mantissa(mantissa) => self.mantissa_sent(mantissa),
-            Next::Instruction | Next::Element(_) => None,
+        let Some(part) = self.next_part() else {
+            return None;
+        };
+        if is_part_sent(&self.bits, part) {
+            Some(part.number)
+        } else {
+            None
         }
     }
 }

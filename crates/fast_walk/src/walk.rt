@@ -1,8 +1,8 @@
 //! A walk through the open segments of a message, without its items.
 
-ghost use Rattle.std.specs.Prelude.{◌≡◌, ◌≢◌, ◌≤◌, ◌<◌, ◌++◌, ◌∷◌, ◌-◌, ◌+◌, [], ℕ, Bool, true, false, List, Option, IsSome, ◌⊎◌, IfOk, IfErr, IfSome, OnOk, length, drop, map};
+ghost use Rattle.std.specs.Prelude.{◌≡◌, ◌≢◌, ◌≤◌, ◌<◌, ◌++◌, ◌∷◌, ◌-◌, ◌+◌, [], ℕ, Bool, true, false, List, Option, IsSome, ◌⊎◌, IfOk, IfErr, IfSome, MatchResult, OnOk, length, drop, map};
 ghost use Rattle.fast_value.specs.declared.key.Key as key_type;
-ghost use Rattle.fast_template.specs.Resolved.{list_of, then_instruction, no_instructions, whole_field, field_in_parts, group_of, sequence_of, is_optional as is_optional_of};
+ghost use Rattle.fast_template.specs.Resolved.{list_of, no_instructions, whole_field, field_in_parts, group_of, sequence_of, is_optional as is_optional_of};
 ghost use Rattle.fast_dictionary.specs.Dictionary.{Dictionary};
 ghost use Rattle.fast_stream.specs.Bits.{after_bit};
 ghost use Rattle.fast_wire.specs.Level.{IsLeftClear, some_set};
@@ -14,7 +14,7 @@ ghost use Rattle.fast_walk.specs.Passing.{next_behind};
 ghost use Rattle.fast_walk.specs.Walks.{next_of, weight_of};
 ghost use Rattle.fast_walk.specs.Told.{KeepScalars};
 ghost use Rattle.fast_walk.specs.Room.{HasRoom, HasRoomInside, HasRoomOutside};
-ghost use Rattle.fast_walk.specs.Pieces.{CanWalk, Holds, Stops};
+ghost use Rattle.fast_walk.specs.Pieces.{CanWalk, Holds, IsTaken, IsTakenWith, Reaches};
 
 use crate::bits::{first_for, read_own_map, take_for};
 use crate::halt::{Halt, HaltedBy, field_cause};
@@ -117,7 +117,8 @@ fn go_behind<'a>(next: &mut Next<'a>, mantissa: Option<&'a FieldPart>)
 }
 
 impl<'a> Walk<'a> {
-    ghost use Rattle.fast_walk.specs.Walks.{HaltsAs, IsElement, IsInside, IsInsideServed, IsLast, IsNextServed, IsWhole, Moves, StaysServed, bare_inside, bare_next, frame_of, inside_of, next_of, number_of, rank_of, sequel_of, weight_of};
+    ghost use Rattle.fast_walk.specs.declared.walk.Frame.{Frame as FrameOf};
+    ghost use Rattle.fast_walk.specs.Walks.{Begins, IsBehind, IsElement, IsInside, IsInsideServed, IsLast, IsNextServed, IsOpened, IsWhole, Moves, bare_inside, bare_next, frame_of, inside_of, next_of, number_of, rank_of, sequel_of, weight_of};
 
     /// At the beginning of a list of instructions.
     pub(crate) fn new(alloc: Global, members: &'a [Flat], bits: Bits, spare: u32) -> Walk<'a>
@@ -153,13 +154,8 @@ impl<'a> Walk<'a> {
     // Whether one node more may come.
     #[inline(always)]
     fn count(&self, number: u32) -> Result<(), Halt>
-        ensures ok { OnOk result (0 < self.now.spare) }
-        ensures goes { OnOk result ((d : Dictionary) (bits : List Bool) (bytes : List ℕ)
-            → node_at number (cursor d bits self.now.spare bytes)
-            ≡ Ok (cursor d bits (self.now.spare - 1) bytes)) }
-        ensures stops { IfErr result (λ h. (d : Dictionary) (bits : List Bool) (bytes : List ℕ)
-            → node_at number (cursor d bits self.now.spare bytes)
-            ≡ stopped h.number bytes h.cause) }
+        ensures { MatchResult result (λ u. 0 < self.now.spare) (λ h. (d : Dictionary) (bits : List Bool) (bytes : List ℕ)
+            → node_at number (cursor d bits self.now.spare bytes) ≡ stopped h.number bytes h.cause) }
     {
         if self.spare == 0 {
             return Err(Halt::new(Cause::Limit, number));
@@ -171,11 +167,7 @@ impl<'a> Walk<'a> {
     #[inline(always)]
     fn pass(&mut self, needs: bool, others: &'a [Flat], next: Next<'a>)
         requires spare { 0 < self.now.spare }
-        ensures bits { self.new.bits ≡ after_bit needs self.old.bits }
-        ensures spare { self.new.spare ≡ self.old.spare - 1 }
-        ensures next { self.new.next ≡ next.entry }
-        ensures rest { self.new.rest.now ≡ others.now }
-        ensures around { self.new.around ≡ self.old.around }
+        ensures { IsBehind self.old self.new needs next.entry (list_of others.now) }
     {
         take_for(&mut self.bits, needs);
         self.spare -= 1;
@@ -187,11 +179,8 @@ impl<'a> Walk<'a> {
     #[inline(always)]
     fn pass_field(&mut self, needs: bool, others: &'a [Flat])
         requires spare { 0 < self.now.spare }
-        ensures bits { self.new.bits ≡ after_bit needs self.old.bits }
-        ensures spare { self.new.spare ≡ self.old.spare - 1 }
-        ensures next { self.new.next ≡ self.old.next }
-        ensures rest { self.new.rest.now ≡ others.now }
-        ensures around { self.new.around ≡ self.old.around }
+        requires next { self.now.next ≡ Next.Instruction }
+        ensures { IsBehind self.old self.new needs Next.Instruction (list_of others.now) }
     {
         take_for(&mut self.bits, needs);
         self.spare -= 1;
@@ -208,20 +197,9 @@ impl<'a> Walk<'a> {
         inside: Inside<'a>,
     ) -> Result<(), Halt>
         requires spare { 0 < self.now.spare }
-        ensures bits { OnOk result (self.new.bits ≡ bits) }
-        ensures spare { OnOk result (self.new.spare ≡ self.old.spare - 1) }
-        ensures next { OnOk result (self.new.next ≡ self.old.next) }
-        ensures rest { OnOk result (self.new.rest.now ≡ members.now) }
-        ensures around { OnOk result (map frame_of self.new.around.items
-            ≡ map frame_of self.old.around.items ++ record {
-              bits = self.old.bits;
-              number = number_of inside.entry;
-              body = record { rest = list_of others.now; done = [] };
-              inside = inside_of inside.entry;
-            } ∷ []) }
-        ensures depth { OnOk result (length self.new.around.items
-            ≡ length self.old.around.items + 1) }
-        ensures memory { IfErr result (λ h. h.cause ≡ Cause.Memory) }
+        requires next { self.now.next ≡ Next.Instruction }
+        ensures { MatchResult result (λ u. IsOpened self.old.around.items self.old.bits self.old.spare (number_of inside.entry) (list_of members.now)
+            (list_of others.now) (inside_of inside.entry) bits self.new) (λ h. h.cause ≡ Cause.Memory) }
     {
         let outer = mem::replace(&mut self.bits, bits);
         let frame = Frame {
@@ -256,16 +234,10 @@ impl<'a> Walk<'a> {
         at: usize,
     ) -> Result<usize, Halt>
         requires place { at ≤ length bytes.now }
-        requires next { self.now.next ≡ Next.Instruction }
-        requires first { list_of self.now.rest.now
-            ≡ then_instruction (whole_field name.now number presence whole.now) (list_of others.now) }
+        requires first { Begins self.now (whole_field name.now number presence whole.now) (list_of others.now) }
         requires walk { CanWalk (E.serves entries.now) (E.contents entries.now) (R.room receiver.now) self.now }
-        ensures place { IfOk result (λ n. (at ≤ n) × (n ≤ length bytes.now) × (rank_of self.new < rank_of self.old)) }
-        ensures goes { IfOk result (λ n. Moves L.at R.has self.old receiver.old (E.contents entries.old)
-            self.new receiver.new (E.contents entries.new) (drop at bytes.now) (drop n bytes.now)) }
-        ensures walk { OnOk result (CanWalk (E.serves entries.old) (E.contents entries.new) (R.room receiver.new) self.new) }
-        ensures stops { IfErr result (λ h. h.cause ≢ Cause.Memory → Stops L.at R.has R.room self.old receiver.old (E.contents entries.old)
-            self.new receiver.new (E.contents entries.new) (drop at bytes.now) h) }
+        ensures piece { IsTaken L.at R.has R.room (E.serves entries.old) self.old receiver.old (E.contents entries.old)
+            self.new receiver.new (E.contents entries.new) bytes.now at result }
         ensures keeps { Carries (R.keeps receiver.old) (R.keeps receiver.new) }
         ensures same_keys { E.serves entries.new ≡ E.serves entries.old }
     {
@@ -309,17 +281,10 @@ impl<'a> Walk<'a> {
         at: usize,
     ) -> Result<usize, Halt>
         requires place { at ≤ length bytes.now }
-        requires next { self.now.next ≡ Next.Instruction }
-        requires first { list_of self.now.rest.now
-            ≡ then_instruction (field_in_parts name.now number presence exponent.now mantissa.now)
-            (list_of others.now) }
+        requires first { Begins self.now (field_in_parts name.now number presence exponent.now mantissa.now) (list_of others.now) }
         requires walk { CanWalk (E.serves entries.now) (E.contents entries.now) (R.room receiver.now) self.now }
-        ensures place { IfOk result (λ n. (at ≤ n) × (n ≤ length bytes.now) × (rank_of self.new < rank_of self.old)) }
-        ensures goes { IfOk result (λ n. Moves L.at R.has self.old receiver.old (E.contents entries.old)
-            self.new receiver.new (E.contents entries.new) (drop at bytes.now) (drop n bytes.now)) }
-        ensures walk { OnOk result (CanWalk (E.serves entries.old) (E.contents entries.new) (R.room receiver.new) self.new) }
-        ensures stops { IfErr result (λ h. h.cause ≢ Cause.Memory → Stops L.at R.has R.room self.old receiver.old (E.contents entries.old)
-            self.new receiver.new (E.contents entries.new) (drop at bytes.now) h) }
+        ensures piece { IsTaken L.at R.has R.room (E.serves entries.old) self.old receiver.old (E.contents entries.old)
+            self.new receiver.new (E.contents entries.new) bytes.now at result }
         ensures keeps { Carries (R.keeps receiver.old) (R.keeps receiver.new) }
         ensures same_keys { E.serves entries.new ≡ E.serves entries.old }
     {
@@ -365,12 +330,8 @@ impl<'a> Walk<'a> {
         requires place { at ≤ length bytes.now }
         requires next { self.now.next ≡ Next.Mantissa mantissa }
         requires walk { CanWalk (E.serves entries.now) (E.contents entries.now) (R.room receiver.now) self.now }
-        ensures place { IfOk result (λ n. (at ≤ n) × (n ≤ length bytes.now) × (rank_of self.new < rank_of self.old)) }
-        ensures goes { IfOk result (λ n. Moves L.at R.has self.old receiver.old (E.contents entries.old)
-            self.new receiver.new (E.contents entries.new) (drop at bytes.now) (drop n bytes.now)) }
-        ensures walk { OnOk result (CanWalk (E.serves entries.old) (E.contents entries.new) (R.room receiver.new) self.new) }
-        ensures stops { IfErr result (λ h. h.cause ≢ Cause.Memory → Stops L.at R.has R.room self.old receiver.old (E.contents entries.old)
-            self.new receiver.new (E.contents entries.new) (drop at bytes.now) h) }
+        ensures piece { IsTaken L.at R.has R.room (E.serves entries.old) self.old receiver.old (E.contents entries.old)
+            self.new receiver.new (E.contents entries.new) bytes.now at result }
         ensures keeps { Carries (R.keeps receiver.old) (R.keeps receiver.new) }
         ensures same_keys { E.serves entries.new ≡ E.serves entries.old }
     {
@@ -403,17 +364,10 @@ impl<'a> Walk<'a> {
         at: usize,
     ) -> Result<usize, Halt>
         requires place { at ≤ length bytes.now }
-        requires next { self.now.next ≡ Next.Instruction }
-        requires first { list_of self.now.rest.now
-            ≡ then_instruction (sequence_of name.now number presence part.now (list_of members.now))
-            (list_of others.now) }
+        requires first { Begins self.now (sequence_of name.now number presence part.now (list_of members.now)) (list_of others.now) }
         requires walk { CanWalk (E.serves entries.now) (E.contents entries.now) (R.room receiver.now) self.now }
-        ensures place { IfOk result (λ n. (at ≤ n) × (n ≤ length bytes.now) × (rank_of self.new < rank_of self.old)) }
-        ensures goes { IfOk result (λ n. Moves L.at R.has self.old receiver.old (E.contents entries.old)
-            self.new receiver.new (E.contents entries.new) (drop at bytes.now) (drop n bytes.now)) }
-        ensures walk { OnOk result (CanWalk (E.serves entries.old) (E.contents entries.new) (R.room receiver.new) self.new) }
-        ensures stops { IfErr result (λ h. h.cause ≢ Cause.Memory → Stops L.at R.has R.room self.old receiver.old (E.contents entries.old)
-            self.new receiver.new (E.contents entries.new) (drop at bytes.now) h) }
+        ensures piece { IsTaken L.at R.has R.room (E.serves entries.old) self.old receiver.old (E.contents entries.old)
+            self.new receiver.new (E.contents entries.new) bytes.now at result }
         ensures keeps { Carries (R.keeps receiver.old) (R.keeps receiver.new) }
         ensures same_keys { E.serves entries.new ≡ E.serves entries.old }
     {
@@ -472,19 +426,9 @@ impl<'a> Walk<'a> {
         at: usize,
     ) -> Result<usize, Halt>
         requires place { at ≤ length bytes.now }
-        requires next { self.now.next ≡ Next.Instruction }
-        requires first { list_of self.now.rest.now
-            ≡ then_instruction (group_of name.now number presence (list_of members.now)) (list_of
-            others.now) }
+        requires first { Begins self.now (group_of name.now number presence (list_of members.now)) (list_of others.now) }
         requires room { HasRoom (R.room receiver.now) self.now }
-        ensures place { IfOk result (λ n. (at ≤ n) × (n ≤ length bytes.now) × (rank_of self.new < rank_of self.old)) }
-        ensures goes { IfOk result (λ n. (d : Dictionary) → Moves L.at R.has self.old receiver.old d
-            self.new receiver.new d (drop at bytes.now) (drop n bytes.now)) }
-        ensures stops { IfErr result (λ h. h.cause ≢ Cause.Memory
-            → (d : Dictionary) → HaltsAs L.at self.old d (drop at bytes.now) h) }
-        ensures waits { IfErr result (λ h. h.cause ≢ Cause.Memory → (self.new ≡ self.old) × (receiver.new ≡ receiver.old)) }
-        ensures ready { OnOk result (StaysServed self.old self.new) }
-        ensures room { OnOk result (HasRoom (R.room receiver.new) self.new) }
+        ensures piece { IsTakenWith L.at R.has R.room self.old receiver.old self.new receiver.new bytes.now at result }
         ensures keeps { Carries (R.keeps receiver.old) (R.keeps receiver.new) }
     {
         self.count(number)?;
@@ -517,14 +461,7 @@ impl<'a> Walk<'a> {
         requires place { at ≤ length bytes.now }
         requires next { IsElement self.now.next sequel }
         requires room { HasRoom (R.room receiver.now) self.now }
-        ensures place { IfOk result (λ n. (at ≤ n) × (n ≤ length bytes.now) × (rank_of self.new < rank_of self.old)) }
-        ensures goes { IfOk result (λ n. (d : Dictionary) → Moves L.at R.has self.old receiver.old d
-            self.new receiver.new d (drop at bytes.now) (drop n bytes.now)) }
-        ensures stops { IfErr result (λ h. h.cause ≢ Cause.Memory
-            → (d : Dictionary) → HaltsAs L.at self.old d (drop at bytes.now) h) }
-        ensures waits { IfErr result (λ h. h.cause ≢ Cause.Memory → (self.new ≡ self.old) × (receiver.new ≡ receiver.old)) }
-        ensures ready { OnOk result (StaysServed self.old self.new) }
-        ensures room { OnOk result (HasRoom (R.room receiver.new) self.new) }
+        ensures piece { IsTakenWith L.at R.has R.room self.old receiver.old self.new receiver.new bytes.now at result }
         ensures keeps { Carries (R.keeps receiver.old) (R.keeps receiver.new) }
     {
         if sequel.left == 0 {
@@ -536,30 +473,6 @@ impl<'a> Walk<'a> {
         self.count(sequel.number)?;
         let (bits, next) = read_own_map(alloc, sequel.number, own_map, level.level(), bytes, at)?;
         receiver.enter_element(alloc, sequel.own_map, sequel.members.len())?;
-        self.one_more(sequel, bits)?;
-        Ok(next)
-    }
-
-    // Opens the next element of a sequence.
-    #[inline(always)]
-    fn one_more(&mut self, sequel: Sequel<'a>, bits: Bits) -> Result<(), Halt>
-        requires spare { 0 < self.now.spare }
-        requires left { 0 < sequel.left }
-        ensures bits { OnOk result (self.new.bits ≡ bits) }
-        ensures spare { OnOk result (self.new.spare ≡ self.old.spare - 1) }
-        ensures next { OnOk result (self.new.next ≡ Next.Instruction) }
-        ensures rest { OnOk result (self.new.rest.now ≡ sequel.entry.members.now) }
-        ensures around { OnOk result (map frame_of self.new.around.items
-            ≡ map frame_of self.old.around.items ++ record {
-              bits = self.old.bits;
-              number = sequel.entry.number;
-              body = record { rest = list_of self.old.rest.now; done = [] };
-              inside = in_sequence (fewer (sequel_of sequel.entry));
-            } ∷ []) }
-        ensures depth { OnOk result (length self.new.around.items
-            ≡ length self.old.around.items + 1) }
-        ensures memory { IfErr result (λ h. h.cause ≡ Cause.Memory) }
-    {
         let others = Sequel {
             number: sequel.number,
             own_map: sequel.own_map,
@@ -567,7 +480,8 @@ impl<'a> Walk<'a> {
             left: sequel.left - 1,
         };
         self.next = Next::Instruction;
-        self.open(sequel.members, self.rest, bits, Inside::Element(others))
+        self.open(sequel.members, self.rest, bits, Inside::Element(others))?;
+        Ok(next)
     }
 
     // The number of the segment that is open; 0 is the message.
@@ -609,9 +523,7 @@ impl<'a> Walk<'a> {
     // The sequence whose element is open, where another one is to come.
     #[inline(always)]
     fn next_sequel(&self) -> Option<Sequel<'a>>
-        ensures left { IfSome result (λ s. 0 < s.left) }
-        ensures inside { IfSome result (λ s. self.now.around.items ≢ []) }
-        ensures last { IfSome result (IsLast self.now) }
+        ensures { IfSome result (λ s. (0 < s.left) × IsLast self.now s) }
     {
         match self.around.last() {
             None => None,
@@ -636,18 +548,10 @@ impl<'a> Walk<'a> {
         requires place { at ≤ length bytes.now }
         requires next { self.now.next ≡ Next.Instruction }
         requires rest { self.now.rest.now ≡ [] }
-        requires inside { self.now.around.items ≢ [] }
         requires last { IsLast self.now sequel }
         requires left { 0 < sequel.left }
         requires room { HasRoom (R.room receiver.now) self.now }
-        ensures place { IfOk result (λ n. (at ≤ n) × (n ≤ length bytes.now) × (rank_of self.new < rank_of self.old)) }
-        ensures goes { IfOk result (λ n. (d : Dictionary) → Moves L.at R.has self.old receiver.old d
-            self.new receiver.new d (drop at bytes.now) (drop n bytes.now)) }
-        ensures stops { IfErr result (λ h. h.cause ≢ Cause.Memory
-            → (d : Dictionary) → HaltsAs L.at self.old d (drop at bytes.now) h) }
-        ensures waits { IfErr result (λ h. h.cause ≢ Cause.Memory → (self.new ≡ self.old) × (receiver.new ≡ receiver.old)) }
-        ensures ready { OnOk result (StaysServed self.old self.new) }
-        ensures room { OnOk result (HasRoom (R.room receiver.new) self.new) }
+        ensures piece { IsTakenWith L.at R.has R.room self.old receiver.old self.new receiver.new bytes.now at result }
         ensures keeps { Carries (R.keeps receiver.old) (R.keeps receiver.new) }
     {
         let own_map = sequel.own_map;
@@ -664,22 +568,12 @@ impl<'a> Walk<'a> {
     #[inline(always)]
     fn go_on(&mut self, sequel: Sequel<'a>, fresh: Bits)
         requires spare { 0 < self.now.spare }
+        requires next { self.now.next ≡ Next.Instruction }
         requires left { 0 < sequel.left }
-        requires inside { self.now.around.items ≢ [] }
         requires last { IsLast self.now sequel }
-        ensures bits { self.new.bits ≡ fresh }
-        ensures spare { self.new.spare ≡ self.old.spare - 1 }
-        ensures next { self.new.next ≡ self.old.next }
-        ensures rest { self.new.rest.now ≡ sequel.entry.members.now }
-        ensures around { (ws : List Waiting) (w : Waiting)
-            → map frame_of self.old.around.items ≡ ws ++ w ∷ []
-            → map frame_of self.new.around.items ≡ ws ++ record {
-              bits = w.bits;
-              number = sequel.entry.number;
-              body = record { rest = w.body.rest; done = [] };
-              inside = in_sequence (fewer (sequel_of sequel.entry));
-            } ∷ [] }
-        ensures depth { length self.new.around.items ≡ length self.old.around.items }
+        ensures { (fore : List FrameOf) (f : FrameOf) → self.old.around.items ≡ fore ++ f ∷ []
+            → IsOpened fore f.bits self.old.spare sequel.entry.number (list_of sequel.entry.members.now)
+            (list_of f.rest.now) (in_sequence (fewer (sequel_of sequel.entry))) fresh self.new }
     {
         self.bits = fresh;
         self.spare -= 1;
@@ -700,20 +594,14 @@ impl<'a> Walk<'a> {
         level: L,
         alloc: Global,
         receiver: &mut R,
-    ) -> Result<(), Halt>
+        at: usize,
+    ) -> Result<usize, Halt>
         requires inside { IsInside self.now }
         requires next { self.now.next ≡ Next.Instruction }
         requires rest { self.now.rest.now ≡ [] }
         requires room { HasRoom (R.room receiver.now) self.now }
-        ensures goes { OnOk result ((d : Dictionary) (bytes : List ℕ)
-            → Moves L.at R.has self.old receiver.old d self.new receiver.new d bytes bytes) }
-        ensures stops { IfErr result (λ h. h.cause ≢ Cause.Memory
-            → (d : Dictionary) (bytes : List ℕ) → HaltsAs L.at self.old d bytes h) }
-        ensures waits { IfErr result (λ h. h.cause ≢ Cause.Memory → (self.new ≡ self.old) × (receiver.new ≡ receiver.old)) }
-        ensures ready { OnOk result (StaysServed self.old self.new) }
-        ensures room { OnOk result (HasRoom (R.room receiver.new) self.new) }
+        ensures piece { (bytes : List ℕ) → at ≤ length bytes → IsTakenWith L.at R.has R.room self.old receiver.old self.new receiver.new bytes at result }
         ensures keeps { Carries (R.keeps receiver.old) (R.keeps receiver.new) }
-        ensures rank { OnOk result (rank_of self.new < rank_of self.old) }
     {
         self.judge_end(level.level())?;
         match self.around.pop() {
@@ -722,7 +610,7 @@ impl<'a> Walk<'a> {
                 self.bits = bits;
                 self.rest = rest;
                 self.take_up(alloc, receiver, inside)?;
-                Ok(())
+                Ok(at)
             }
         }
     }
@@ -794,12 +682,8 @@ impl<'a> Walk<'a> {
         requires inside { IsInside self.now }
         requires place { at ≤ length bytes.now }
         requires walk { CanWalk (E.serves entries.now) (E.contents entries.now) (R.room receiver.now) self.now }
-        ensures place { IfOk result (λ n. (at ≤ n) × (n ≤ length bytes.now) × (rank_of self.new < rank_of self.old)) }
-        ensures goes { IfOk result (λ n. Moves L.at R.has self.old receiver.old (E.contents entries.old)
-            self.new receiver.new (E.contents entries.new) (drop at bytes.now) (drop n bytes.now)) }
-        ensures walk { OnOk result (CanWalk (E.serves entries.old) (E.contents entries.new) (R.room receiver.new) self.new) }
-        ensures stops { IfErr result (λ h. h.cause ≢ Cause.Memory → Stops L.at R.has R.room self.old receiver.old (E.contents entries.old)
-            self.new receiver.new (E.contents entries.new) (drop at bytes.now) h) }
+        ensures piece { IsTaken L.at R.has R.room (E.serves entries.old) self.old receiver.old (E.contents entries.old)
+            self.new receiver.new (E.contents entries.new) bytes.now at result }
         ensures keeps { Carries (R.keeps receiver.old) (R.keeps receiver.new) }
         ensures same_keys { E.serves entries.new ≡ E.serves entries.old }
     {
@@ -811,10 +695,7 @@ impl<'a> Walk<'a> {
             Next::Instruction => match self.rest.split_first() {
                 None => match self.next_sequel() {
                     Some(sequel) => self.next_element(level, alloc, receiver, sequel, bytes, at),
-                    None => {
-                        self.end(level, alloc, receiver)?;
-                        Ok(at)
-                    }
+                    None => self.end(level, alloc, receiver, at),
                 },
                 Some((flat, others)) => match flat {
                     Flat::Field {
@@ -873,13 +754,10 @@ impl<'a> Walk<'a> {
     ) -> Result<usize, AllocError>
         requires place { at ≤ length bytes.now }
         requires walk { CanWalk (E.serves entries.now) (E.contents entries.now) (R.room receiver.now) self.now }
-        ensures place { IfOk result (λ n. (at ≤ n) × (n ≤ length bytes.now)) }
-        ensures goes { IfOk result (λ n. Moves L.at R.has self.old receiver.old (E.contents entries.old)
-            self.new receiver.new (E.contents entries.new) (drop at bytes.now) (drop n bytes.now)) }
-        ensures walk { OnOk result (CanWalk (E.serves entries.old) (E.contents entries.new) (R.room receiver.new) self.new) }
+        ensures fields { IfOk result (λ n. Reaches L.at R.has R.room (E.serves entries.old) self.old receiver.old (E.contents entries.old)
+            self.new receiver.new (E.contents entries.new) bytes.now at n × (rank_of self.new ≤ rank_of self.old)) }
         ensures keeps { Carries (R.keeps receiver.old) (R.keeps receiver.new) }
         ensures same_keys { E.serves entries.new ≡ E.serves entries.old }
-        ensures rank { OnOk result (rank_of self.new ≤ rank_of self.old) }
     {
         match self.next {
             Next::Instruction if begins_with_field(self.rest) => {
@@ -916,12 +794,8 @@ impl<'a> Walk<'a> {
         requires inside { IsInside self.now }
         requires place { at ≤ length bytes.now }
         requires walk { CanWalk (E.serves entries.now) (E.contents entries.now) (R.room receiver.now) self.now }
-        ensures place { IfOk result (λ n. (at ≤ n) × (n ≤ length bytes.now) × (rank_of self.new < rank_of self.old)) }
-        ensures goes { IfOk result (λ n. Moves L.at R.has self.old receiver.old (E.contents entries.old)
-            self.new receiver.new (E.contents entries.new) (drop at bytes.now) (drop n bytes.now)) }
-        ensures walk { OnOk result (CanWalk (E.serves entries.old) (E.contents entries.new) (R.room receiver.new) self.new) }
-        ensures stops { IfErr result (λ h. h.cause ≢ Cause.Memory → Stops L.at R.has R.room self.old receiver.old (E.contents entries.old)
-            self.new receiver.new (E.contents entries.new) (drop at bytes.now) h) }
+        ensures piece { IsTaken L.at R.has R.room (E.serves entries.old) self.old receiver.old (E.contents entries.old)
+            self.new receiver.new (E.contents entries.new) bytes.now at result }
         ensures keeps { Carries (R.keeps receiver.old) (R.keeps receiver.new) }
         ensures same_keys { E.serves entries.new ≡ E.serves entries.old }
     {

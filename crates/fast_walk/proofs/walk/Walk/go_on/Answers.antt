@@ -1,41 +1,44 @@
-use Rattle.std.proofs.Common.{◌≡◌, ◌++◌, ◌∷◌, ◌-◌, [], length, ap, arith, vec_len, ◌∙◌, rules}
-use Rattle.fast_walk.specs.OpenSegments.{Sequel, Waiting, fewer, in_sequence}
+use Rattle.std.proofs.Common.{◌≡◌, ◌++◌, ◌∷◌, ◌-◌, [], length, length-append, map, sym, ap, arith, List, vec_len, ◌∙◌, rules, refl}
+use Rattle.std.proofs.lemmas.List.{map_push}
+use Rattle.fast_template.specs.Resolved.{list_of}
+use Rattle.fast_walk.specs.OpenSegments.{fewer, in_sequence}
 use Rattle.fast_walk.specs.Walks.{frame_of, sequel_of}
 use Rattle.fast_walk.specs.declared.walk.Frame.{Frame as FrameNow}
 use Rattle.fast_walk.specs.declared.walk.Inside.TheVariants.{Element}
-use Rattle.fast_walk.proofs.Walking.{inside_last, last_frame, no_frame, no_sequel, same_sequel}
+use Rattle.fast_walk.specs.declared.walk.Sequel.{Sequel as SequelNow}
+use Rattle.fast_walk.proofs.Walking.{at_last, last_is}
 use Rattle.fast_walk.proofs.walk.Walk.go_on.Goals as goal
 
 pub overflow_sub-elements : goal.overflow_sub-elements
 overflow_sub-elements c =
-    let old = c.args.self.now in
-    let s = c.args.sequel in
-    let f = c.in-Some.frame.now in
-    let many : length old.around.items ≡ vec_len old.around = search rules in
-    let i = inside_last old.around.items (vec_len old.around) f (sequel_of s) s.number many (λ none. c.requires.inside (no_frame old.around.items none)) c.requires.last c.in-Some.ensures.value in
-    let left = ap (λ (x : Sequel). x.left) (same_sequel (sequel_of c.in-Element.elements) (sequel_of s) (rw (c.in-Element.is) at i)) in
+    let e = sym c.in-Element.is ∙ last_is c.requires.last (vec_len c.args.self.now.around) c.in-Some.frame.now (search rules) c.in-Some.ensures.value in
+    let same : c.in-Element.elements ≡ c.args.sequel = cc in
+    let left = ap (λ (s : SequelNow). s.left) same in
     omega (arith, left, c.requires.left)
 
 pub unreachable-requires : goal.unreachable-requires
 unreachable-requires c =
-    let old = c.args.self.now in
-    let s = c.args.sequel in
-    let f = c.in-Some.frame.now in
-    let many : length old.around.items ≡ vec_len old.around = search rules in
-    let i = inside_last old.around.items (vec_len old.around) f (sequel_of s) s.number many (λ none. c.requires.inside (no_frame old.around.items none)) c.requires.last c.in-Some.ensures.value in
-    no_sequel (sequel_of s) (rw (c.in-Group.is) at i)
+    let e = sym c.in-Group.is ∙ last_is c.requires.last (vec_len c.args.self.now.around) c.in-Some.frame.now (search rules) c.in-Some.ensures.value in
+    cc
 
-pub returns-in-Element-clause-around : goal.returns-in-Element-clause-around
-returns-in-Element-clause-around c = λ ws w is.
-    let old = c.args.self.now in
-    let s = c.args.sequel in
-    let f = c.in-Some.frame.now in
+pub returns-in-Element : goal.returns-in-Element
+returns-in-Element c = λ fore f frames.
+    let items = c.args.self.now.around.items in
+    let n = vec_len c.args.self.now.around in
+    let long : length items ≡ n = search rules in
+    let waits = c.in-Some.frame.now in
     let elements = c.in-Element.elements in
-    let many : length old.around.items ≡ vec_len old.around = search rules in
-    let i = inside_last old.around.items (vec_len old.around) f (sequel_of s) s.number many (λ none. c.requires.inside (no_frame old.around.items none)) c.requires.last c.in-Some.ensures.value in
-    let same = same_sequel (sequel_of elements) (sequel_of s) (rw (c.in-Element.is) at i) in
-    let later : FrameNow = record { bits = f.bits; rest = f.rest; inside = Element (record { number = elements.number; own_map = elements.own_map; members = elements.members; left = elements.left - 1 }) } in
-    let last = last_frame old.around.items (vec_len old.around) later f ws w many is in
-    last.1
-    ∙ ap (λ (v : Waiting). ws ++ record { bits = v.bits; number = elements.number; body = record { rest = v.body.rest; done = [] }; inside = in_sequence (fewer (sequel_of elements)) } ∷ []) (ap frame_of c.in-Some.ensures.value ∙ last.0)
-    ∙ ap (λ (x : Sequel). ws ++ record { bits = w.bits; number = x.number; body = record { rest = w.body.rest; done = [] }; inside = in_sequence (fewer x) } ∷ []) same
+    let last = at_last items fore n f waits long frames in
+    let e = sym c.in-Element.is ∙ last_is c.requires.last n waits long c.in-Some.ensures.value in
+    let same : elements ≡ c.args.sequel = cc in
+    let later : FrameNow = record { bits = waits.bits; rest = waits.rest; inside = Element (record { number = elements.number; own_map = elements.own_map; members = elements.members; left = elements.left - 1 }) } in
+    record {
+      bits = refl;
+      spare = refl;
+      next = c.requires.next;
+      rest = refl;
+      around = ap (map frame_of) (last.1 later) ∙ map_push frame_of fore later
+          ∙ ap (λ (x : FrameNow). map frame_of fore ++ record { bits = x.bits; number = elements.number; body = record { rest = list_of x.rest.now; done = [] }; inside = in_sequence (fewer (sequel_of elements)) } ∷ []) (c.in-Some.ensures.value ∙ last.0)
+          ∙ ap (λ (x : SequelNow). map frame_of fore ++ record { bits = f.bits; number = x.number; body = record { rest = list_of f.rest.now; done = [] }; inside = in_sequence (fewer (sequel_of x)) } ∷ []) same;
+      depth = ap (λ (fs : List FrameNow). length fs) (last.1 later) ∙ length-append fore (later ∷ []);
+    }
