@@ -66,9 +66,8 @@ module _ {R E : Type 0} {receiver : Receiving R} {entries : Ghosts E} {t : Trave
   module _ {m : ℕ} {u v : TraversalNow} {s q : R} {e f : E} where
     pub ends_behind : {n : ℕ} → IsStep receiver entries t r d bytes at m u s e → MessageRead receiver entries u s e bytes m n v q f → MessageRead receiver entries t r d bytes at n v q f
     ends_behind step read = record {
-      from = let p = step.from in let q = read.from in omega (arith, p, q);
-      within = read.within;
-      took = λ map. let p = step.took map in let q = read.from in omega (arith, p, q);
+      place = (let p = step.place.0 in let q = read.place.0 in omega (arith, p, q), read.place.1);
+      took = λ map. let p = step.took map in let q = read.place.0 in omega (arith, p, q);
       finishes = λ before start now was.
           let l = step.leaves before start now was in
           let f = read.finishes before start l.0 l.1 in
@@ -80,8 +79,7 @@ module _ {R E : Type 0} {receiver : Receiving R} {entries : Ghosts E} {t : Trave
 
     pub stops_behind : {x : ℕ × Halt} → IsStep receiver entries t r d bytes at m u s e → MessageStops receiver entries u s e bytes m x v q f → MessageStops receiver entries t r d bytes at x v q f
     stops_behind step read = record {
-      from = let p = step.from in let q = read.from in omega (arith, p, q);
-      within = read.within;
+      place = (let p = step.place.0 in let q = read.place.0 in omega (arith, p, q), read.place.1);
       keeps = λ before start now was. let l = step.leaves before start now was in read.keeps before start l.0 l.1;
       stops = λ other before start now was. let l = step.leaves before start now was in with_none now l.0 (drop at bytes) (drop m bytes) l.2 ∙ read.stops other before start l.0 l.1;
       waits = λ wanted. let w = read.waits wanted in record {
@@ -90,7 +88,7 @@ module _ {R E : Type 0} {receiver : Receiving R} {entries : Ghosts E} {t : Trave
             let k = w.leaves before start l.0 l.1 in
             (k.0, k.1, λ more. l.2 more ∙ k.2 more);
         between = λ map. absurd (step.inside (w.between map).0);
-        begun = λ map other. let p = step.took map in let q = read.from in omega (arith, p, q);
+        begun = λ map other. let p = step.took map in let q = read.place.0 in omega (arith, p, q);
         few = w.few;
         can = w.can;
       };
@@ -102,11 +100,10 @@ module _ {R E : Type 0} {receiver : Receiving R} {entries : Ghosts E} {t : Trave
   read_behind v q f (Err x) step read = stops_behind step read
 
   -- a message's map is the first step
-  pub map_read : {m : ℕ} {u : TraversalNow} → t.stage ≡ stage.Map → MapRead t bytes at m u → IsStep receiver entries t r d bytes at m u r d
+  map_read : {m : ℕ} {u : TraversalNow} → t.stage ≡ stage.Map → MapRead t bytes at m u → IsStep receiver entries t r d bytes at m u r d
   map_read {m = m} {u = u} map read = record {
-    from = let p = read.from in omega (arith, p);
-    within = read.within;
-    took = λ other. read.from;
+    place = (let p = read.place.0 in omega (arith, p), read.place.1);
+    took = λ other. read.place.0;
     inside = λ other. let k : stage.Identifier ≡ stage.Map = sym read.stage ∙ other in absurd cc;
     leaves = λ before start now was.
         let s = rw map at was in
@@ -115,16 +112,19 @@ module _ {R E : Type 0} {receiver : Receiving R} {entries : Ghosts E} {t : Trave
         (later, rw (read.stage, read.level, read.set) (record { stands = s.stands; start_is = s.start_is; reads = λ bytes. refl }), λ more. s.reads (drop at bytes ++ more) ∙ read.goes (entries.contents d) more);
   }
 
+  pub read_behind_map : {m : ℕ} {u : TraversalNow} (v : TraversalNow) (q : R) (f : E) (result : Result ℕ (ℕ × Halt)) → CanRead receiver entries t r d → t.stage ≡ stage.Map → MapRead t bytes at m u → ReadsMessage receiver entries u r d bytes m result v q f
+      → ReadsMessage receiver entries t r d bytes at result v q f
+  read_behind_map v q f result can map read behind = read_behind v q f result (map_read map read) behind
+
   pub map_can : {m : ℕ} {u : TraversalNow} → t.stage ≡ stage.Map → MapRead t bytes at m u → CanRead receiver entries t r d → CanRead receiver entries u r d
   map_can map read can = record { ready = rw (read.stage) (read.template ∙ rw map at can.ready, read.spare); kept = can.kept; room = rw (read.stage) read.room }
 
   -- a message's map is not read
-  pub map_stops : {h : Halt} → t.stage ≡ stage.Map → at ≤ length bytes → CanRead receiver entries t r d
-      → (h.cause ≢ Memory → (d : Dictionary) → message_at t.level (templates_in t.set.now) d (drop at bytes) ≡ Err (stop_of 0 h (drop at bytes)))
-      → MessageStops receiver entries t r d bytes at (at, h) t r d
-  map_stops {h = h} map place can stops = record {
-    from = omega arith;
-    within = place;
+  pub map_stops : {u : TraversalNow} {h : Halt} → t.stage ≡ stage.Map → at ≤ length bytes → CanRead receiver entries t r d
+      → u ≡ t → (h.cause ≢ Memory → (d : Dictionary) → message_at t.level (templates_in t.set.now) d (drop at bytes) ≡ Err (stop_of 0 h (drop at bytes)))
+      → MessageStops receiver entries t r d bytes at (at, h) u r d
+  map_stops {h = h} map place can same stops = rw same (record {
+    place = (omega arith, place);
     keeps = λ before start now was. let s = rw map at was in rw (s.start_is) (inr s.stands);
     stops = λ other before start now was. let s = rw map at was in rw (rw map at can.ready) (s.reads (drop at bytes) ∙ stops other (entries.contents d));
     waits = λ wanted. record {
@@ -134,7 +134,7 @@ module _ {R E : Type 0} {receiver : Receiving R} {entries : Ghosts E} {t : Trave
       few = behind_few bytes at (map_few_at t.level (templates_in t.set.now) (drop at bytes) h (stops (want_of_bytes h.cause wanted)) wanted);
       can = can;
     };
-  }
+  })
 
   -- a message's identifier is not read
   pub identifier_stops : {h : Halt} {s : R} {e : E} → t.stage ≡ stage.Identifier → at ≤ length bytes → CanRead receiver entries t r d → entries.serves e ≡ entries.serves d → Carries (receiver.stands r) (receiver.keeps s)
@@ -145,8 +145,7 @@ module _ {R E : Type 0} {receiver : Receiving R} {entries : Ghosts E} {t : Trave
       let set = templates_in t.set.now in
       let now_at = rw at_identifier at can.ready in
       record {
-        from = omega arith;
-        within = place;
+        place = (omega arith, place);
         keeps = λ before start now was. let s = rw at_identifier at was in rw (s.start_is) (inl (keeps set before (entries.contents d) s.stands));
         stops = λ other before start now was. let s = rw at_identifier at was in rw (now_at.0) (s.reads (drop at bytes) ∙ stops other);
         waits = λ wanted. let w = waits wanted in record {
@@ -165,8 +164,7 @@ module _ {R E : Type 0} {receiver : Receiving R} {entries : Ghosts E} {t : Trave
   pub walk_step : {m : ℕ} {w : WalkNow} {s : R} {e : E} (is : t.identifier ≡ identifier) → t.stage ≡ stage.Body → (at ≤ m) × (m ≤ length bytes) → Carries (receiver.keeps r) (receiver.keeps s)
       → Moves t.level receiver.has t.walk r (entries.contents d) w s (entries.contents e) (drop at bytes) (drop m bytes) → IsStep receiver entries t r d bytes at m (walked t w is) s e
   walk_step {w = w} {e = e} is at_body place carries goes = record {
-    from = place.0;
-    within = place.1;
+    place = place;
     took = λ map. let k : stage.Body ≡ stage.Map = sym at_body ∙ map in absurd cc;
     inside = λ map. let k : stage.Body ≡ stage.Map = sym at_body ∙ map in absurd cc;
     leaves = λ before start now was.
@@ -196,8 +194,7 @@ module _ {R E : Type 0} {receiver : Receiving R} {entries : Ghosts E} {t : Trave
       let rest = drop x.0 bytes in
       let goes = λ (other : (x.1).cause ≢ Memory). (walk_step {w = w} is at_body place carries (holds other).goes).leaves in
       record {
-        from = place.0;
-        within = place.1;
+        place = place;
         keeps = λ before start now was. let o = rw at_body at was in inl (carries (templates_in t.set.now) before start o.keeps);
         stops = λ other before start now was.
             let l = goes other before start now was in
@@ -220,8 +217,7 @@ module _ {R E : Type 0} {receiver : Receiving R} {entries : Ghosts E} {t : Trave
   pub message_ends : {u : TraversalNow} {s : R} → t.stage ≡ stage.Body → IsWhole t.walk → at ≤ length bytes → KeepScalars (entries.contents d) → u.set ≡ t.set
       → IsLeftClear t.level t.walk.bits → Completes (receiver.has r) (receiver.stands s) → (u.stage ≡ stage.Map) × (u.template ≡ 0) → MessageRead receiver entries t r d bytes at at u s d
   message_ends at_body whole place kept set clear stands between = record {
-    from = omega arith;
-    within = place;
+    place = (omega arith, place);
     took = λ map. let k : stage.Body ≡ stage.Map = sym at_body ∙ map in absurd cc;
     finishes = λ before start now was.
         let e : IsReceived receiver entries t r d before start now = received receiver entries t r d at_body whole before start now was in
@@ -240,8 +236,7 @@ module _ {R E : Type 0} {receiver : Receiving R} {entries : Ghosts E} {t : Trave
   pub end_refused : {u : TraversalNow} {s : R} {h : Halt} → t.stage ≡ stage.Body → IsWhole t.walk → at ≤ length bytes → u.set ≡ t.set → u.template ≡ t.template → Carries (receiver.keeps r) (receiver.keeps s)
       → (h.cause ≢ Memory → (t.level ≡ Strict) × (h.cause ≡ R8) × (h.number ≡ 0) × (some_set t.walk.bits ≡ true)) → MessageStops receiver entries t r d bytes at (at, h) u s d
   end_refused {h = h} at_body whole place set template carries refused = record {
-    from = omega arith;
-    within = place;
+    place = (omega arith, place);
     keeps = λ before start now was. let o = rw at_body at was in rw set (inl (carries (templates_in t.set.now) before start o.keeps));
     stops = λ other before start now was.
         let e : IsReceived receiver entries t r d before start now = received receiver entries t r d at_body whole before start now was in

@@ -33,8 +33,7 @@ pub record IsSameSet {E : Type 0} (entries : Ghosts E) (t : TraversalNow) (d : E
 
 -- A message's map is read, up to a place.
 pub record MapRead (t : TraversalNow) (bytes : List ℕ) (at n : ℕ) (u : TraversalNow) : Type 0 where
-  pub from : at < n
-  pub within : n ≤ length bytes
+  pub place : (at < n) × (n ≤ length bytes)
   pub goes : (d : Dictionary) (more : List ℕ)
       → message_at t.level (templates_in t.set.now) d (drop at bytes ++ more) ≡ identifier_on t.level (templates_in t.set.now) d u.walk.bits (drop n bytes ++ more)
   pub stage : u.stage ≡ stage.Identifier
@@ -46,16 +45,14 @@ pub record MapRead (t : TraversalNow) (bytes : List ℕ) (at n : ℕ) (u : Trave
 
 -- Reading has gone on from one place to another, inside a message.
 pub record IsStep {R E : Type 0} (receiver : Receiving R) (entries : Ghosts E) (t : TraversalNow) (r : R) (d : E) (bytes : List ℕ) (at n : ℕ) (u : TraversalNow) (s : R) (e : E) : Type 0 where
-  pub from : at ≤ n
-  pub within : n ≤ length bytes
+  pub place : (at ≤ n) × (n ≤ length bytes)
   pub took : t.stage ≡ stage.Map → at < n
   pub inside : u.stage ≢ stage.Map
   pub leaves : LeavesOn (LeftOf receiver entries t r d) (LeftOf receiver entries u s e) (drop at bytes) (drop n bytes)
 
 -- A message is read to its end, at a place.
 pub record MessageRead {R E : Type 0} (receiver : Receiving R) (entries : Ghosts E) (t : TraversalNow) (r : R) (d : E) (bytes : List ℕ) (at n : ℕ) (u : TraversalNow) (s : R) (e : E) : Type 0 where
-  pub from : at ≤ n
-  pub within : n ≤ length bytes
+  pub place : (at ≤ n) × (n ≤ length bytes)
   -- a message has a byte
   pub took : t.stage ≡ stage.Map → at < n
   pub finishes : Finishes (LeftOf receiver entries t r d) (receiver.stands s (templates_in u.set.now)) (entries.contents e) (drop at bytes) (drop n bytes)
@@ -74,8 +71,7 @@ pub record MessageWaits {R E : Type 0} (receiver : Receiving R) (entries : Ghost
 
 -- Reading a message stops at a place.
 pub record MessageStops {R E : Type 0} (receiver : Receiving R) (entries : Ghosts E) (t : TraversalNow) (r : R) (d : E) (bytes : List ℕ) (at : ℕ) (x : ℕ × Halt) (u : TraversalNow) (s : R) (e : E) : Type 0 where
-  pub from : at ≤ x.0
-  pub within : x.0 ≤ length bytes
+  pub place : (at ≤ x.0) × (x.0 ≤ length bytes)
   pub keeps : KeepsBefore (LeftOf receiver entries t r d) (receiver.keeps s (templates_in u.set.now)) (receiver.stands s (templates_in u.set.now))
   pub stops : (x.1).cause ≢ Memory → StopsAt (LeftOf receiver entries t r d) u.template x.1 (drop at bytes) (drop x.0 bytes)
   pub waits : (x.1).cause ≡ Truncated → MessageWaits receiver entries t r d bytes at x.0 u s e

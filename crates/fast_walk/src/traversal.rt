@@ -232,6 +232,7 @@ impl<'a> Traversal<'a> {
     }
 
     // Reads a message from its identifier on.
+    #[tactic(auto, using(crate::proofs::Messages::read_behind))]
     #[inline(always)]
     fn behind_map<R: Receiver, E: Entries>(
         &mut self,
@@ -256,6 +257,7 @@ impl<'a> Traversal<'a> {
 
     // Reads the next message from its map on, or from its identifier on where that is next. (A function of its own: where
     // a body is next, nothing of this is set up.)
+    #[tactic(auto, using(crate::proofs::Messages::map_can, crate::proofs::Messages::read_behind_map))]
     #[inline(never)]
     fn begin<R: Receiver, E: Entries>(
         &mut self,

@@ -59,10 +59,8 @@ returns-in-Some-clause-reads g c =
     let named = found_members old.set.now id ∙ ap members_found (sym (rw (c.in-Some.is) at c.find.ensures.value)) in
     let walk = c.open_message.new.self in
     let end = c.open_message.ensures in
-    let place = c.in-Ok.ensures.place in
     record {
-      from = place.0;
-      within = place.1;
+      place = c.in-Ok.ensures.place;
       took = λ map. let k : stage.Identifier ≡ stage.Map = sym c.requires.stage ∙ map in absurd cc;
       inside = λ map. absurd cc;
       leaves = λ before start read was.

@@ -13,8 +13,7 @@ returns-in_err-bits c =
 
 pub returns : goal.returns
 returns c = record {
-  from = search rules;
-  within = search rules;
+  place = search rules;
   stage = refl;
   template = refl;
   spare = refl;
