@@ -21,7 +21,7 @@ use Rattle.fast_walk.specs.Traversals.{ContinuesAt, begun_at, begun_of, stop_of}
 use Rattle.fast_walk.specs.declared.halt.Halt.{Halt}
 use Rattle.fast_walk.specs.declared.receiver.Receiver.{Ghosts as Receiving}
 use Rattle.fast_walk.proofs.Steps.{with_none}
-use Rattle.fast_machine.specs.Runs.{Forgets, Run, RunCarried, ReadsOn, ReadsRun, RunHasAll, Having, Standing, RunStands, RunStops, Unfinished}
+use Rattle.fast_machine.specs.Runs.{Forgets, Run, ReadsOn, ReadsRun, Having, Standing, RunStands, RunStops, Unfinished}
 use Rattle.fast_stream.proofs.MessageReaders.{message_found}
 
 -- one message more

@@ -105,6 +105,7 @@ impl<'a, R: Receiver, E: Entries> Machine<'a, R, E> {
     ghost use Rattle.fast_machine.specs.Following.{Answers, Follows, IsCutAt, mode_of};
 
     /// A machine over a set, at the beginning of a stream. The entries are reset. Takes no memory.
+    #[tactic(auto, using(crate::proofs::Calls::kept_first))]
     pub fn new(
         alloc: Global,
         set: &'a TemplateSet,
@@ -246,10 +247,7 @@ impl<'a, R: Receiver, E: Entries> Machine<'a, R, E> {
         requires few { length rest.now ≤ 65554 }
         ensures follows { FollowsWaiting self.old rest.now self.old.waiting self.new }
         ensures answer { AnswersNone result self.new.fault }
-        ensures traversal { self.new.traversal ≡ self.old.traversal }
-        ensures entries { self.new.entries ≡ self.old.entries }
-        ensures fed { self.new.fed ≡ self.old.fed }
-        ensures framing { self.new.framing ≡ self.old.framing }
+        ensures stays { StaysAt self.old self.new }
     {
         match append(&mut self.held, rest) {
             Err(_) => Err(self.refuse()),
@@ -269,10 +267,7 @@ impl<'a, R: Receiver, E: Entries> Machine<'a, R, E> {
         requires few { length rest.now ≤ 65554 }
         ensures follows { FollowsWaiting self.old rest.now number self.new }
         ensures answer { AnswersNone result self.new.fault }
-        ensures traversal { self.new.traversal ≡ self.old.traversal }
-        ensures entries { self.new.entries ≡ self.old.entries }
-        ensures fed { self.new.fed ≡ self.old.fed }
-        ensures framing { self.new.framing ≡ self.old.framing }
+        ensures stays { StaysAt self.old self.new }
     {
         self.waiting = number;
         // (nothing has come of the next piece, mostly)
@@ -794,6 +789,7 @@ impl<'a, R: Receiver, E: Entries> Machine<'a, R, E> {
     }
 
     /// Begins a new stream, with all entries undefined; the receiver stays. Takes no memory.
+    #[tactic(auto, using(crate::proofs::Calls::kept_first))]
     pub fn reset(&mut self)
         ensures set { self.new.traversal.set ≡ self.old.traversal.set }
         ensures mode { mode_of self.new ≡ mode_of self.old }

@@ -1,10 +1,10 @@
-use Rattle.std.proofs.Common.{◌≢◌, ◌≡◌, ◌<◌, ◌+◌, ◌-◌, ◌++◌, [], ℕ, List, Some, length, append-nil, drop, sym, ap, refl, arith}
+use Rattle.std.proofs.Common.{◌≢◌, ◌≡◌, ◌<◌, ◌+◌, ◌-◌, ◌++◌, ℕ, List, Some, length, drop, sym, ap, refl, arith}
 use Rattle.fast_template.specs.TemplateSets.{templates_in}
 use Rattle.fast_stream.specs.declared.fault.Cause.TheVariants.{Truncated, BlockEnd}
 use Rattle.fast_stream.specs.declared.mode.Framing.TheVariants.{Blocks}
 use Rattle.fast_stream.specs.Nodes.{Content}
 use Rattle.fast_machine.specs.Standing.{framed_as}
-use Rattle.fast_machine.proofs.Calls.{Finds, finds_fault, finds_waiting, follows_kept, place_none}
+use Rattle.fast_machine.proofs.Calls.{Finds, finds_fault, finds_waiting, follows_kept}
 use Rattle.fast_machine.proofs.Followings.{fault_refused, not_truncated, slice_rest}
 use Rattle.fast_machine.proofs.BlockReads.{IsOpen, block_cuts, block_goes, block_halts, empty_window}
 use Rattle.fast_machine.proofs.machine.Machine.read_block.Given as given
@@ -27,9 +27,6 @@ halted : (g : given.Over) (c : In-Some g) → IsOpen c.level.result c.args.self.
     → Finds Blocks c.args.self.now c.args.bytes.now c.read_if_any-progress.result.messages c.counted-self.result (Some c.in-Some.halt) (c.in-Ok.opened.0 - c.read_if_any-progress.result.at)
     c.read_if_any-progress.new.traversal c.read_if_any-progress.new.receiver (g.E.Entries.contents c.read_if_any-progress.new.entries) (drop (c.in-Ok.opened.1 + c.read_if_any-progress.result.at) c.args.bytes.now)
 halted g c block = let p = c.read_if_any-progress in block_halts c.args.self.now c.counted-self.result c.level.ensures block p.ensures.leaves p.ensures.ended c.counted-self.ensures c.in-Some.halt c.in-Some.is
-
-pub returns-in-Err-clause-place : goal.returns-in-Err-clause-place
-returns-in-Err-clause-place g c = place_none _ _ _ c.stop_at_size.ensures.answer
 
 pub returns-in-None-clause-reads : goal.returns-in-None-clause-reads
 returns-in-None-clause-reads g c = (
@@ -75,9 +72,6 @@ returns-else-self-rest-clause-reads g c =
     let rest = slice_rest c.args.bytes.now (c.in-Ok.opened.1 + c.read_if_any-progress.result.at) in
     let size = ap (λ (xs : List ℕ). length xs) rest in
     finds_waiting _ (halted g at.In-Some (opened g at.After-within-room) (λ wanted. omega (arith, size, c.if-self-rest.false))) c.in-Truncated.is rest (rw (c.requires.framing) at c.hold.ensures.follows) c.hold.ensures.answer
-
-pub returns-else-self-rest-clause-place : goal.returns-else-self-rest-clause-place
-returns-else-self-rest-clause-place g c = place_none _ _ _ c.hold.ensures.answer
 
 pub returns-in_default-clause-reads : goal.returns-in_default-clause-reads
 returns-in_default-clause-reads g c =

@@ -1,9 +1,8 @@
-use Rattle.std.proofs.Common.{◌≡◌, ◌≢◌, ◌≤◌, ◌∙◌, [], ℕ, List, Some, drop, length, sym, ap, subst, refl, arith, rules}
-use Rattle.std.proofs.lemmas.List.{length-drop}
+use Rattle.std.proofs.Common.{◌≢◌, ◌∙◌, ℕ, List, Some, drop, length, sym, ap, refl, arith}
 use Rattle.fast_stream.specs.declared.fault.Cause.TheVariants.{Truncated}
 use Rattle.fast_stream.specs.declared.mode.Framing.TheVariants.{Plain}
 use Rattle.fast_stream.specs.Nodes.{Content}
-use Rattle.fast_machine.proofs.Calls.{Finds, finds_fault, finds_waiting, place_none}
+use Rattle.fast_machine.proofs.Calls.{Finds, finds_fault, finds_waiting}
 use Rattle.fast_machine.proofs.Followings.{not_truncated, slice_rest}
 use Rattle.fast_machine.proofs.PlainReads.{plain_goes, plain_halts}
 use Rattle.fast_machine.proofs.machine.Machine.read_plain.Given as given
@@ -29,9 +28,6 @@ pub returns-in-Truncated-clause-reads : goal.returns-in-Truncated-clause-reads
 returns-in-Truncated-clause-reads g c =
     finds_waiting _ (halted g (goal.at.returns-in-Truncated-clause-reads g c).In-Some) c.in-Truncated.is (slice_rest c.args.bytes.now c.read_message-progress.result.at) (rw (c.requires.framing) at c.hold.ensures.follows) c.hold.ensures.answer
 
-pub returns-in-Truncated-clause-place : goal.returns-in-Truncated-clause-place
-returns-in-Truncated-clause-place g c = place_none _ _ _ c.hold.ensures.answer
-
 pub returns-in_default-clause-reads : goal.returns-in_default-clause-reads
 returns-in_default-clause-reads g c =
     let other : c.in-Some.halt.cause ≢ Truncated = λ e. c.in_default.not-Truncated e in (
@@ -42,11 +38,3 @@ returns-in_default-clause-reads g c =
           (ap (λ (xs : List ℕ). length xs) (sym (slice_rest c.args.bytes.now c.read_message-progress.result.at))) (rw (c.template-template.ensures) at c.fault_of-fault.ensures.refused) before fed messages short counts stands in
           (f.ended, record { at = (f.leaves.0, c.requires.nothing.held, f.leaves.1); counts = f.counts }),
     )
-
-pub hold-requires-clause-few : goal.hold-requires-clause-few
-hold-requires-clause-few g c =
-    let bytes = c.args.bytes.now in
-    let n = c.read_message-progress.result.at in
-    let wanted = rw (c.in-Some.is) at c.read_message-progress.ensures.leaves.ends in
-    let size = length-drop n bytes in
-    subst (λ (xs : List ℕ). length xs ≤ 65554) (sym (slice_rest bytes n)) (omega (arith, size, (wanted c.in-Truncated.is).1))

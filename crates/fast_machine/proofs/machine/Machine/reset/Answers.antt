@@ -1,9 +1,6 @@
 use Rattle.std.proofs.Common.{refl}
-use Rattle.fast_machine.proofs.Calls.{follows_first, kept_first}
+use Rattle.fast_machine.proofs.Calls.{follows_first}
 use Rattle.fast_machine.proofs.machine.Machine.reset.Goals as goal
 
 pub returns-clause-follows : goal.returns-clause-follows
 returns-clause-follows g c = λ before stands. follows_first refl c.clear.ensures.items refl refl refl c.reset-2.ensures.stage c.reset.ensures.cleared before (rw (c.reset-2.ensures.set) stands)
-
-pub invariant_of-self-clause-kept : goal.invariant_of-self-clause-kept
-invariant_of-self-clause-kept g c = λ none. kept_first c.reset.ensures.cleared
