@@ -184,7 +184,7 @@ module _ {R E : Type 0} {receiver : Receiving R} {entries : Ghosts E} (old : Mac
   is_window = window_is room at size bytes opens.place opens.few opens.least
 
   set : u.set.now ≡ old.traversal.set.now
-  set = ap (λ x. x.now) leaves.set
+  set = ap (λ x. x.now) leaves.same.set
 
   ended : (halt : Option Halt) → ReadsRun receiver.has receiver.stands receiver.keeps old.traversal old.receiver (entries.contents old.entries) window p.messages halt u s (entries.contents e) (drop p.at window)
       → (before : List Content) (fed : List ℕ) (messages : List Content) (b : Opened before fed messages)
@@ -202,7 +202,7 @@ module _ {R E : Type 0} {receiver : Receiving R} {entries : Ghosts E} (old : Mac
         let b = open_now before fed messages stands in
         let r = ended None (rw (is) at reads) before fed messages b in
         let H = After (before ++ r.0) in
-        let goes = block_stands_behind (Before before) old.traversal u room p.at (drop at bytes) window fed messages r.0 b is_window leaves.place leaves.level set H r.2.1 r.2.0 in
+        let goes = block_stands_behind (Before before) old.traversal u room p.at (drop at bytes) window fed messages r.0 b is_window leaves.place leaves.same.level set H r.2.1 r.2.0 in
         found_of Blocks u _ _ _ count fed messages r.0 _ counted short counts r.1 (carried_of Blocks (room - p.at) H u (drop p.at (drop at bytes)) fed (messages ++ r.0) goes)
         (subst (λ (xs : List ℕ). Stands Blocks (room - p.at) H u xs fed (messages ++ r.0)) unread_is goes);
   }
@@ -215,18 +215,18 @@ module _ {R E : Type 0} {receiver : Receiving R} {entries : Ghosts E} (old : Mac
         let r = ended (Some h) (rw (is) at reads) before fed messages b in
         let G = Before before in
         let unread = drop at bytes in
-        let carried = block_carried G old.traversal u room p.at unread window fed messages r.0 b is_window leaves.place leaves.level set (λ d rest. Unit {0}) r.2.0 in
+        let carried = block_carried G old.traversal u room p.at unread window fed messages r.0 b is_window leaves.place leaves.same.level set (λ d rest. Unit {0}) r.2.0 in
         found_of Blocks u _ _ _ count fed messages r.0 _ counted short counts r.1 carried
         (subst (λ (xs : List ℕ). StreamEnds receiver.has receiver.stands receiver.keeps (Some h) Blocks (room - p.at) u s (entries.contents e) (before ++ r.0) xs fed (messages ++ r.0)) unread_is (
           carried,
           (λ wanted.
               let few : length (drop p.at unread) < room - p.at = rw (unread_is) (more wanted) in (
-                block_waits G old.traversal u room p.at unread window fed messages r.0 b is_window leaves.place leaves.level set h few (r.2.1 (not_memory h.cause wanted)),
-                block_stands G old.traversal u room p.at unread window fed messages r.0 b is_window leaves.place leaves.level set (After (before ++ r.0)) (omega (arith, few)) (r.2.2 wanted),
+                block_waits G old.traversal u room p.at unread window fed messages r.0 b is_window leaves.place leaves.same.level set h few (r.2.1 (not_memory h.cause wanted)),
+                block_stands G old.traversal u room p.at unread window fed messages r.0 b is_window leaves.place leaves.same.level set (After (before ++ r.0)) (omega (arith, few)) (r.2.2 wanted),
               )),
           (λ other. (
-            (λ known. block_faults G old.traversal u room p.at unread window fed messages r.0 b is_window leaves.place leaves.level set h other (r.2.1 known)),
-            block_has_all G old.traversal u room p.at unread window fed messages r.0 b is_window leaves.place leaves.level set receiver.stands s (before ++ r.0) (r.2.3 other),
+            (λ known. block_faults G old.traversal u room p.at unread window fed messages r.0 b is_window leaves.place leaves.same.level set h other (r.2.1 known)),
+            block_has_all G old.traversal u room p.at unread window fed messages r.0 b is_window leaves.place leaves.same.level set receiver.stands s (before ++ r.0) (r.2.3 other),
           )),
         ));
   }
@@ -242,10 +242,10 @@ module _ {R E : Type 0} {receiver : Receiving R} {entries : Ghosts E} (old : Mac
       let r = ended (Some h) (rw (is) at reads) before fed messages b in
       let G = Before before in
       let unread = drop at bytes in
-      let carried = block_carried G old.traversal u room p.at unread window fed messages r.0 b is_window leaves.place leaves.level set (λ d rest. Unit {0}) r.2.0 in
+      let carried = block_carried G old.traversal u room p.at unread window fed messages r.0 b is_window leaves.place leaves.same.level set (λ d rest. Unit {0}) r.2.0 in
       found_of Blocks u _ _ _ count fed messages r.0 _ counted short counts r.1 carried (rw (same) (
         carried,
         subst (λ (xs : List ℕ). StopsBehind (framed_as Blocks u) (templates_in u.set.now) fed (messages ++ r.0) (record { template = u.template; stop = record { cause = BlockEnd; instruction = h.number; left = length xs } })) unread_is
-            (block_stops G old.traversal u room p.at unread window fed messages r.0 b is_window leaves.place leaves.level set h wanted (rw (unread_is) full) (r.2.1 (not_memory h.cause wanted))),
-        block_forgets G old.traversal u room p.at unread window fed messages r.0 b is_window leaves.place leaves.level set receiver.has receiver.stands receiver.keeps s after (entries.contents e) (before ++ r.0) forgotten (r.2.2 wanted),
+            (block_stops G old.traversal u room p.at unread window fed messages r.0 b is_window leaves.place leaves.same.level set h wanted (rw (unread_is) full) (r.2.1 (not_memory h.cause wanted))),
+        block_forgets G old.traversal u room p.at unread window fed messages r.0 b is_window leaves.place leaves.same.level set receiver.has receiver.stands receiver.keeps s after (entries.contents e) (before ++ r.0) forgotten (r.2.2 wanted),
       ))

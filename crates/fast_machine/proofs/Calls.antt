@@ -1,5 +1,6 @@
 -- What a machine follows behind a chunk more, behind a fault that it keeps, and behind a read of a message.
-use Rattle.std.proofs.Common.{◌≡◌, ◌≢◌, ◌≤◌, ◌<◌, ◌^◌, ◌+◌, ℕ, List, ◌++◌, Option, Some, None, length, length-append, arith, refl, subst, inr}
+use Rattle.std.proofs.Common.{◌≡◌, ◌≢◌, ◌≤◌, ◌<◌, ◌^◌, ◌+◌, ℕ, List, [], ◌++◌, Option, Some, None, Result, Ok, Err, IfOk, IfSome, length, length-append, arith, refl, sym, subst, inl, inr}
+use Rattle.std.specs.FinMap as finite
 use Rattle.fast_wire.specs.Reader.{IsBytes}
 use Rattle.fast_template.specs.TemplateSets.{IsSound, templates_in}
 use Rattle.fast_dictionary.specs.Dictionary.{Dictionary}
@@ -10,14 +11,17 @@ use Rattle.fast_stream.specs.declared.mode.Framing.{Framing}
 use Rattle.fast_stream.specs.Nodes.{Content}
 use Rattle.fast_walk.specs.declared.halt.Halt.{Halt}
 use Rattle.fast_walk.specs.declared.receiver.Receiver.{Ghosts as Receiving}
+use Rattle.fast_walk.specs.declared.traversal.Stage.TheVariants as stage
 use Rattle.fast_walk.specs.declared.traversal.Traversal.{Traversal}
+use Rattle.fast_walk.specs.Told.{KeepScalars}
+use Rattle.fast_walk.proofs.Telling.{empty_kept}
 use Rattle.fast_walk.specs.Traversals.{stop_of}
 use Rattle.fast_machine.specs.declared.machine.Machine.{Machine}
 use Rattle.fast_machine.specs.Runs.{Having, ReadsOn, Standing}
 use Rattle.fast_machine.specs.Standing.{Carried, HasAll, Stands, StopsBehind, framed_as}
 use Rattle.fast_machine.specs.Following.{Counts, Follows, Refused, Waits, mode_of}
-use Rattle.fast_machine.specs.Calls.{FollowsBehind, IsFault, IsFaultOf, KeepsFault, StandsAt, StaysAt}
-use Rattle.fast_machine.proofs.Standings.{carried_of}
+use Rattle.fast_machine.specs.Calls.{AnswersNone, FollowsBehind, IsFault, IsFaultOf, KeepsFault, ReadsNext, StandsAt, StaysAt}
+use Rattle.fast_machine.proofs.Standings.{carried_of, stands_first}
 use Rattle.fast_machine.proofs.Followings.{counts_fed, counts_pushed, few_messages, left_behind, memory_refused, stands_fed}
 
 -- ---- a chunk more
@@ -69,6 +73,19 @@ follows_without_memory {receiver = receiver} {entries = entries} {old = old} {fa
     (memory_refused fault (mode_of old) (templates_in old.traversal.set.now) fed messages old.fed old.messages counts short
     (carried_of old.framing old.left (ReadsOn receiver.has receiver.stands receiver.keeps old.traversal old.receiver (entries.contents old.entries) before) old.traversal unread fed messages stands) is)
 
+-- ---- nothing is fed
+
+-- a new stream is followed
+pub follows_first : {R E : Type 0} {receiver : Receiving R} {entries : Ghosts E} {m : Machine R E receiver entries} → m.fault ≡ None → m.held.items ≡ [] → m.left ≡ 0 → m.fed ≡ 0 → m.messages ≡ 0 → m.traversal.stage ≡ stage.Map → entries.contents m.entries ≡ finite.empty
+    → (before : List Content) → receiver.stands m.receiver (templates_in m.traversal.set.now) before finite.empty → Follows m before [] []
+follows_first {receiver = receiver} {entries = entries} {m = m} none held left fed messages at cleared before stands = record {
+  at = rw (none, held, left) (stands_first receiver.has receiver.stands receiver.keeps m.framing m.traversal m.receiver (entries.contents m.entries) before at (rw cleared stands) cleared, inl (at, refl, refl));
+  counts = record { fed_is = fed; count_is = messages };
+}
+
+pub kept_first : {d : Dictionary} → d ≡ finite.empty → KeepScalars d
+kept_first cleared = rw cleared empty_kept
+
 -- ---- a read of a message
 
 -- How the reading of a stream ends, as that of a message does: it can go on where bytes are wanted, or the receiver has
@@ -102,21 +119,31 @@ pub record Finds {R E : Type 0} {receiver : Receiving R} {entries : Ghosts E} (f
   pub found : (before : List Content) (fed : List ℕ) (messages : List Content) → length fed ≤ 2 ^ 60 → Counts old.fed old.messages fed messages → StandsAt framing old before bytes fed messages
       → Found number old.fed count fed messages (λ ended. StreamEnds receiver.has receiver.stands receiver.keeps halt framing left u s e (before ++ ended) unread fed (messages ++ ended))
 
+-- nothing ends in these bytes
+pub reads_none : {R E : Type 0} {receiver : Receiving R} {entries : Ghosts E} {framing : Framing} {new : Machine R E receiver entries} (old : Machine R E receiver entries) (bytes : List ℕ) (result : Result (Option ℕ) Fault)
+    → AnswersNone result new.fault → FollowsBehind framing old bytes new → ReadsNext framing old bytes result new
+reads_none old bytes (Ok place) answer follows = rw (answer.0) (tt, (answer.1, follows))
+reads_none old bytes (Err f) answer follows = (answer.0, answer.1, follows)
+
+pub place_none : (P : ℕ → Type 0) (fault : Option Fault) (result : Result (Option ℕ) Fault) → AnswersNone result fault → IfOk result (λ o. IfSome o P)
+place_none P fault (Ok place) answer = rw (answer.0) tt
+place_none P fault (Err f) answer = tt
+
 -- where bytes are wanted, those unread are held
-pub finds_waiting : {R E : Type 0} {receiver : Receiving R} {entries : Ghosts E} {framing : Framing} {old new : Machine R E receiver entries} {bytes : List ℕ} {number count : ℕ} {h : Halt} {left : ℕ} {u : Traversal} {s : R} {e : Dictionary} {unread rest : List ℕ}
-    → Finds framing old bytes number count (Some h) left u s e unread → h.cause ≡ Truncated → unread ≡ rest
+pub finds_waiting : {R E : Type 0} {receiver : Receiving R} {entries : Ghosts E} {framing : Framing} {old new : Machine R E receiver entries} {bytes : List ℕ} {number count : ℕ} {h : Halt} {left : ℕ} {u : Traversal} {s : R} {e : Dictionary} {unread rest : List ℕ} (result : Result (Option ℕ) Fault)
+    → Finds framing old bytes number count (Some h) left u s e unread → h.cause ≡ Truncated → rest ≡ unread
     → ((before : List Content) (fed : List ℕ) (messages : List Content) → length fed < 2 ^ 61 → Counts old.fed count fed messages
     → Stands framing left (ReadsOn receiver.has receiver.stands receiver.keeps u s e before) u rest fed messages → Waits framing left u rest h.number fed messages → Follows new before fed messages)
-    → FollowsBehind framing old bytes new
-finds_waiting {receiver = receiver} {framing = framing} {h = h} {left = left} {u = u} {s = s} {e = e} finds is same held before fed messages short counts stands =
+    → AnswersNone result new.fault → ReadsNext framing old bytes result new
+finds_waiting {receiver = receiver} {framing = framing} {old = old} {bytes = bytes} {h = h} {left = left} {u = u} {s = s} {e = e} result finds is same held answer = reads_none old bytes result answer (λ before fed messages short counts stands.
     let f = finds.found before fed messages short counts stands in
     let all = messages ++ f.ended in
     let waits = f.leaves.1 is in (
       f.ended,
       held (before ++ f.ended) fed all (omega (arith, short)) f.counts
-          (subst (λ (xs : List ℕ). Stands framing left (ReadsOn receiver.has receiver.stands receiver.keeps u s e (before ++ f.ended)) u xs fed all) same waits.1)
-          (inr (subst (λ (xs : List ℕ). StopsBehind (framed_as framing u) (templates_in u.set.now) fed all (stop_of u.template (record { cause = Truncated; number = h.number; by = h.by }) xs)) same (rw is at waits.0))),
-    )
+          (subst (λ (xs : List ℕ). Stands framing left (ReadsOn receiver.has receiver.stands receiver.keeps u s e (before ++ f.ended)) u xs fed all) (sym same) waits.1)
+          (inr (subst (λ (xs : List ℕ). StopsBehind (framed_as framing u) (templates_in u.set.now) fed all (stop_of u.template (record { cause = Truncated; number = h.number; by = h.by }) xs)) (sym same) (rw is at waits.0))),
+    ))
 
 -- another fault is the first
 pub finds_fault : {R E : Type 0} {receiver : Receiving R} {entries : Ghosts E} {framing now : Framing} {old : Machine R E receiver entries} {bytes : List ℕ} {number count : ℕ} {h : Halt} {left : ℕ} {u : Traversal} {s : R} {e : Dictionary} {unread : List ℕ} (fault : Fault) (size : ℕ)

@@ -151,24 +151,13 @@ fault_refused f mode set stop bytes messages fed count typed counts short carrie
     let few = few_messages mode set bytes messages carried in
     let same = counts.count_is in
     let numbered = is.message_is (omega (arith, few, same, short)) ∙ ap (λ (n : ℕ). n + 1) same in
+    let placed : f.place ≡ place_of (length bytes) (length messages) stop =
+    place_same f.place.message (length messages + 1) f.place.offset (length bytes - stop.stop.left) f.place.template stop.template f.place.instruction stop.stop.instruction
+    numbered (is.offset_is ∙ ap (λ (n : ℕ). n - stop.stop.left) counts.fed_is) is.template_is is.instruction_is in
     let first = first_fault mode set typed bytes messages stop stops in (
       carried,
       numbered,
-      (λ known. record {
-        messages = first.messages;
-        stand = first.stand;
-        front = first.front;
-        rest = first.rest;
-        stop = first.stop;
-        parts = first.parts;
-        carried = first.carried;
-        goes_on = first.goes_on;
-        stops = first.stops;
-        cause_is = is.cause_is ∙ first.cause_is;
-        place_is = place_same f.place.message (length messages + 1) f.place.offset (length bytes - stop.stop.left) f.place.template stop.template f.place.instruction stop.stop.instruction
-            numbered (is.offset_is ∙ ap (λ (n : ℕ). n - stop.stop.left) counts.fed_is) is.template_is is.instruction_is
-            ∙ first.place_is;
-      }),
+      (λ known. rw (placed, is.cause_is) first),
       λ memory. absurd (other (sym is.cause_is ∙ memory)),
     )
 

@@ -62,7 +62,7 @@ module _ {R E : Type 0} {receiver : Receiving R} {entries : Ghosts E} (old : Mac
   Behind before = ReadsOn receiver.has receiver.stands receiver.keeps u s (entries.contents e) before
 
   set : u.set.now ≡ old.traversal.set.now
-  set = ap (λ x. x.now) leaves.set
+  set = ap (λ x. x.now) leaves.same.set
 
   ended : (halt : Option Halt) → ReadsRun receiver.has receiver.stands receiver.keeps old.traversal old.receiver (entries.contents old.entries) bytes p.messages halt u s (entries.contents e) (drop p.at bytes)
       → (before : List Content) (fed : List ℕ) (messages : List Content) (b : StandsAt Plain old before bytes fed messages)
@@ -73,7 +73,7 @@ module _ {R E : Type 0} {receiver : Receiving R} {entries : Ghosts E} (old : Mac
   plain_goes is = record {
     found = λ before fed messages short counts b.
         let r = ended None (rw (is) at reads) before fed messages b in
-        let goes = plain_stands (Before before) old.traversal u old.left bytes fed messages r.0 b leaves.level set (Behind (before ++ r.0)) (drop p.at bytes) r.2.0 in
+        let goes = plain_stands (Before before) old.traversal u old.left bytes fed messages r.0 b leaves.same.level set (Behind (before ++ r.0)) (drop p.at bytes) r.2.0 in
         found_of Plain u _ _ _ count fed messages r.0 _ counted short counts r.1 (carried_of Plain old.left (Behind (before ++ r.0)) u (drop p.at bytes) fed (messages ++ r.0) goes) goes;
   }
 
@@ -82,11 +82,11 @@ module _ {R E : Type 0} {receiver : Receiving R} {entries : Ghosts E} (old : Mac
     found = λ before fed messages short counts b.
         let r = ended (Some h) (rw (is) at reads) before fed messages b in
         let G = Before before in
-        let carried = plain_carried G old.traversal u old.left bytes fed messages r.0 b leaves.level set (λ d rest. Unit {0}) r.2.0 in
-        let stops = λ (known : h.cause ≢ Memory). plain_stops G old.traversal u old.left bytes fed messages r.0 b leaves.level set (stop_of u.template h (drop p.at bytes)) (r.2.1 known) in
+        let carried = plain_carried G old.traversal u old.left bytes fed messages r.0 b leaves.same.level set (λ d rest. Unit {0}) r.2.0 in
+        let stops = λ (known : h.cause ≢ Memory). plain_stops G old.traversal u old.left bytes fed messages r.0 b leaves.same.level set (stop_of u.template h (drop p.at bytes)) (r.2.1 known) in
         found_of Plain u _ _ _ count fed messages r.0 _ counted short counts r.1 carried (
           carried,
-          (λ wanted. (stops (not_memory h.cause wanted), plain_stands G old.traversal u old.left bytes fed messages r.0 b leaves.level set (Behind (before ++ r.0)) (drop p.at bytes) (r.2.2 wanted))),
-          (λ other. (stops, plain_has_all G old.traversal u old.left bytes fed messages r.0 b leaves.level set receiver.stands s (before ++ r.0) (r.2.3 other))),
+          (λ wanted. (stops (not_memory h.cause wanted), plain_stands G old.traversal u old.left bytes fed messages r.0 b leaves.same.level set (Behind (before ++ r.0)) (drop p.at bytes) (r.2.2 wanted))),
+          (λ other. (stops, plain_has_all G old.traversal u old.left bytes fed messages r.0 b leaves.same.level set receiver.stands s (before ++ r.0) (r.2.3 other))),
         );
   }

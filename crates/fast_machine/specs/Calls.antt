@@ -1,5 +1,5 @@
 -- What the calls of a machine answer and leave.
-use Rattle.std.specs.Prelude.{◌≡◌, ◌≢◌, ◌≤◌, ◌<◌, ◌^◌, ℕ, ◌+◌, List, [], ◌++◌, length, take, drop, Option, Some, None, Result, Ok, Err, IfOk, IfErr, IfSome, IfNone}
+use Rattle.std.specs.Prelude.{◌≡◌, ◌≢◌, ◌≤◌, ◌<◌, ◌^◌, ℕ, ◌+◌, List, [], ◌++◌, length, take, drop, Option, Some, None, Result, Ok, Err, IfOk, IfErr, IfSome, IfNone, MatchOption}
 use Rattle.fast_stream.specs.declared.fault.Cause.{Cause}
 use Rattle.fast_stream.specs.declared.fault.Cause.TheVariants.{Truncated, Memory}
 use Rattle.fast_stream.specs.declared.fault.Fault.{Fault}
@@ -12,9 +12,8 @@ use Rattle.fast_walk.specs.declared.receiver.Receiver.{Ghosts as Receiving}
 use Rattle.fast_walk.specs.declared.traversal.Stage.TheVariants as stage
 use Rattle.fast_walk.specs.declared.traversal.Traversal.{Traversal}
 use Rattle.fast_walk.specs.declared.halt.Halt.{Halt}
-use Rattle.fast_walk.specs.Room.{HasRoomAt}
-use Rattle.fast_walk.specs.Told.{KeepScalars}
-use Rattle.fast_walk.specs.Traversals.{CanGoOn, begun_of, stop_of}
+use Rattle.fast_walk.specs.Messages.{CanRead, IsSameSet}
+use Rattle.fast_walk.specs.Traversals.{begun_of, stop_of}
 use Rattle.fast_machine.specs.declared.machine.Machine.{Machine}
 use Rattle.fast_machine.specs.declared.messages.Progress.{Progress}
 use Rattle.fast_machine.specs.Runs.{Forgets}
@@ -60,6 +59,11 @@ StandsBehind framing old unread place new = (before : List Content) (fed : List 
 abbrev pub ReadsNext : {R E : Type 0} {receiver : Receiving R} {entries : Ghosts E} → Framing → Machine R E receiver entries → List ℕ → Result (Option ℕ) Fault → Machine R E receiver entries → Type 0
 ReadsNext framing old bytes (Ok next) new = IfSome next (λ place. StandsBehind framing old bytes place new) × IfNone next ((new.fault ≡ None) × FollowsBehind framing old bytes new)
 ReadsNext framing old bytes (Err fault) new = (new.fault ≡ Some fault) × (fault.cause ≢ Truncated) × FollowsBehind framing old bytes new
+
+-- it answers none, or why no bytes can be held
+abbrev pub AnswersNone : Result (Option ℕ) Fault → Option Fault → Type 0
+AnswersNone (Ok place) fault = (place ≡ None) × (fault ≡ None)
+AnswersNone (Err f) fault = (fault ≡ Some f) × (f.cause ≢ Truncated)
 
 -- a place that it answers is within the bytes, behind one of them where a message begins there, and none is held
 pub record IsBehind {R E : Type 0} {receiver : Receiving R} {entries : Ghosts E} (old : Machine R E receiver entries) (bytes : List ℕ) (place : ℕ) (new : Machine R E receiver entries) : Type 0 where
@@ -127,22 +131,18 @@ IsFaultOf halt messages fed left template fault = (mode : Mode) (t : Traversal) 
     → (halt.cause ≢ Memory → StopsBehind mode (templates_in t.set.now) bytes ms (stop_of t.template halt rest))
     → Refused fault mode (templates_in t.set.now) bytes ms
 
--- how far the reading of the next message came, and what it leaves where it ended, or where bytes are wanted
+-- The reading has ended between two messages.
+pub record EndsBetween {R E : Type 0} (receiver : Receiving R) (entries : Ghosts E) (t u : Traversal) (r : R) (e : E) (bytes : List ℕ) (progress : Progress) : Type 0 where
+  -- none ends only where there is no byte
+  pub none : progress.messages ≡ 0 → (progress.at ≡ 0) × (length bytes ≡ 0)
+  -- a message that begins here has a byte
+  pub took : begun_of t ≡ 0 → 0 < length bytes → 0 < progress.at
+  pub between : u.stage ≡ stage.Map
+  pub can : CanRead receiver entries u r e
+
+-- how far the reading of the next message came, and what it leaves where it ended, or where bytes are wanted: few are left
 pub record LeavesMessage {R E : Type 0} (receiver : Receiving R) (entries : Ghosts E) (t u : Traversal) (r : R) (d e : E) (bytes : List ℕ) (progress : Progress) : Type 0 where
   pub place : progress.at ≤ length bytes
-  pub many : progress.messages ≤ 1
-  -- none ends only where there is no byte
-  pub none : IfNone progress.halt (progress.messages ≡ 0 → (progress.at ≡ 0) × (length bytes ≡ 0))
-  -- a message that begins here has a byte
-  pub took : IfNone progress.halt (begun_of t ≡ 0 → 0 < length bytes → 0 < progress.at)
-  pub between : IfNone progress.halt (u.stage ≡ stage.Map)
-  pub ready : IfNone progress.halt (CanGoOn (entries.serves e) u)
-  pub waits : IfSome progress.halt (λ h. h.cause ≡ Truncated → CanGoOn (entries.serves e) u)
-  pub kept_on : IfSome progress.halt (λ h. h.cause ≡ Truncated → KeepScalars (entries.contents e))
-  pub room : IfSome progress.halt (λ h. h.cause ≡ Truncated → HasRoomAt (receiver.room r) u.stage u.walk)
-  -- few bytes are left where more are wanted
-  pub few : IfSome progress.halt (λ h. h.cause ≡ Truncated → length bytes ≤ progress.at + 65554)
-  pub set : u.set ≡ t.set
-  pub level : u.level ≡ t.level
   pub sound : IsSound u.set.now
-  pub same_keys : entries.serves e ≡ entries.serves d
+  pub same : IsSameSet entries t d u e
+  pub ends : MatchOption progress.halt (EndsBetween receiver entries t u r e bytes progress) (λ h. h.cause ≡ Truncated → CanRead receiver entries u r e × (length bytes ≤ progress.at + 65554))

@@ -1,11 +1,10 @@
 //! Reading the next message in a list of bytes.
 
-ghost use Rattle.std.specs.Prelude.{◌≡◌, ◌≢◌, ◌<◌, ◌⊎◌, IfNone, length, drop};
+ghost use Rattle.std.specs.Prelude.{◌≡◌, ◌≢◌, ◌<◌, ◌⊎◌, length, drop};
 ghost use Rattle.fast_machine.specs.Calls.{LeavesMessage};
 ghost use Rattle.fast_machine.specs.Runs.{Forgets, ReadsRun};
-ghost use Rattle.fast_walk.specs.Told.{KeepScalars};
-ghost use Rattle.fast_walk.specs.Room.{HasRoomAt};
-ghost use Rattle.fast_walk.specs.Traversals.{CanGoOn, ServesAll, begun_of};
+ghost use Rattle.fast_walk.specs.Messages.{CanRead};
+ghost use Rattle.fast_walk.specs.Traversals.{ServesAll, begun_of};
 
 use fast_dictionary::Entries;
 use fast_stream::Cause;
@@ -42,15 +41,12 @@ pub(crate) fn read_message<R: Receiver, E: Entries>(
     bytes: &[u8],
 ) -> Progress
     requires some { (0 < length bytes.now) ⊎ (begun_of traversal.now ≡ 1) }
-    requires ready { CanGoOn (E.serves entries.now) traversal.now }
     requires served { ServesAll (E.serves entries.now) traversal.now.set.now }
-    requires kept { KeepScalars (E.contents entries.now) }
-    requires room { HasRoomAt (R.room receiver.now) traversal.now.stage traversal.now.walk }
+    requires can { CanRead R.Receiver E.Entries traversal.now receiver.now entries.now }
     ensures ended { ReadsRun R.has R.stands R.keeps traversal.old receiver.old (E.contents entries.old) bytes.now
         result.messages result.halt traversal.new receiver.new (E.contents entries.new) (drop result.at bytes.now) }
     ensures leaves { LeavesMessage R.Receiver E.Entries traversal.old traversal.new receiver.new entries.old entries.new
         bytes.now result }
-    ensures kept { IfNone result.halt (KeepScalars (E.contents entries.new)) }
 {
     traversal.set_is_sound();
     match traversal.message(receiver, entries, bytes, 0) {
@@ -79,15 +75,12 @@ pub(crate) fn read_if_any<R: Receiver, E: Entries>(
     entries: &mut E,
     bytes: &[u8],
 ) -> Progress
-    requires ready { CanGoOn (E.serves entries.now) traversal.now }
     requires served { ServesAll (E.serves entries.now) traversal.now.set.now }
-    requires kept { KeepScalars (E.contents entries.now) }
-    requires room { HasRoomAt (R.room receiver.now) traversal.now.stage traversal.now.walk }
+    requires can { CanRead R.Receiver E.Entries traversal.now receiver.now entries.now }
     ensures ended { ReadsRun R.has R.stands R.keeps traversal.old receiver.old (E.contents entries.old) bytes.now
         result.messages result.halt traversal.new receiver.new (E.contents entries.new) (drop result.at bytes.now) }
     ensures leaves { LeavesMessage R.Receiver E.Entries traversal.old traversal.new receiver.new entries.old entries.new
         bytes.now result }
-    ensures kept { IfNone result.halt (KeepScalars (E.contents entries.new)) }
 {
     traversal.set_is_sound();
     if bytes.is_empty() && !traversal.has_begun() {

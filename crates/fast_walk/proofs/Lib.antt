@@ -7,9 +7,9 @@ pub mod Views
 pub mod Putting
 pub mod Serving
 pub mod Heads
-pub mod Opening
 pub mod Telling
 pub mod Lacking
 pub mod NewParts
 pub mod ShortMaps
 pub mod Pieces
+pub mod Messages

@@ -9,3 +9,4 @@ pub mod OneProof
 pub mod Lacks
 pub mod ShortMaps
 pub mod Pieces
+pub mod Messages

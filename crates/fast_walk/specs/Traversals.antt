@@ -2,7 +2,7 @@
 use Rattle.std.specs.Prelude.{◌≡◌, ◌≤◌, ◌++◌, ◌∷◌, [], ℕ, Bool, List, length, Some, Ok, Err, ◌⊎◌, IsTrue, Contains}
 use Rattle.fast_value.specs.declared.key.Key.{Key}
 use Rattle.fast_template.specs.Resolved.{Resolved}
-use Rattle.fast_template.specs.TemplateSets.{TemplateList, keys_in, templates_in}
+use Rattle.fast_template.specs.TemplateSets.{TemplateList, keys_in}
 use Rattle.fast_dictionary.specs.Dictionary.{Dictionary}
 use Rattle.fast_wire.specs.declared.level.Level.{Level}
 use Rattle.fast_wire.specs.Reading.{◌>>=◌}
@@ -58,10 +58,6 @@ ContinuesAt has stands keeps stage.Body t r set d before start read = IsOpen has
 abbrev pub Continues : {R : Type 0} → Having R → Keeping R → Keeping R → TraversalNow → R → List Resolved → Dictionary → Left
 Continues has stands keeps t r set d before start read = ContinuesAt has stands keeps t.stage t r set d before start read
 
--- the same of its own set
-abbrev pub LeftOf : {R : Type 0} → Having R → Keeping R → Keeping R → TraversalNow → R → Dictionary → Left
-LeftOf has stands keeps t r d before start read = Continues has stands keeps t r (templates_in t.set.now) d before start read
-
 -- ---- what a call comes to
 
 -- The message that is left at these bytes is read to its end, and has been received, where its nodes are not too many.
@@ -82,11 +78,6 @@ LeavesOn Was Is bytes rest = (before : List Content) (start : Dictionary) (read 
 -- The messages in front of what was left are kept, inside one or between two.
 abbrev pub KeepsBefore : Left → (List Content → Dictionary → Type 0) → (List Content → Dictionary → Type 0) → Type 0
 KeepsBefore Was Keeps Stands = (before : List Content) (start : Dictionary) (read : List ℕ → Reading) → Was before start read → Keeps before start ⊎ Stands before start
-
--- The identifier of a message of this set is read, and its body opened.
-abbrev pub Opens : {R : Type 0} → Having R → Keeping R → Keeping R → R → Dictionary → TraversalNow → R → Dictionary → List Resolved → (List ℕ → Reading) → List ℕ → List ℕ → Type 0
-Opens has stands keeps r d t s e set read bytes rest = (before : List Content) → stands r set before d
-    → (later : List ℕ → Reading) × IsOpen has keeps t s set e before d later × ((more : List ℕ) → read (bytes ++ more) ≡ later (rest ++ more))
 
 -- ---- keys
 

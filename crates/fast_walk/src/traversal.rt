@@ -1,17 +1,14 @@
 //! The one traversal of a stream, message by message.
 
-ghost use Rattle.std.specs.Prelude.{◌≡◌, ◌≢◌, ◌≤◌, ◌<◌, ◌+◌, ◌++◌, [], ℕ, true, List, OnErr, IfOk, IfErr, OnOk, Some, Ok, Err, length, drop};
-ghost use Rattle.fast_template.specs.Resolved.{Resolved};
+ghost use Rattle.std.specs.Prelude.{◌≡◌, ◌≢◌, ◌≤◌, ◌<◌, true, OnErr, IfErr, MatchResult, OnOk, Err, length, drop};
 ghost use Rattle.fast_template.specs.TemplateSets.{IsSound, templates_in};
 ghost use Rattle.fast_dictionary.specs.Dictionary.{Dictionary};
-ghost use Rattle.fast_stream.specs.Nodes.{node_limit};
 ghost use Rattle.fast_stream.specs.Streams.{identifier as identifier_part};
 ghost use Rattle.fast_stream.specs.Reading.{message_at};
 ghost use Rattle.fast_wire.specs.Level.{IsLeftClear, some_set};
+ghost use Rattle.fast_walk.specs.Walks.{IsWhole};
 ghost use Rattle.fast_walk.specs.Received.{Carries, Completes};
-ghost use Rattle.fast_walk.specs.Told.{KeepScalars};
-ghost use Rattle.fast_walk.specs.Room.{HasRoom, HasRoomAt};
-ghost use Rattle.fast_wire.specs.Sizes.{CanBeMap};
+ghost use Rattle.fast_walk.specs.Room.{HasRoom};
 
 use crate::bits::{first_for, read_own_map};
 use crate::halt::Halt;
@@ -54,7 +51,8 @@ pub struct Traversal<'a> {
 }
 
 impl<'a> Traversal<'a> {
-    ghost use Rattle.fast_walk.specs.Traversals.{CanGoOn, Continues, Finishes, IsOpen, KeepsBefore, LeavesOn, LeftOf, Opens, ServesAll, StopsAt, begun_of, identifier_on, stop_of};
+    ghost use Rattle.fast_walk.specs.Messages.{CanRead, IsSameSet, IsStep, MapRead, MessageStops, ReadsMessage};
+    ghost use Rattle.fast_walk.specs.Traversals.{ServesAll, begun_of, stop_of};
 
     /// At the beginning of a stream. Takes no memory.
     pub fn new(alloc: Global, set: &'a TemplateSet, level: Level) -> Traversal<'a>
@@ -134,22 +132,10 @@ impl<'a> Traversal<'a> {
     #[inline(always)]
     fn map(&mut self, bytes: &[u8], at: usize) -> Result<usize, Halt>
         requires place { at ≤ length bytes.now }
-        requires template { self.now.template ≡ 0 }
-        ensures place { IfOk result (λ n. (at < n) × (n ≤ length bytes.now)) }
-        ensures goes { IfOk result (λ n. (d : Dictionary) (more : List ℕ)
-            → message_at self.old.level (templates_in self.old.set.now) d (drop at bytes.now ++ more)
-            ≡ identifier_on self.old.level (templates_in self.old.set.now) d self.new.walk.bits (drop n bytes.now
-            ++ more)) }
-        ensures stops { IfErr result (λ h. h.cause ≢ Cause.Memory → (d : Dictionary)
+        ensures { MatchResult result (λ n. MapRead self.old bytes.now at n self.new)
+            (λ h. (self.new ≡ self.old) × (h.cause ≢ Cause.Memory → (d : Dictionary)
             → message_at self.old.level (templates_in self.old.set.now) d (drop at bytes.now)
-            ≡ Err (stop_of 0 h (drop at bytes.now))) }
-        ensures stage { OnOk result (self.new.stage ≡ Stage.Identifier) }
-        ensures spare { OnOk result (self.new.walk.spare ≡ node_limit) }
-        ensures room { OnOk result (CanBeMap self.new.walk.bits) }
-        ensures waits { OnErr result (self.new.stage ≡ self.old.stage) }
-        ensures template { self.new.template ≡ 0 }
-        ensures set { self.new.set ≡ self.old.set }
-        ensures level { self.new.level ≡ self.old.level }
+            ≡ Err (stop_of 0 h (drop at bytes.now)))) }
     {
         let (bits, next) = read_own_map(self.alloc, 0, true, self.level, bytes, at)?;
         // the rest of the walk begins with the body, in the memory of the last one
@@ -169,31 +155,15 @@ impl<'a> Traversal<'a> {
         at: usize,
     ) -> Result<usize, Halt>
         requires place { at ≤ length bytes.now }
-        requires spare { self.now.walk.spare ≡ node_limit }
-        requires template { self.now.template ≡ 0 }
+        requires stage { self.now.stage ≡ Stage.Identifier }
         requires served { ServesAll (E.serves entries.now) self.now.set.now }
-        requires kept { KeepScalars (E.contents entries.now) }
-        requires room { CanBeMap self.now.walk.bits }
-        ensures place { IfOk result (λ n. (at ≤ n) × (n ≤ length bytes.now)) }
-        ensures goes { IfOk result (λ n. Opens R.has R.stands R.keeps receiver.old (E.contents entries.old)
-            self.new receiver.new (E.contents entries.new) (templates_in self.old.set.now)
-            (identifier_on self.old.level (templates_in self.old.set.now) (E.contents entries.old) self.old.walk.bits)
-            (drop at bytes.now) (drop n bytes.now)) }
-        ensures stops { IfErr result (λ h. h.cause ≢ Cause.Memory
-            → identifier_on self.old.level (templates_in self.old.set.now) (E.contents entries.old) self.old.walk.bits
-            (drop at bytes.now) ≡ Err (stop_of 0 h (drop at bytes.now))) }
+        requires can { CanRead R.Receiver E.Entries self.now receiver.now entries.now }
+        ensures reads { MatchResult result
+            (λ n. IsStep R.Receiver E.Entries self.old receiver.old entries.old bytes.now at n self.new receiver.new entries.new)
+            (λ h. MessageStops R.Receiver E.Entries self.old receiver.old entries.old bytes.now at (at, h) self.new receiver.new entries.new) }
         ensures stage { OnOk result (self.new.stage ≡ Stage.Body) }
-        ensures ready { OnOk result (CanGoOn (E.serves entries.old) self.new) }
-        ensures kept { OnOk result (KeepScalars (E.contents entries.new)) }
-        ensures room { OnOk result (HasRoom (R.room receiver.new) self.new.walk) }
-        ensures waits { IfErr result (λ h. h.cause ≡ Cause.Truncated → (self.new ≡ self.old)
-            × (E.contents entries.new ≡ E.contents entries.old)
-            × Carries (R.stands receiver.old) (R.stands receiver.new)) }
-        ensures template { OnErr result (self.new.template ≡ 0) }
-        ensures keeps { Carries (R.stands receiver.old) (R.keeps receiver.new) }
-        ensures set { self.new.set ≡ self.old.set }
-        ensures level { self.new.level ≡ self.old.level }
-        ensures same_keys { E.serves entries.new ≡ E.serves entries.old }
+        ensures can { OnOk result (CanRead R.Receiver E.Entries self.new receiver.new entries.new) }
+        ensures same { IsSameSet E.Entries self.old entries.old self.new entries.new }
     {
         let needs = part_needs_bit(&self.identifier);
         let bit = first_for(&self.walk.bits, needs);
@@ -216,16 +186,14 @@ impl<'a> Traversal<'a> {
     // Ends a message whose body has ended.
     #[inline(always)]
     fn end<R: Receiver>(&mut self, receiver: &mut R) -> Result<(), Halt>
-        requires whole { self.now.walk.around.items ≡ [] }
+        requires whole { IsWhole self.now.walk }
         requires room { HasRoom (R.room receiver.now) self.now.walk }
         ensures clear { OnOk result (IsLeftClear self.old.level self.old.walk.bits) }
         ensures stands { OnOk result (Completes (R.has receiver.old) (R.stands receiver.new)) }
         ensures between { OnOk result ((self.new.stage ≡ Stage.Map) × (self.new.template ≡ 0)) }
-        ensures refused { IfErr result (λ h. h.cause ≢ Cause.Memory
-            → (self.old.level ≡ Level.Strict) × (h.cause ≡ Cause.R8) × (h.number ≡ 0)
-            × (some_set self.old.walk.bits ≡ true) × (receiver.new ≡ receiver.old)) }
-        ensures waits { OnErr result ((self.new.stage ≡ self.old.stage)
-            × (self.new.template ≡ self.old.template) × (self.new.walk ≡ self.old.walk)) }
+        ensures refused { IfErr result (λ h. h.cause ≢ Cause.Memory → (self.old.level ≡ Level.Strict)
+            × (h.cause ≡ Cause.R8) × (h.number ≡ 0) × (some_set self.old.walk.bits ≡ true)) }
+        ensures template { OnErr result (self.new.template ≡ self.old.template) }
         ensures keeps { OnErr result (Carries (R.keeps receiver.old) (R.keeps receiver.new)) }
         ensures set { self.new.set ≡ self.old.set }
         ensures level { self.new.level ≡ self.old.level }
@@ -249,31 +217,10 @@ impl<'a> Traversal<'a> {
     ) -> Result<usize, (usize, Halt)>
         requires place { at ≤ length bytes.now }
         requires stage { self.now.stage ≡ Stage.Body }
-        requires ready { CanGoOn (E.serves entries.now) self.now }
-        requires kept { KeepScalars (E.contents entries.now) }
-        requires room { HasRoom (R.room receiver.now) self.now.walk }
-        ensures place { IfOk result (λ n. (at ≤ n) × (n ≤ length bytes.now)) }
-        ensures goes { IfOk result (λ n. (set : List Resolved) → Finishes (IsOpen R.has R.keeps self.old receiver.old set (E.contents entries.old))
-            (R.stands receiver.new set) (E.contents entries.new) (drop at bytes.now) (drop n bytes.now)) }
-        ensures between { OnOk result ((self.new.stage ≡ Stage.Map) × (self.new.template ≡ 0)) }
-        ensures held_place { IfErr result (λ x. (at ≤ x.0) × (x.0 ≤ length bytes.now)) }
-        ensures stops { IfErr result (λ x. (x.1).cause ≢ Cause.Memory
-            → (set : List Resolved) → StopsAt (IsOpen R.has R.keeps self.old receiver.old set (E.contents entries.old))
-            self.new.template x.1 (drop at bytes.now) (drop x.0 bytes.now)) }
-        ensures held { IfErr result (λ x. (x.1).cause ≢ Cause.Memory
-            → (set : List Resolved) → LeavesOn (IsOpen R.has R.keeps self.old receiver.old set (E.contents entries.old))
-            (IsOpen R.has R.keeps self.new receiver.new set (E.contents entries.new)) (drop at bytes.now) (drop x.0 bytes.now)) }
-        // few bytes are left where more are wanted
-        ensures few { IfErr result (λ x. (x.1).cause ≡ Cause.Truncated → length bytes.now ≤ x.0 + 65554) }
-        ensures ready { IfErr result (λ x. (x.1).cause ≢ Cause.Memory → CanGoOn (E.serves entries.new) self.new) }
-        ensures kept { OnOk result (KeepScalars (E.contents entries.new)) }
-        ensures kept_on { IfErr result (λ x. (x.1).cause ≢ Cause.Memory → KeepScalars (E.contents entries.new)) }
-        ensures room { IfErr result (λ x. (x.1).cause ≢ Cause.Memory → HasRoom (R.room receiver.new) self.new.walk) }
-        ensures stage { OnErr result (self.new.stage ≡ Stage.Body) }
-        ensures keeps { OnErr result (Carries (R.keeps receiver.old) (R.keeps receiver.new)) }
-        ensures set { self.new.set ≡ self.old.set }
-        ensures level { self.new.level ≡ self.old.level }
-        ensures same_keys { E.serves entries.new ≡ E.serves entries.old }
+        requires can { CanRead R.Receiver E.Entries self.now receiver.now entries.now }
+        ensures reads { ReadsMessage R.Receiver E.Entries self.old receiver.old entries.old bytes.now at result
+            self.new receiver.new entries.new }
+        ensures same { IsSameSet E.Entries self.old entries.old self.new entries.new }
     {
         let next = self
             .walk
@@ -285,6 +232,7 @@ impl<'a> Traversal<'a> {
     }
 
     // Reads a message from its identifier on.
+    #[tactic(auto, using(crate::proofs::Messages::read_behind))]
     #[inline(always)]
     fn behind_map<R: Receiver, E: Entries>(
         &mut self,
@@ -295,34 +243,11 @@ impl<'a> Traversal<'a> {
     ) -> Result<usize, (usize, Halt)>
         requires place { at ≤ length bytes.now }
         requires stage { self.now.stage ≡ Stage.Identifier }
-        requires ready { CanGoOn (E.serves entries.now) self.now }
         requires served { ServesAll (E.serves entries.now) self.now.set.now }
-        requires kept { KeepScalars (E.contents entries.now) }
-        requires room { CanBeMap self.now.walk.bits }
-        ensures place { IfOk result (λ n. (at ≤ n) × (n ≤ length bytes.now)) }
-        ensures goes { IfOk result (λ n. Finishes (LeftOf R.has R.stands R.keeps self.old receiver.old (E.contents entries.old))
-            (R.stands receiver.new (templates_in self.old.set.now)) (E.contents entries.new) (drop at bytes.now) (drop n bytes.now)) }
-        ensures between { OnOk result ((self.new.stage ≡ Stage.Map) × (self.new.template ≡ 0)) }
-        ensures held_place { IfErr result (λ x. (at ≤ x.0) × (x.0 ≤ length bytes.now)) }
-        ensures stops { IfErr result (λ x. (x.1).cause ≢ Cause.Memory → StopsAt
-            (LeftOf R.has R.stands R.keeps self.old receiver.old (E.contents entries.old))
-            self.new.template x.1 (drop at bytes.now) (drop x.0 bytes.now)) }
-        ensures held { IfErr result (λ x. (x.1).cause ≡ Cause.Truncated → LeavesOn
-            (LeftOf R.has R.stands R.keeps self.old receiver.old (E.contents entries.old))
-            (Continues R.has R.stands R.keeps self.new receiver.new (templates_in self.old.set.now) (E.contents entries.new))
-            (drop at bytes.now) (drop x.0 bytes.now)) }
-        // few bytes are left where more are wanted
-        ensures few { IfErr result (λ x. (x.1).cause ≡ Cause.Truncated → length bytes.now ≤ x.0 + 65554) }
-        ensures ready { IfErr result (λ x. (x.1).cause ≡ Cause.Truncated → CanGoOn (E.serves entries.new) self.new) }
-        ensures kept { OnOk result (KeepScalars (E.contents entries.new)) }
-        ensures kept_on { IfErr result (λ x. (x.1).cause ≡ Cause.Truncated → KeepScalars (E.contents entries.new)) }
-        ensures room { IfErr result (λ x. (x.1).cause ≡ Cause.Truncated → HasRoomAt (R.room receiver.new) self.new.stage self.new.walk) }
-        ensures keeps { OnErr result (KeepsBefore (LeftOf R.has R.stands R.keeps self.old receiver.old (E.contents entries.old))
-            (R.keeps receiver.new (templates_in self.old.set.now)) (R.stands receiver.new (templates_in self.old.set.now))) }
-        ensures set { self.new.set ≡ self.old.set }
-        ensures level { self.new.level ≡ self.old.level }
-        ensures same_keys { E.serves entries.new ≡ E.serves entries.old }
-        ensures begun { IfErr result (λ x. (x.1).cause ≡ Cause.Truncated → self.new.stage ≢ Stage.Map) }
+        requires can { CanRead R.Receiver E.Entries self.now receiver.now entries.now }
+        ensures reads { ReadsMessage R.Receiver E.Entries self.old receiver.old entries.old bytes.now at result
+            self.new receiver.new entries.new }
+        ensures same { IsSameSet E.Entries self.old entries.old self.new entries.new }
     {
         match self.identifier(receiver, entries, bytes, at) {
             Err(halt) => Err((at, halt)),
@@ -332,6 +257,7 @@ impl<'a> Traversal<'a> {
 
     // Reads the next message from its map on, or from its identifier on where that is next. (A function of its own: where
     // a body is next, nothing of this is set up.)
+    #[tactic(auto, using(crate::proofs::Messages::map_can, crate::proofs::Messages::read_behind_map))]
     #[inline(never)]
     fn begin<R: Receiver, E: Entries>(
         &mut self,
@@ -342,39 +268,11 @@ impl<'a> Traversal<'a> {
     ) -> Result<usize, (usize, Halt)>
         requires place { at ≤ length bytes.now }
         requires outside { self.now.stage ≢ Stage.Body }
-        requires ready { CanGoOn (E.serves entries.now) self.now }
         requires served { ServesAll (E.serves entries.now) self.now.set.now }
-        requires kept { KeepScalars (E.contents entries.now) }
-        requires room { HasRoomAt (R.room receiver.now) self.now.stage self.now.walk }
-        ensures place { IfOk result (λ n. (at ≤ n) × (n ≤ length bytes.now)) }
-        ensures goes { IfOk result (λ n. Finishes (LeftOf R.has R.stands R.keeps self.old receiver.old (E.contents entries.old))
-            (R.stands receiver.new (templates_in self.old.set.now)) (E.contents entries.new) (drop at bytes.now) (drop n bytes.now)) }
-        ensures between { OnOk result ((self.new.stage ≡ Stage.Map) × (self.new.template ≡ 0)) }
-        ensures held_place { IfErr result (λ x. (at ≤ x.0) × (x.0 ≤ length bytes.now)) }
-        ensures stops { IfErr result (λ x. (x.1).cause ≢ Cause.Memory → StopsAt
-            (LeftOf R.has R.stands R.keeps self.old receiver.old (E.contents entries.old))
-            self.new.template x.1 (drop at bytes.now) (drop x.0 bytes.now)) }
-        ensures held { IfErr result (λ x. (x.1).cause ≡ Cause.Truncated → LeavesOn
-            (LeftOf R.has R.stands R.keeps self.old receiver.old (E.contents entries.old))
-            (Continues R.has R.stands R.keeps self.new receiver.new (templates_in self.old.set.now) (E.contents entries.new))
-            (drop at bytes.now) (drop x.0 bytes.now)) }
-        // few bytes are left where more are wanted
-        ensures few { IfErr result (λ x. (x.1).cause ≡ Cause.Truncated → length bytes.now ≤ x.0 + 65554) }
-        ensures ready { IfErr result (λ x. (x.1).cause ≡ Cause.Truncated → CanGoOn (E.serves entries.new) self.new) }
-        ensures kept { OnOk result (KeepScalars (E.contents entries.new)) }
-        ensures kept_on { IfErr result (λ x. (x.1).cause ≡ Cause.Truncated → KeepScalars (E.contents entries.new)) }
-        ensures room { IfErr result (λ x. (x.1).cause ≡ Cause.Truncated → HasRoomAt (R.room receiver.new) self.new.stage self.new.walk) }
-        ensures keeps { OnErr result (KeepsBefore (LeftOf R.has R.stands R.keeps self.old receiver.old (E.contents entries.old))
-            (R.keeps receiver.new (templates_in self.old.set.now)) (R.stands receiver.new (templates_in self.old.set.now))) }
-        ensures set { self.new.set ≡ self.old.set }
-        ensures level { self.new.level ≡ self.old.level }
-        ensures same_keys { E.serves entries.new ≡ E.serves entries.old }
-        // a message has a byte
-        ensures took { IfOk result (λ n. self.old.stage ≡ Stage.Map → at < n) }
-        ensures held_between { IfErr result (λ x. (x.1).cause ≡ Cause.Truncated → self.new.stage ≡ Stage.Map
-            → (self.old.stage ≡ Stage.Map) × (x.0 ≡ at)) }
-        ensures begun { IfErr result (λ x. (x.1).cause ≡ Cause.Truncated → self.old.stage ≡ Stage.Map
-            → self.new.stage ≢ Stage.Map → at < x.0) }
+        requires can { CanRead R.Receiver E.Entries self.now receiver.now entries.now }
+        ensures reads { ReadsMessage R.Receiver E.Entries self.old receiver.old entries.old bytes.now at result
+            self.new receiver.new entries.new }
+        ensures same { IsSameSet E.Entries self.old entries.old self.new entries.new }
     {
         match self.stage {
             Stage::Map => match self.map(bytes, at) {
@@ -402,39 +300,11 @@ impl<'a> Traversal<'a> {
         at: usize,
     ) -> Result<usize, (usize, Halt)>
         requires place { at ≤ length bytes.now }
-        requires ready { CanGoOn (E.serves entries.now) self.now }
         requires served { ServesAll (E.serves entries.now) self.now.set.now }
-        requires kept { KeepScalars (E.contents entries.now) }
-        requires room { HasRoomAt (R.room receiver.now) self.now.stage self.now.walk }
-        ensures place { IfOk result (λ n. (at ≤ n) × (n ≤ length bytes.now)) }
-        ensures goes { IfOk result (λ n. Finishes (LeftOf R.has R.stands R.keeps self.old receiver.old (E.contents entries.old))
-            (R.stands receiver.new (templates_in self.old.set.now)) (E.contents entries.new) (drop at bytes.now) (drop n bytes.now)) }
-        ensures between { OnOk result ((self.new.stage ≡ Stage.Map) × (self.new.template ≡ 0)) }
-        ensures held_place { IfErr result (λ x. (at ≤ x.0) × (x.0 ≤ length bytes.now)) }
-        ensures stops { IfErr result (λ x. (x.1).cause ≢ Cause.Memory → StopsAt
-            (LeftOf R.has R.stands R.keeps self.old receiver.old (E.contents entries.old))
-            self.new.template x.1 (drop at bytes.now) (drop x.0 bytes.now)) }
-        ensures held { IfErr result (λ x. (x.1).cause ≡ Cause.Truncated → LeavesOn
-            (LeftOf R.has R.stands R.keeps self.old receiver.old (E.contents entries.old))
-            (Continues R.has R.stands R.keeps self.new receiver.new (templates_in self.old.set.now) (E.contents entries.new))
-            (drop at bytes.now) (drop x.0 bytes.now)) }
-        // few bytes are left where more are wanted
-        ensures few { IfErr result (λ x. (x.1).cause ≡ Cause.Truncated → length bytes.now ≤ x.0 + 65554) }
-        ensures ready { IfErr result (λ x. (x.1).cause ≡ Cause.Truncated → CanGoOn (E.serves entries.new) self.new) }
-        ensures kept { OnOk result (KeepScalars (E.contents entries.new)) }
-        ensures kept_on { IfErr result (λ x. (x.1).cause ≡ Cause.Truncated → KeepScalars (E.contents entries.new)) }
-        ensures room { IfErr result (λ x. (x.1).cause ≡ Cause.Truncated → HasRoomAt (R.room receiver.new) self.new.stage self.new.walk) }
-        ensures keeps { OnErr result (KeepsBefore (LeftOf R.has R.stands R.keeps self.old receiver.old (E.contents entries.old))
-            (R.keeps receiver.new (templates_in self.old.set.now)) (R.stands receiver.new (templates_in self.old.set.now))) }
-        ensures set { self.new.set ≡ self.old.set }
-        ensures level { self.new.level ≡ self.old.level }
-        ensures same_keys { E.serves entries.new ≡ E.serves entries.old }
-        // a message has a byte
-        ensures took { IfOk result (λ n. self.old.stage ≡ Stage.Map → at < n) }
-        ensures held_between { IfErr result (λ x. (x.1).cause ≡ Cause.Truncated → self.new.stage ≡ Stage.Map
-            → (self.old.stage ≡ Stage.Map) × (x.0 ≡ at)) }
-        ensures begun { IfErr result (λ x. (x.1).cause ≡ Cause.Truncated → self.old.stage ≡ Stage.Map
-            → self.new.stage ≢ Stage.Map → at < x.0) }
+        requires can { CanRead R.Receiver E.Entries self.now receiver.now entries.now }
+        ensures reads { ReadsMessage R.Receiver E.Entries self.old receiver.old entries.old bytes.now at result
+            self.new receiver.new entries.new }
+        ensures same { IsSameSet E.Entries self.old entries.old self.new entries.new }
     {
         match self.stage {
             Stage::Body => self.body(receiver, entries, bytes, at),

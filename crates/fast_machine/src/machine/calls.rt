@@ -9,7 +9,7 @@ ghost use Rattle.fast_stream.specs.Modes.{Carries};
 ghost use Rattle.fast_walk.specs.declared.traversal.Stage.TheVariants as stage;
 ghost use Rattle.fast_walk.specs.Lacks.{AreUnstopped, Lacks};
 ghost use Rattle.fast_walk.specs.Traversals.{CanGoOn, ServesAll, begun_of};
-ghost use Rattle.fast_machine.specs.Calls.{FollowsAll, FollowsHolding, FollowsOn, FollowsTaken, FollowsWaiting, HoldsNothing, IsBehind, IsFault, IsFaultOf, IsSameStream, KeepsFault, ReadsNext, StandsAt, StaysAt, StillFollows};
+ghost use Rattle.fast_machine.specs.Calls.{AnswersNone, FollowsAll, FollowsHolding, FollowsOn, FollowsTaken, FollowsWaiting, HoldsNothing, IsBehind, IsFault, IsFaultOf, IsSameStream, KeepsFault, ReadsNext, StandsAt, StaysAt, StillFollows};
 ghost use Rattle.fast_machine.specs.Following.{Counts, IsHeld};
 ghost use Rattle.fast_machine.specs.Runs.{Retains};
 
@@ -105,6 +105,7 @@ impl<'a, R: Receiver, E: Entries> Machine<'a, R, E> {
     ghost use Rattle.fast_machine.specs.Following.{Answers, Follows, IsCutAt, mode_of};
 
     /// A machine over a set, at the beginning of a stream. The entries are reset. Takes no memory.
+    #[tactic(auto, using(crate::proofs::Calls::kept_first))]
     pub fn new(
         alloc: Global,
         set: &'a TemplateSet,
@@ -239,18 +240,14 @@ impl<'a, R: Receiver, E: Entries> Machine<'a, R, E> {
         }
     }
 
-    // Keeps the bytes of the piece that is not whole, of the instruction whose number is kept.
+    // Keeps the bytes of the piece that is not whole, of the instruction whose number is kept; no message ends in them.
     #[inline(never)]
-    fn hold_some(&mut self, rest: &[u8]) -> Result<(), Fault>
+    fn hold_some(&mut self, rest: &[u8]) -> Result<Option<usize>, Fault>
         requires nothing { HoldsNothing self.now }
         requires few { length rest.now ≤ 65554 }
         ensures follows { FollowsWaiting self.old rest.now self.old.waiting self.new }
-        ensures answer { Answers result self.new.fault }
-        ensures cause { IfErr result (λ f. f.cause ≡ Cause.Memory) }
-        ensures traversal { self.new.traversal ≡ self.old.traversal }
-        ensures entries { self.new.entries ≡ self.old.entries }
-        ensures fed { self.new.fed ≡ self.old.fed }
-        ensures framing { self.new.framing ≡ self.old.framing }
+        ensures answer { AnswersNone result self.new.fault }
+        ensures stays { StaysAt self.old self.new }
     {
         match append(&mut self.held, rest) {
             Err(_) => Err(self.refuse()),
@@ -258,27 +255,24 @@ impl<'a, R: Receiver, E: Entries> Machine<'a, R, E> {
                 if let Some(lack) = self.traversal.lack(&self.entries, &self.held) {
                     self.know(lack);
                 }
-                Ok(())
+                Ok(None)
             }
         }
     }
 
     // Keeps the bytes of the piece that is not whole, of the instruction with this number.
     #[inline(always)]
-    fn hold(&mut self, number: u32, rest: &[u8]) -> Result<(), Fault>
+    fn hold(&mut self, number: u32, rest: &[u8]) -> Result<Option<usize>, Fault>
         requires nothing { HoldsNothing self.now }
         requires few { length rest.now ≤ 65554 }
         ensures follows { FollowsWaiting self.old rest.now number self.new }
-        ensures answer { Answers result self.new.fault }
-        ensures cause { IfErr result (λ f. f.cause ≡ Cause.Memory) }
-        ensures traversal { self.new.traversal ≡ self.old.traversal }
-        ensures entries { self.new.entries ≡ self.old.entries }
-        ensures fed { self.new.fed ≡ self.old.fed }
-        ensures framing { self.new.framing ≡ self.old.framing }
+        ensures answer { AnswersNone result self.new.fault }
+        ensures stays { StaysAt self.old self.new }
     {
         self.waiting = number;
+        // (nothing has come of the next piece, mostly)
         if rest.is_empty() {
-            return Ok(());
+            return Ok(None);
         }
         self.hold_some(rest)
     }
@@ -474,15 +468,7 @@ impl<'a, R: Receiver, E: Entries> Machine<'a, R, E> {
         match progress.halt {
             None => Ok(Some(progress.at)),
             Some(halt) => match halt.cause {
-                Cause::Truncated => {
-                    // (nothing has come of the next piece, mostly)
-                    if rest.is_empty() {
-                        self.waiting = halt.number;
-                        return Ok(None);
-                    }
-                    self.hold(halt.number, rest)?;
-                    Ok(None)
-                }
+                Cause::Truncated => self.hold(halt.number, rest),
                 _ => {
                     let fault = fault_of(halt, self.messages, self.fed, rest.len(), template);
                     self.fault = Some(fault);
@@ -494,22 +480,17 @@ impl<'a, R: Receiver, E: Entries> Machine<'a, R, E> {
     }
 
     // Stops at the size of a block, with which the bytes begin: holds it where it is not whole, or keeps its fault.
-    fn stop_at_size(&mut self, cause: Cause, bytes: &[u8]) -> Result<(), Fault>
+    fn stop_at_size(&mut self, cause: Cause, bytes: &[u8]) -> Result<Option<usize>, Fault>
         requires nothing { HoldsNothing self.now }
         requires framing { self.now.framing ≡ Framing.Blocks }
         requires few { cause ≡ Cause.Truncated → length bytes.now ≤ 9 }
         requires outside { self.now.left ≡ 0 }
         requires some { (0 < length bytes.now) ⊎ (begun_of self.now.traversal ≡ 1) }
         requires stops { size_at self.now.traversal.level bytes.now ≡ Err cause }
-        ensures follows { (before : List Content) (fed : List ℕ) (messages : List Content)
-            → length fed ≤ 2 ^ 60 → Counts self.old.fed self.old.messages fed messages
-            → StandsAt Framing.Blocks self.old before bytes.now fed messages → Follows self.new before fed messages }
-        ensures answer { Answers result self.new.fault }
-        ensures cause { IfErr result (λ f. f.cause ≢ Cause.Truncated) }
-        ensures traversal { self.new.traversal ≡ self.old.traversal }
-        ensures entries { self.new.entries ≡ self.old.entries }
+        ensures reads { ReadsNext Framing.Blocks self.old bytes.now result self.new }
+        ensures answer { AnswersNone result self.new.fault }
+        ensures same { IsSameStream self.old self.new }
         ensures fed { self.new.fed ≡ self.old.fed }
-        ensures framing { self.new.framing ≡ self.old.framing }
     {
         self.traversal.set_is_sound();
         match cause {
@@ -531,10 +512,7 @@ impl<'a, R: Receiver, E: Entries> Machine<'a, R, E> {
     {
         let (left, at) = match open_block(self.traversal.level(), self.left, bytes) {
             Ok(opened) => opened,
-            Err(cause) => {
-                self.stop_at_size(cause, bytes)?;
-                return Ok(None);
-            }
+            Err(cause) => return self.stop_at_size(cause, bytes),
         };
         let room = within(left, bytes.len() - at);
         let progress = read_if_any(
@@ -557,8 +535,7 @@ impl<'a, R: Receiver, E: Entries> Machine<'a, R, E> {
                     if self.left <= rest.len() as u128 {
                         return Err(self.keep(Cause::BlockEnd, halt.number, rest.len()));
                     }
-                    self.hold(halt.number, rest)?;
-                    Ok(None)
+                    self.hold(halt.number, rest)
                 }
                 _ => {
                     let fault = fault_of(halt, self.messages, self.fed, rest.len(), template);
@@ -812,6 +789,7 @@ impl<'a, R: Receiver, E: Entries> Machine<'a, R, E> {
     }
 
     /// Begins a new stream, with all entries undefined; the receiver stays. Takes no memory.
+    #[tactic(auto, using(crate::proofs::Calls::kept_first))]
     pub fn reset(&mut self)
         ensures set { self.new.traversal.set ≡ self.old.traversal.set }
         ensures mode { mode_of self.new ≡ mode_of self.old }

@@ -1,16 +1,8 @@
 use Rattle.std.proofs.Common.{ap, refl, arith}
 use Rattle.fast_template.specs.TemplateSets.{templates_in}
 use Rattle.fast_machine.specs.Following.{mode_of}
-use Rattle.fast_machine.proofs.Followings.{cut_between, cut_inside}
+use Rattle.fast_machine.proofs.Followings.{cut_between}
 use Rattle.fast_machine.proofs.machine.Machine.cut.Goals as goal
-
-pub returns-in-Err-clause-place : goal.returns-in-Err-clause-place
-returns-in-Err-clause-place g c = λ none before fed messages follows.
-    let old = c.args.self.now in
-    let t = c.in-Err.ensures.truncated none in
-    let after = t.1 before fed messages c.requires.few follows in
-    let refused = (rw (c.in-Err.ensures.answer) at after.at).0 in
-    cut_inside (mode_of old) (mode_of c.finish.new.self) (templates_in old.traversal.set.now) (templates_in c.finish.new.self.traversal.set.now) c.in-Err.fault fed messages c.finish.ensures.mode (ap (λ x. templates_in x.now) c.finish.ensures.set) t.0 refused.0 refused.1 refused.2
 
 pub returns-in-Ok-clause-place : goal.returns-in-Ok-clause-place
 returns-in-Ok-clause-place g c = λ none before fed messages follows.

@@ -1,12 +1,11 @@
-use Rattle.std.proofs.Common.{◌≢◌, ◌≡◌, ◌<◌, ◌+◌, ◌-◌, ◌++◌, [], ℕ, List, Some, length, append-nil, drop, sym, ap, refl, arith}
-use Rattle.std.proofs.lemmas.Result.{err_from_is_err_and}
+use Rattle.std.proofs.Common.{◌≢◌, ◌≡◌, ◌<◌, ◌+◌, ◌-◌, ◌++◌, ℕ, List, Some, length, drop, sym, ap, refl, arith}
 use Rattle.fast_template.specs.TemplateSets.{templates_in}
 use Rattle.fast_stream.specs.declared.fault.Cause.TheVariants.{Truncated, BlockEnd}
 use Rattle.fast_stream.specs.declared.mode.Framing.TheVariants.{Blocks}
 use Rattle.fast_stream.specs.Nodes.{Content}
 use Rattle.fast_machine.specs.Standing.{framed_as}
 use Rattle.fast_machine.proofs.Calls.{Finds, finds_fault, finds_waiting, follows_kept}
-use Rattle.fast_machine.proofs.Followings.{fault_refused, not_memory, not_truncated, slice_rest}
+use Rattle.fast_machine.proofs.Followings.{fault_refused, not_truncated, slice_rest}
 use Rattle.fast_machine.proofs.BlockReads.{IsOpen, block_cuts, block_goes, block_halts, empty_window}
 use Rattle.fast_machine.proofs.machine.Machine.read_block.Given as given
 use Rattle.fast_machine.proofs.machine.Machine.read_block.Goals as goal
@@ -29,24 +28,13 @@ halted : (g : given.Over) (c : In-Some g) → IsOpen c.level.result c.args.self.
     c.read_if_any-progress.new.traversal c.read_if_any-progress.new.receiver (g.E.Entries.contents c.read_if_any-progress.new.entries) (drop (c.in-Ok.opened.1 + c.read_if_any-progress.result.at) c.args.bytes.now)
 halted g c block = let p = c.read_if_any-progress in block_halts c.args.self.now c.counted-self.result c.level.ensures block p.ensures.leaves p.ensures.ended c.counted-self.ensures c.in-Some.halt c.in-Some.is
 
-pub returns-in_err-stop_at_size-in-Err-clause-reads : goal.returns-in_err-stop_at_size-in-Err-clause-reads
-returns-in_err-stop_at_size-in-Err-clause-reads g c =
-    let e = err_from_is_err_and c.from_residual.result c.from_residual.ensures.1 in
-    let o = c.in_err-stop_at_size-in-Err.ensures in
-    rw (e.1, e.2) (o.answer, o.cause, λ before fed messages short counts stands. ([], rw (append-nil before, append-nil messages) (o.follows before fed messages short counts stands)))
-
-pub returns-in-Err-clause-reads : goal.returns-in-Err-clause-reads
-returns-in-Err-clause-reads g c =
-    let o = c.in_ok-stop_at_size-in-Err.ensures in
-    (tt, (o.answer, λ before fed messages short counts stands. ([], rw (append-nil before, append-nil messages) (o.follows before fed messages short counts stands))))
-
 pub returns-in-None-clause-reads : goal.returns-in-None-clause-reads
 returns-in-None-clause-reads g c = (
   λ before fed messages short counts stands.
       let p = c.read_if_any-progress in
       let block = opened g (goal.at.returns-in-None-clause-reads g c).After-within-room in
       let f = (block_goes c.args.self.now c.counted-self.result c.level.ensures block p.ensures.leaves p.ensures.ended c.counted-self.ensures c.in-None.is).found before fed messages short counts stands in
-      let none = rw (c.in-None.is) at p.ensures.leaves.none in (
+      let none = (rw (c.in-None.is) at p.ensures.leaves.ends).none in (
         f.ended,
         f.counts,
         (λ h.
@@ -78,50 +66,21 @@ returns-then-self-rest-clause-reads g c =
           (f.ended, follows_kept k.keeps (before ++ f.ended) fed all f.counts refused f.leaves.2),
     )
 
-pub returns-in_err-hold-in-Truncated-clause-reads : goal.returns-in_err-hold-in-Truncated-clause-reads
-returns-in_err-hold-in-Truncated-clause-reads g c =
-    let at = goal.at.returns-in_err-hold-in-Truncated-clause-reads g c in
-    let e = err_from_is_err_and c.from_residual-in_err-hold-in-Truncated.result c.from_residual-in_err-hold-in-Truncated.ensures.1 in
+pub returns-else-self-rest-clause-reads : goal.returns-else-self-rest-clause-reads
+returns-else-self-rest-clause-reads g c =
+    let at = goal.at.returns-else-self-rest-clause-reads g c in
     let rest = slice_rest c.args.bytes.now (c.in-Ok.opened.1 + c.read_if_any-progress.result.at) in
     let size = ap (λ (xs : List ℕ). length xs) rest in
-    let o = c.in_err-hold-in-Truncated in
-    rw (e.1, e.2) (
-      o.ensures.answer,
-      (λ e. not_memory o.field-0.0.cause e o.ensures.cause),
-      finds_waiting (halted g at.In-Some (opened g at.After-within-room) (λ wanted. omega (arith, size, c.if-self-rest.false))) c.in-Truncated.is (sym rest) (rw (c.requires.framing) at o.ensures.follows),
+    finds_waiting _ (halted g at.In-Some (opened g at.After-within-room) (λ wanted. omega (arith, size, c.if-self-rest.false))) c.in-Truncated.is rest (rw (c.requires.framing) at c.hold.ensures.follows) c.hold.ensures.answer
+
+pub returns-in_default-clause-reads : goal.returns-in_default-clause-reads
+returns-in_default-clause-reads g c =
+    let at = goal.at.returns-in_default-clause-reads g c in
+    let other : c.in-Some.halt.cause ≢ Truncated = λ e. c.in_default.not-Truncated e in (
+      refl,
+      not_truncated c.fault_of-fault.result.cause c.in-Some.halt.cause c.fault_of-fault.ensures.cause other,
+      λ before fed messages short counts stands.
+          let f = finds_fault c.fault_of-fault.result _ c.requires.framing (halted g at.In-Some (opened g at.After-within-room) (λ wanted. absurd (other wanted))) other c.read_if_any-progress.ensures.leaves.sound
+          (ap (λ (xs : List ℕ). length xs) (sym (slice_rest c.args.bytes.now (c.in-Ok.opened.1 + c.read_if_any-progress.result.at)))) (rw (c.template-template.ensures) at c.fault_of-fault.ensures.refused) before fed messages short counts stands in
+          (f.ended, record { at = (f.leaves.0, c.requires.nothing.held, f.leaves.1); counts = f.counts }),
     )
-
-pub returns-in_ok-hold-in-Truncated-clause-reads : goal.returns-in_ok-hold-in-Truncated-clause-reads
-returns-in_ok-hold-in-Truncated-clause-reads g c =
-    let at = goal.at.returns-in_ok-hold-in-Truncated-clause-reads g c in
-    let rest = slice_rest c.args.bytes.now (c.in-Ok.opened.1 + c.read_if_any-progress.result.at) in
-    let size = ap (λ (xs : List ℕ). length xs) rest in
-    let o = c.in_ok-hold-in-Truncated in (
-      tt,
-      (
-        o.ensures.answer,
-        finds_waiting (halted g at.In-Some (opened g at.After-within-room) (λ wanted. omega (arith, size, c.if-self-rest.false))) c.in-Truncated.is (sym rest) (rw (c.requires.framing) at o.ensures.follows),
-      ),
-    )
-
-pub returns-in_default : goal.returns-in_default
-returns-in_default g c =
-    let at = goal.at.returns-in_default g c in
-    let leaves = c.read_if_any-progress.ensures.leaves in
-    let other : c.in-Some.halt.cause ≢ Truncated = λ e. c.in_default.not-Truncated e in
-    record {
-      reads = (
-        refl,
-        not_truncated c.fault_of-fault.result.cause c.in-Some.halt.cause c.fault_of-fault.ensures.cause other,
-        λ before fed messages short counts stands.
-            let f = finds_fault c.fault_of-fault.result _ c.requires.framing (halted g at.In-Some (opened g at.After-within-room) (λ wanted. absurd (other wanted))) other leaves.sound
-            (ap (λ (xs : List ℕ). length xs) (sym (slice_rest c.args.bytes.now (c.in-Ok.opened.1 + c.read_if_any-progress.result.at)))) (rw (c.template-template.ensures) at c.fault_of-fault.ensures.refused) before fed messages short counts stands in
-            (f.ended, record { at = (f.leaves.0, c.requires.nothing.held, f.leaves.1); counts = f.counts }),
-      );
-      place = tt;
-      same = record { set = leaves.set; mode = rw (leaves.level) refl; same_keys = leaves.same_keys };
-      fed = refl;
-    }
-
-pub read_if_any-progress-requires-clause-kept : goal.read_if_any-progress-requires-clause-kept
-read_if_any-progress-requires-clause-kept g c = c.args.self.now.kept c.requires.nothing.fault

@@ -1,4 +1,4 @@
-use Rattle.std.proofs.Common.{◌≡◌, ◌<◌, ℕ, List, inl, inr, length, arith}
+use Rattle.std.proofs.Common.{◌≡◌, ◌<◌, ℕ, List, [], append-nil, inl, inr, length, arith}
 use Rattle.fast_template.specs.TemplateSets.{templates_in}
 use Rattle.fast_stream.specs.declared.mode.Framing.TheVariants.{Blocks}
 use Rattle.fast_walk.specs.declared.traversal.Stage.TheVariants as stage
@@ -8,7 +8,7 @@ use Rattle.fast_machine.specs.Calls.{StandsAt}
 use Rattle.fast_machine.specs.Standing.{StopsBehind, framed_as}
 use Rattle.fast_machine.proofs.Runs.{none_begun}
 use Rattle.fast_machine.proofs.Standings.{carried_of}
-use Rattle.fast_machine.proofs.Calls.{follows_refused}
+use Rattle.fast_machine.proofs.Calls.{follows_refused, reads_none}
 use Rattle.fast_machine.proofs.Followings.{fault_refused, not_truncated, size_other, size_template}
 use Rattle.fast_machine.proofs.machine.Machine.stop_at_size.Given as given
 use Rattle.fast_machine.proofs.machine.Machine.stop_at_size.Goals as goal
@@ -25,29 +25,29 @@ stopped g c before fed messages stands =
     let some : t.stage ≡ stage.Map → 0 < length bytes = λ at. elim c.requires.some [ inl some ↦ some | inr begun ↦ absurd (none_begun t.stage at begun) ] in
     size_template (ReadsOn R.has R.stands R.keeps t old.receiver (g.E.Entries.contents old.entries) before) t old.left bytes fed messages c.args.cause c.requires.outside (g.E.Entries.serves old.entries) (old.ready c.requires.nothing.fault) some c.requires.stops stands
 
-pub returns-in-Truncated-clause-follows : goal.returns-in-Truncated-clause-follows
-returns-in-Truncated-clause-follows g c = λ before fed messages short counts stands.
-    let stops = stopped g (goal.at.returns-in-Truncated-clause-follows g c).After-set_is_sound before fed messages stands in
-    c.hold.ensures.follows before fed messages (omega (arith, short)) counts (rw (c.requires.framing) stands) (rw (c.requires.framing) (inr (rw (c.in-Truncated.is) at stops)))
+pub returns-in-Truncated-clause-reads : goal.returns-in-Truncated-clause-reads
+returns-in-Truncated-clause-reads g c = reads_none c.args.self.now c.args.bytes.now _ c.hold.ensures.answer (λ before fed messages short counts stands.
+    let stops = stopped g (goal.at.returns-in-Truncated-clause-reads g c).After-set_is_sound before fed messages stands in (
+      [],
+      rw (append-nil before, append-nil messages) (c.hold.ensures.follows before fed messages (omega (arith, short)) counts (rw (c.requires.framing) stands) (rw (c.requires.framing) (inr (rw (c.in-Truncated.is) at stops)))),
+    ))
 
-pub returns-in_default : goal.returns-in_default
-returns-in_default g c =
-    let k = c.keep.ensures in
-    record {
-      follows = λ before fed messages short counts stands.
+pub returns-in_default-clause-reads : goal.returns-in_default-clause-reads
+returns-in_default-clause-reads g c =
+    let k = c.keep.ensures in (
+      k.keeps.kept,
+      not_truncated c.keep.result.cause c.args.cause k.fault.cause_is (λ e. c.in_default.not-Truncated e),
+      λ before fed messages short counts stands.
           let old = c.args.self.now in
           let t = old.traversal in
           let R = g.R.Receiver in
           let bytes = c.args.bytes.now in
           let G = ReadsOn R.has R.stands R.keeps t old.receiver (g.E.Entries.contents old.entries) before in
-          let stops = stopped g (goal.at.returns-in_default g c).After-set_is_sound before fed messages stands in
+          let stops = stopped g (goal.at.returns-in_default-clause-reads g c).After-set_is_sound before fed messages stands in
           let refused = fault_refused c.keep.result (framed_as Blocks t) (templates_in t.set.now) _ fed messages old.fed old.messages c.set_is_sound.ensures.typed counts (omega (arith, short)) (carried_of Blocks old.left G t bytes fed messages stands) stops
           (size_other G t old.left bytes fed messages c.args.cause c.requires.outside c.requires.stops stands) k.fault in
-          follows_refused k.keeps before bytes fed messages counts (rw (c.requires.framing) stands) (rw (c.requires.framing) refused);
-      answer = k.keeps.kept;
-      cause = not_truncated c.keep.result.cause c.args.cause k.fault.cause_is (λ e. c.in_default.not-Truncated e);
-      traversal = k.keeps.stays.traversal;
-      entries = k.keeps.stays.entries;
-      fed = k.keeps.stays.fed;
-      framing = k.keeps.stays.framing;
-    }
+          ([], rw (append-nil before, append-nil messages) (follows_refused k.keeps before bytes fed messages counts (rw (c.requires.framing) stands) (rw (c.requires.framing) refused))),
+    )
+
+pub returns-in_default-clause-answer : goal.returns-in_default-clause-answer
+returns-in_default-clause-answer g c = let k = c.keep.ensures in (k.keeps.kept, not_truncated c.keep.result.cause c.args.cause k.fault.cause_is (λ e. c.in_default.not-Truncated e))

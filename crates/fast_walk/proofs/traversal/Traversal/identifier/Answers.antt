@@ -1,43 +1,54 @@
-use Rattle.std.proofs.Common.{Option, drop, map, refl, sym, ap, ◌∙◌, arith, Some}
+use Rattle.std.proofs.Common.{◌≡◌, ◌≢◌, ◌++◌, Option, drop, map, refl, sym, ap, ◌∙◌, arith, rules, Some}
 use Rattle.std.specs.Prelude.{option_map}
 use Rattle.fast_template.specs.declared.resolved.FlatTemplate.{FlatTemplate}
 use Rattle.fast_template.specs.Resolved.{list_of, Instructions}
 use Rattle.fast_template.specs.TemplateSets.{templates_in}
+use Rattle.fast_stream.specs.declared.fault.Cause.TheVariants.{D9, Memory, Truncated}
+use Rattle.fast_field.specs.declared.fault.FieldFault.TheVariants.{Memory as FieldMemory}
 use Rattle.fast_stream.specs.Faults.{cause_of_field}
 use Rattle.fast_walk.specs.OpenSegments.{message_of}
 use Rattle.fast_walk.specs.Received.{opened}
 use Rattle.fast_walk.specs.Walks.{next_of, reads_on, frame_of}
-use Rattle.fast_walk.proofs.Heads.{identifier_goes, identifier_stops, unknown_stops}
+use Rattle.fast_walk.proofs.Heads.{identifier_goes, unknown_stops}
+use Rattle.fast_walk.proofs.Heads.{identifier_stops as part_stops}
+use Rattle.fast_walk.proofs.Messages.{identifier_stops}
 use Rattle.fast_walk.proofs.Serving.{found_members, members_served}
 use Rattle.fast_value.specs.declared.kind.Kind.TheVariants as kind
 use Rattle.fast_value.specs.declared.kind.Part.TheVariants as part
 use Rattle.fast_value.specs.declared.scalar.Scalar.TheVariants.{U32}
+use Rattle.fast_walk.proofs.ShortWalks.{want_of_bytes}
+use Rattle.fast_walk.specs.declared.traversal.Stage.TheVariants as stage
 use Rattle.fast_walk.proofs.Telling.{asked_for, identifier_told, told_keeps}
 use Rattle.fast_walk.proofs.traversal.Traversal.identifier.Goals as goal
 
 abbrev members_found : Option FlatTemplate → Option Instructions
 members_found o = option_map (λ (f : FlatTemplate). list_of f.members.items) o
 
-pub returns-in-Err-clause-stops : goal.returns-in-Err-clause-stops
-returns-in-Err-clause-stops g c = λ other.
+pub returns-in-Err-clause-reads : goal.returns-in-Err-clause-reads
+returns-in-Err-clause-reads g c =
     let old = c.args.self.now in
     let d = g.E.Entries.contents c.args.entries.now in
-    let stops = (c.in-Err.ensures.stops (λ e. other (c.part_halt.ensures.cause ∙ ap cause_of_field e))).0 in
-    rw (c.part_halt.ensures.cause, c.part_halt.ensures.number, old.identifier_is)
-    (identifier_stops old.level (templates_in old.set.now) d old.walk.bits (drop c.args.at c.args.bytes.now) c.in-Err.fault
-    (rw (c.level-level.ensures, c.first_for-bit.ensures, c.part_needs_bit-needs.ensures, old.identifier_is) at stops))
+    let stops = c.in-Err.ensures.stops in
+    let field = λ (other : c.part_halt.result.cause ≢ Memory) (e : c.in-Err.fault ≡ FieldMemory). other (c.part_halt.ensures.cause ∙ ap cause_of_field e) in
+    identifier_stops c.requires.stage c.requires.place c.requires.can c.begin.ensures.same_keys c.begin.ensures.keeps
+    (λ other. rw (c.part_halt.ensures.cause, c.part_halt.ensures.number, old.identifier_is)
+    (part_stops old.level (templates_in old.set.now) d old.walk.bits (drop c.args.at c.args.bytes.now) c.in-Err.fault
+    (rw (c.level-level.ensures, c.first_for-bit.ensures, c.part_needs_bit-needs.ensures, old.identifier_is) at (stops (field other)).0)))
+    (λ wanted. let f = stops (field (want_of_bytes c.part_halt.result.cause wanted)) in (f.1, f.2))
 
-pub returns-in-None-clause-stops : goal.returns-in-None-clause-stops
-returns-in-None-clause-stops g c = λ other.
+pub returns-in-None-clause-reads : goal.returns-in-None-clause-reads
+returns-in-None-clause-reads g c =
     let old = c.args.self.now in
     let d = g.E.Entries.contents c.args.entries.now in
     let e = g.E.Entries.contents c.begin.new.entries in
     let took = rw (c.level-level.ensures, c.first_for-bit.ensures, c.part_needs_bit-needs.ensures, old.identifier_is) at c.in-Ok.ensures.goes.0 in
     let none = found_members old.set.now c.in-Ok.id ∙ ap members_found (sym (rw (c.in-None.is) at c.find.ensures.value)) in
-    rw (c.new.ensures.cause, c.new.ensures.number) (unknown_stops old.level (templates_in old.set.now) d e old.walk.bits (drop c.args.at c.args.bytes.now) (drop c.in-Ok.next c.args.bytes.now) c.in-Ok.id took none)
+    identifier_stops c.requires.stage c.requires.place c.requires.can c.begin.ensures.same_keys c.begin.ensures.keeps
+    (λ other. rw (c.new.ensures.cause, c.new.ensures.number) (unknown_stops old.level (templates_in old.set.now) d e old.walk.bits (drop c.args.at c.args.bytes.now) (drop c.in-Ok.next c.args.bytes.now) c.in-Ok.id took none))
+    (λ wanted. let k : D9 ≡ Truncated = sym c.new.ensures.cause ∙ wanted in absurd cc)
 
-pub returns-in-Some-clause-goes : goal.returns-in-Some-clause-goes
-returns-in-Some-clause-goes g c = λ before stands.
+pub returns-in-Some-clause-reads : goal.returns-in-Some-clause-reads
+returns-in-Some-clause-reads g c =
     let old = c.args.self.now in
     let set = templates_in old.set.now in
     let d = g.E.Entries.contents c.args.entries.now in
@@ -48,39 +59,45 @@ returns-in-Some-clause-goes g c = λ before stands.
     let named = found_members old.set.now id ∙ ap members_found (sym (rw (c.in-Some.is) at c.find.ensures.value)) in
     let walk = c.open_message.new.self in
     let end = c.open_message.ensures in
-    let o = opened set before id members d in (
-      λ bytes. message_of old.level id (reads_on old.level walk e o bytes),
-      record {
-        received = o;
-        at = record { next = ap next_of (sym end.next); rest = ap list_of (sym (end.rest ∙ c.deref.ensures.value)); around = ap (map frame_of) (sym end.around) };
-        has = c.in-Ok.ensures.goes.1 set before members stands;
-        keeps = c.begin.ensures.keeps set before d stands;
-        set_is = refl;
-        before_is = refl;
-        template_is = refl;
-        named = named;
-        reads = λ bytes. refl;
-      },
-      λ more. rw (end.bits, end.spare, c.requires.spare, c.part_needs_bit-needs.ensures, old.identifier_is)
-          (identifier_goes old.level set d e old.walk.bits (drop c.args.at c.args.bytes.now) (drop c.in-Ok.next c.args.bytes.now) more id members took named),
-    )
+    record {
+      place = c.in-Ok.ensures.place;
+      took = λ map. let k : stage.Identifier ≡ stage.Map = sym c.requires.stage ∙ map in absurd cc;
+      inside = λ map. absurd cc;
+      leaves = λ before start read was.
+          let s = rw (c.requires.stage) at was in
+          let o = opened set before id members d in (
+            λ bytes. message_of old.level id (reads_on old.level walk e o bytes),
+            record {
+              received = o;
+              at = record { next = ap next_of (sym end.next); rest = ap list_of (sym (end.rest ∙ c.deref.ensures.value)); around = ap (map frame_of) (sym end.around) };
+              has = c.in-Ok.ensures.goes.1 set before members s.stands;
+              keeps = rw (s.start_is) (c.begin.ensures.keeps set before d s.stands);
+              set_is = refl;
+              before_is = refl;
+              template_is = refl;
+              named = named;
+              reads = λ bytes. refl;
+            },
+            λ more. s.reads (drop c.args.at c.args.bytes.now ++ more) ∙ rw (end.bits, end.spare, (rw (c.requires.stage) at c.requires.can.ready).1, c.part_needs_bit-needs.ensures, old.identifier_is)
+                (identifier_goes old.level set d e old.walk.bits (drop c.args.at c.args.bytes.now) (drop c.in-Ok.next c.args.bytes.now) more id members took named),
+          );
+    }
 
-pub returns-in-Some-clause-ready : goal.returns-in-Some-clause-ready
-returns-in-Some-clause-ready g c =
+pub returns-in-Some-clause-can : goal.returns-in-Some-clause-can
+returns-in-Some-clause-can g c =
     let old = c.args.self.now in
     let id = c.in-Ok.id in
     let members = list_of c.in-Some.template.now.members.items in
     let named = found_members old.set.now id ∙ ap members_found (sym (rw (c.in-Some.is) at c.find.ensures.value)) in
     let end = c.open_message.ensures in
     record {
-      next = rw (end.next) tt;
-      rest = rw (end.rest, c.deref.ensures.value) (members_served (g.E.Entries.serves c.args.entries.now) old.set.now id members c.set_is_sound.ensures c.requires.served named);
-      around = rw (end.around) tt;
+      ready = record {
+        next = rw (end.next) tt;
+        rest = rw (end.rest, c.deref.ensures.value, c.begin.ensures.same_keys) (members_served (g.E.Entries.serves c.args.entries.now) old.set.now id members c.set_is_sound.ensures c.requires.served named);
+        around = rw (end.around) tt;
+      };
+      kept = told_keeps c.level-level.result old.identifier c.first_for-bit.result (g.E.Entries.contents c.args.entries.now) (g.E.Entries.contents c.begin.new.entries) c.args.bytes.now c.args.at c.in-Ok.next
+          (λ k. omega (arith, c.type_inv.bytes k)) (asked_for old.identifier c.part_needs_bit-needs.result c.first_for-bit.result old.walk.bits c.part_needs_bit-needs.ensures c.first_for-bit.ensures)
+          part.Whole kind.UInt32 (Some (U32 c.in-Ok.id)) tt (rw (old.identifier_is) identifier_told) c.in-Ok.ensures.goes.0 c.requires.can.kept;
+      room = rw (end.around, end.bits, c.part_needs_bit-needs.ensures) (c.in-Ok.ensures.room old.walk.bits (search rules) (rw (c.requires.stage) at c.requires.can.room));
     }
-
-pub returns-in-Some-clause-kept : goal.returns-in-Some-clause-kept
-returns-in-Some-clause-kept g c =
-    let old = c.args.self.now in
-    told_keeps c.level-level.result old.identifier c.first_for-bit.result (g.E.Entries.contents c.args.entries.now) (g.E.Entries.contents c.begin.new.entries) c.args.bytes.now c.args.at c.in-Ok.next
-    (λ k. omega (arith, c.type_inv.bytes k)) (asked_for old.identifier c.part_needs_bit-needs.result c.first_for-bit.result old.walk.bits c.part_needs_bit-needs.ensures c.first_for-bit.ensures)
-    part.Whole kind.UInt32 (Some (U32 c.in-Ok.id)) tt (rw (old.identifier_is) identifier_told) c.in-Ok.ensures.goes.0 c.requires.kept

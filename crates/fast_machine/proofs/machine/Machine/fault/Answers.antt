@@ -1,5 +1,0 @@
-use Rattle.std.proofs.Common.{refl}
-use Rattle.fast_machine.proofs.machine.Machine.fault.Goals as goal
-
-pub returns : goal.returns
-returns g c = refl

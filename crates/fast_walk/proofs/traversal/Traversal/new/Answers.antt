@@ -1,5 +1,0 @@
-use Rattle.std.proofs.Common.{rules}
-use Rattle.fast_walk.proofs.traversal.Traversal.new.Goals as goal
-
-pub returns-clause-stage : goal.returns-clause-stage
-returns-clause-stage c = search rules
