@@ -7,11 +7,6 @@ use Rattle.fast_lines.proofs.bytes.push_hex.Goals as goal
 pub loop-byte-init : goal.loop-byte-init
 loop-byte-init c = sym (ap (λ l. c.args.out.now.items ++ l) encode_none ∙ append-nil c.args.out.now.items)
 
-pub returns-in_err-push_hex_pair : goal.returns-in_err-push_hex_pair
-returns-in_err-push_hex_pair c =
-    let more = extends_more _ _ _ (extends_by _ _ _ c.loop-byte.invariant) (c.in_err-push_hex_pair.ensures) in
-    writes_err _ _ _ c.from_residual.result c.from_residual.ensures.0 more
-
 pub loop-byte-preserved : goal.loop-byte-preserved
 loop-byte-preserved c =
     let before = encode_lower (take c.loop-byte.byte-index c.args.bytes.now) in

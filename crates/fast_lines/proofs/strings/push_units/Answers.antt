@@ -9,12 +9,3 @@ pub returns-in_err-push_unit : goal.returns-in_err-push_unit
 returns-in_err-push_unit g c =
     let more = extends_more _ _ _ (extends_by _ _ _ c.loop-byte.invariant) (c.in_err-push_unit.ensures) in
     writes_err _ _ _ c.from_residual.result c.from_residual.ensures.0 more
-
-pub loop-byte-preserved : goal.loop-byte-preserved
-loop-byte-preserved g c =
-    let before = flat_map (unit_text g.S.Escape.form) (take c.loop-byte.byte-index c.args.text.now) in
-    let one = (unit_text g.S.Escape.form) (get_or c.args.text.now c.loop-byte.byte-index 0) in
-    c.in_ok-push_unit.ensures
-    ∙ ap (λ l. l ++ one) c.loop-byte.invariant
-    ∙ append_assoc c.args.out.now.items before one
-    ∙ ap (λ l. c.args.out.now.items ++ l) (sym (flat_map_one (unit_text g.S.Escape.form) c.args.text.now c.loop-byte.byte-index 0 c.loop-byte-test.true))
