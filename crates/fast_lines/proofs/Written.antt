@@ -69,9 +69,15 @@ encode_one xs i d lt =
     ap encode_lower (take_more xs i d lt) ∙ encode-append lower_digits (take i xs) (get_or xs i d ∷ [])
 
 -- the digits of what is left of some bytes, from its first on
-pub encode_front : (xs : List ℕ) (i : ℕ) (d : ℕ) → i < length xs → encode_lower (drop i xs) ≡ encode_lower (get_or xs i d ∷ []) ++ encode_lower (drop (i + 1) xs)
+encode_front : (xs : List ℕ) (i : ℕ) (d : ℕ) → i < length xs → encode_lower (drop i xs) ≡ encode_lower (get_or xs i d ∷ []) ++ encode_lower (drop (i + 1) xs)
 unfolding encode_with
 encode_front xs i d lt = ap encode_lower (drop_more xs i d lt)
+
+-- and what stands behind it
+pub hex_more : (xs rest : List ℕ) (left : ℕ) → 0 < left → left ≤ length xs → encode_lower (get_or xs (left - 1) 0 ∷ []) ++ (encode_lower (drop left xs) ++ rest) ≡ encode_lower (drop (left - 1) xs) ++ rest
+hex_more xs rest left some few =
+    let next : left - 1 + 1 ≡ left = omega (arith, some) in
+    rw (encode_front xs (left - 1) 0 (omega (arith, some, few)), next, append_assoc) refl
 
 pub encode_none : encode_lower [] ≡ []
 unfolding encode_with

@@ -90,6 +90,7 @@ pub fn all_stand(text: &[u8]) -> bool
 }
 
 /// Appends 8 bytes of a string.
+#[tactic(auto, using(crate::proofs::Lanes::all_plain, crate::proofs::Written::plain_text))]
 #[inline(always)]
 fn push_eight<S: Escape>(escape: S, text: &[u8], out: &mut Vec<u8>) -> Result<(), AllocError>
     requires { length text.now ≡ 8 }
@@ -114,6 +115,7 @@ fn push_pieces<S: Escape>(escape: S, text: &[u8], out: &mut Vec<u8>) -> Result<(
 }
 
 /// Appends a string without its quotes; mostly it stands as it is, and goes there at once.
+#[tactic(auto, using(crate::proofs::Written::plain_text))]
 fn push_text<S: Escape>(escape: S, text: &[u8], out: &mut Vec<u8>) -> Result<(), AllocError>
     ensures { Writes (flat_map (unit_text S.form) text.now) result out.old.items out.new.items }
 {
