@@ -42,6 +42,9 @@ pub writes_err : (t a b : List ℕ) (r : Result Unit AllocError) → IsErr r →
 writes_err t a b (Ok u) e x = absurd (true≢false (sym e))
 writes_err t a b (Err f) e x = x
 
+pub writes_stop : (t s a b c : List ℕ) (r : Result Unit AllocError) → IsErr r → b ≡ a ++ s → Extends b c → Writes t r a c
+writes_stop t s a b c r e was more = writes_err t a c r e (extends_more a b c (extends_by a b s was) more)
+
 -- ---- one more element of a list
 
 pub flat_map_one : (f : ℕ → List ℕ) (xs : List ℕ) (i : ℕ) (d : ℕ) → i < length xs → flat_map f (take (i + 1) xs) ≡ flat_map f (take i xs) ++ f (get_or xs i d)

@@ -19,6 +19,7 @@ pub(crate) fn stands(byte: u8) -> bool
     0x20 <= byte && byte <= 0x7E && byte != b'"' && byte != b'\\'
 }
 
+#[tactic(auto, using(crate::proofs::Written::writes_stop))]
 fn push_units<S: Escape>(escape: S, text: &[u8], out: &mut Vec<u8>) -> Result<(), AllocError>
     ensures { Writes (flat_map (unit_text S.form) text.now) result out.old.items out.new.items }
 {
