@@ -35,25 +35,11 @@ use Rattle.fast_slices.specs.Calls.{Canons, Counts, Done, IsRefused, Overflows, 
 
 by_cause : (c : Cause) (mode : Mode) (set : List Resolved) (turns : ℕ) (left : Option (List ℕ)) (bytes : List ℕ) (place : Place) → RefusedBy c mode set turns left bytes place → c ≢ cause.Memory → c ≢ cause.Read → length bytes < turns
     → FirstFault mode set bytes place c × (c ≡ cause.Truncated → IsAtEnd left)
-by_cause cause.D2 mode set turns left bytes place h memory read few = (h, λ e. absurd cc)
-by_cause cause.D4 mode set turns left bytes place h memory read few = (h, λ e. absurd cc)
-by_cause cause.D5 mode set turns left bytes place h memory read few = (h, λ e. absurd cc)
-by_cause cause.D6 mode set turns left bytes place h memory read few = (h, λ e. absurd cc)
-by_cause cause.D7 mode set turns left bytes place h memory read few = (h, λ e. absurd cc)
-by_cause cause.D9 mode set turns left bytes place h memory read few = (h, λ e. absurd cc)
-by_cause cause.D12 mode set turns left bytes place h memory read few = (h, λ e. absurd cc)
-by_cause cause.BlockEnd mode set turns left bytes place h memory read few = (h, λ e. absurd cc)
-by_cause cause.R1 mode set turns left bytes place h memory read few = (h, λ e. absurd cc)
-by_cause cause.R2 mode set turns left bytes place h memory read few = (h, λ e. absurd cc)
-by_cause cause.R6 mode set turns left bytes place h memory read few = (h, λ e. absurd cc)
-by_cause cause.R7 mode set turns left bytes place h memory read few = (h, λ e. absurd cc)
-by_cause cause.R8 mode set turns left bytes place h memory read few = (h, λ e. absurd cc)
-by_cause cause.R9 mode set turns left bytes place h memory read few = (h, λ e. absurd cc)
-by_cause cause.Limit mode set turns left bytes place h memory read few = (h, λ e. absurd cc)
 by_cause cause.Truncated mode set turns left bytes place h memory read few = (h.0, λ e. h.1)
 by_cause cause.Read mode set turns left bytes place h memory read few = absurd (read refl)
 by_cause cause.Turns mode set turns left bytes place h memory read few = let many = h.1 in absurd (omega (arith, few, many))
 by_cause cause.Memory mode set turns left bytes place h memory read few = absurd (memory refl)
+by_cause c mode set turns left bytes place h memory read few = (h, λ e. absurd cc)
 
 -- the first fault of what was read is the stream's, where Truncated comes only at the stream's end
 whole : (rest input : List ℕ) (mode : Mode) (set : TemplateList) (place : Place) (c : Cause) → IsSound set → IsBytes (input ++ rest) → FirstFault mode (templates_in set) input place c → (c ≡ cause.Truncated → rest ≡ [])
@@ -168,11 +154,9 @@ settled makes mode set stream bytes old new ran (Err (refusal.Stream fault writt
       put = s.3;
       count = s.2;
     }
-settled makes mode set stream bytes old new ran (Err (refusal.Templates fault)) room h s = absurd s
 settled makes mode set stream bytes old new ran (Err refusal.Room) room h s = overflows makes mode set stream bytes old new ran h s.0 s.1
 settled makes mode set stream bytes old new ran (Err refusal.Memory) room h s = s
-settled makes mode set stream bytes old new ran (Err refusal.Mode) room h s = absurd s
-settled makes mode set stream bytes old new ran (Err refusal.TooLong) room h s = absurd s
+settled makes mode set stream bytes old new ran r room h s = absurd s
 
 -- ---- what is counted
 
@@ -202,11 +186,9 @@ counted_all mode set stream old new ran (Ok summary) none h s =
 counted_all mode set stream old new ran (Err (refusal.Stream fault written)) none h s =
     let p = subst (λ (x : Result Summary CanonFault). Checks mode (templates_in set) (2 ^ 40) (Some h.rest) h.input x) s.0 h.checks in
     ((p.messages, refused fault mode set (2 ^ 40) stream h.input h.rest p.messages h.sound h.fits h.parts h.few p.refuses s.1 (h.no_error fault s.0)), s.2)
-counted_all mode set stream old new ran (Err (refusal.Templates fault)) none h s = absurd s
 counted_all mode set stream old new ran (Err refusal.Room) none h s = let more = s.0 in absurd (omega (arith, none, more))
 counted_all mode set stream old new ran (Err refusal.Memory) none h s = tt
-counted_all mode set stream old new ran (Err refusal.Mode) none h s = absurd s
-counted_all mode set stream old new ran (Err refusal.TooLong) none h s = absurd s
+counted_all mode set stream old new ran r none h s = absurd s
 
 -- ---- a room of as many bytes as the stream
 
@@ -218,13 +200,8 @@ no_room text word stream (inr (inr (some, few, inl e))) = absurd cc
 no_room text word stream (inr (inr (some, few, inr (fault, e, machine, loads)))) = absurd cc
 
 pub room_enough : (text : List ℕ) (word : ℕ) (stream old new : List ℕ) (r : Done) → Canons text word stream old new r → length stream ≤ length old → (answer_of r).status ≢ 3
-room_enough text word stream old new (Ok summary) h enough e = absurd cc
-room_enough text word stream old new (Err (refusal.Stream fault written)) h enough e = absurd cc
-room_enough text word stream old new (Err (refusal.Templates fault)) h enough e = absurd cc
-room_enough text word stream old new (Err refusal.Memory) h enough e = absurd cc
-room_enough text word stream old new (Err refusal.Mode) h enough e = absurd cc
-room_enough text word stream old new (Err refusal.TooLong) h enough e = absurd cc
 room_enough text word stream old new (Err refusal.Room) (inl h) enough e = absurd (no_room text word stream h.0)
 room_enough text word stream old new (Err refusal.Room) (inr (set, mode, given, over)) enough e =
     let less = no_longer mode set given.sound stream over.bytes over.messages over.carried over.made in
     let longer = over.longer in absurd (omega (arith, less, longer, enough))
+room_enough text word stream old new r h enough e = absurd cc
