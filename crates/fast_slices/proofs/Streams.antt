@@ -61,7 +61,7 @@ refused fault mode set turns stream input rest messages sound fits parts few r m
     }
 
 -- a reader that counts no error was none that failed
-pub not_read : (ran : Result Summary CanonFault) (UsedUp : Type 0) (old new : Reader) → IsCausedBy ran UsedUp old new → old.errors ≡ 0 → new.errors ≡ 0 → (fault : Fault) → ran ≡ Err (canon.Stream fault) → fault.cause ≢ cause.Read
+not_read : (ran : Result Summary CanonFault) (UsedUp : Type 0) (old new : Reader) → IsCausedBy ran UsedUp old new → old.errors ≡ 0 → new.errors ≡ 0 → (fault : Fault) → ran ≡ Err (canon.Stream fault) → fault.cause ≢ cause.Read
 not_read ran UsedUp old new h before after fault same is =
     let caused = subst (λ (x : Result Summary CanonFault). IsCausedBy x UsedUp old new) same h in
     let e : new.errors ≡ counted old.errors = caused.0 is in absurd (omega (arith, before, after, e))
@@ -84,8 +84,8 @@ as_passes mode set turns left a b input (Err (canon.Stream fault)) few p = p
 as_passes mode set turns left a b input (Err canon.Write) few p = p
 as_passes mode set turns left a b input (Err canon.Memory) few p = p
 
--- what is known of a run over a stream in memory
-pub record HasRun (makes : Making) (mode : Mode) (set : TemplateList) (stream bytes : List ℕ) (ran : Result Summary CanonFault) : Type 0 where
+-- what is known of a run over a stream in memory, which read so much of it
+pub record HasRun (set : TemplateList) (stream : List ℕ) (ran : Result Summary CanonFault) (Passed : List ℕ → List ℕ → Type 0) : Type 0 where
   pub input : List ℕ
   pub rest : List ℕ
   pub sound : IsSound set
@@ -93,7 +93,15 @@ pub record HasRun (makes : Making) (mode : Mode) (set : TemplateList) (stream by
   pub few : length stream < 2 ^ 40
   pub parts : stream ≡ input ++ rest
   pub no_error : (fault : Fault) → ran ≡ Err (canon.Stream fault) → fault.cause ≢ cause.Read
-  pub passes : Passes makes mode (templates_in set) (2 ^ 40) (Some rest) (Some []) (Some bytes) input ran
+  pub passes : Passed input rest
+
+pub has_run : (set : TemplateList) (stream : List ℕ) (ran : Result Summary CanonFault) (UsedUp : Type 0) (old new : Reader) (Passed : List ℕ → List ℕ → Type 0) (input rest : List ℕ) → IsSound set → IsBytes stream → length stream < 2 ^ 40 → stream ≡ input ++ rest
+    → IsCausedBy ran UsedUp old new → old.errors ≡ 0 → new.errors ≡ 0 → Passed input rest → HasRun set stream ran Passed
+has_run set stream ran UsedUp old new Passed input rest sound fits few parts caused before after passes =
+    record { input = input; rest = rest; sound = sound; fits = fits; few = few; parts = parts; no_error = not_read ran UsedUp old new caused before after; passes = passes }
+
+abbrev pub HasWritten : Making → Mode → TemplateList → List ℕ → List ℕ → Result Summary CanonFault → Type 0
+HasWritten makes mode set stream bytes ran = HasRun set stream ran (λ input rest. Passes makes mode (templates_in set) (2 ^ 40) (Some rest) (Some []) (Some bytes) input ran)
 
 broken : (makes : Making) (mode : Mode) (set : TemplateList) (stream bytes old new input rest : List ℕ) → stream ≡ input ++ rest → PassesFront makes mode (templates_in set) (Some []) (Some bytes) input → length old < length bytes → new ≡ old
     → Overflows makes mode (templates_in set) stream old new
@@ -108,7 +116,7 @@ broken makes mode set stream bytes old new input rest parts p longer same =
       same = same;
     }
 
-overflows : (makes : Making) (mode : Mode) (set : TemplateList) (stream bytes old new : List ℕ) (ran : Result Summary CanonFault) → HasRun makes mode set stream bytes ran → length old < length bytes → new ≡ old
+overflows : (makes : Making) (mode : Mode) (set : TemplateList) (stream bytes old new : List ℕ) (ran : Result Summary CanonFault) → HasWritten makes mode set stream bytes ran → length old < length bytes → new ≡ old
     → Overflows makes mode (templates_in set) stream old new
 overflows makes mode set stream bytes old new (Ok summary) h longer same =
     let p = h.passes in record {
@@ -131,7 +139,7 @@ overflows makes mode set stream bytes old new (Err (canon.Stream fault)) h longe
 overflows makes mode set stream bytes old new (Err canon.Write) h longer same = broken makes mode set stream bytes old new h.input h.rest h.parts h.passes longer same
 overflows makes mode set stream bytes old new (Err canon.Memory) h longer same = broken makes mode set stream bytes old new h.input h.rest h.parts h.passes longer same
 
-pub settled : (makes : Making) (mode : Mode) (set : TemplateList) (stream bytes old new : List ℕ) (ran : Result Summary CanonFault) (r : Done) → length bytes < 2 ^ 64 → HasRun makes mode set stream bytes ran → Settles ran bytes old new r
+pub settled : (makes : Making) (mode : Mode) (set : TemplateList) (stream bytes old new : List ℕ) (ran : Result Summary CanonFault) (r : Done) → length bytes < 2 ^ 64 → HasWritten makes mode set stream bytes ran → Settles ran bytes old new r
     → Writes makes mode (templates_in set) stream old new r
 settled makes mode set stream bytes old new ran (Ok summary) room h s =
     let p = subst (λ (x : Result Summary CanonFault). Passes makes mode (templates_in set) (2 ^ 40) (Some h.rest) (Some []) (Some bytes) h.input x) s.0 h.passes in
@@ -160,21 +168,10 @@ settled makes mode set stream bytes old new ran r room h s = absurd s
 
 -- ---- what is counted
 
--- what is known of a check of a stream in memory
-pub record HasChecked (mode : Mode) (set : TemplateList) (stream : List ℕ) (ran : Result Summary CanonFault) : Type 0 where
-  pub input : List ℕ
-  pub rest : List ℕ
-  pub sound : IsSound set
-  pub fits : IsBytes stream
-  pub few : length stream < 2 ^ 40
-  pub parts : stream ≡ input ++ rest
-  pub no_error : (fault : Fault) → ran ≡ Err (canon.Stream fault) → fault.cause ≢ cause.Read
-  pub checks : Checks mode (templates_in set) (2 ^ 40) (Some rest) input ran
-
-pub counted_all : (mode : Mode) (set : TemplateList) (stream old new : List ℕ) (ran : Result Summary CanonFault) (r : Done) → length old ≡ 0 → HasChecked mode set stream ran → Settles ran [] old new r
+pub counted_all : (mode : Mode) (set : TemplateList) (stream old new : List ℕ) (ran : Result Summary CanonFault) (r : Done) → length old ≡ 0 → HasRun set stream ran (λ input rest. Checks mode (templates_in set) (2 ^ 40) (Some rest) input ran) → Settles ran [] old new r
     → Counts mode (templates_in set) stream r
 counted_all mode set stream old new ran (Ok summary) none h s =
-    let p = subst (λ (x : Result Summary CanonFault). Checks mode (templates_in set) (2 ^ 40) (Some h.rest) h.input x) s.0 h.checks in
+    let p = subst (λ (x : Result Summary CanonFault). Checks mode (templates_in set) (2 ^ 40) (Some h.rest) h.input x) s.0 h.passes in
     let all : stream ≡ h.input = h.parts ∙ ap (λ (xs : List ℕ). h.input ++ xs) p.ends.ended ∙ append-nil h.input in record {
       messages = p.messages;
       bytes = p.out;
@@ -184,7 +181,7 @@ counted_all mode set stream old new ran (Ok summary) none h s =
       no_longer = subst (λ (xs : List ℕ). length p.out ≤ length xs) (sym all) p.no_longer;
     }
 counted_all mode set stream old new ran (Err (refusal.Stream fault written)) none h s =
-    let p = subst (λ (x : Result Summary CanonFault). Checks mode (templates_in set) (2 ^ 40) (Some h.rest) h.input x) s.0 h.checks in
+    let p = subst (λ (x : Result Summary CanonFault). Checks mode (templates_in set) (2 ^ 40) (Some h.rest) h.input x) s.0 h.passes in
     ((p.messages, refused fault mode set (2 ^ 40) stream h.input h.rest p.messages h.sound h.fits h.parts h.few p.refuses s.1 (h.no_error fault s.0)), s.2)
 counted_all mode set stream old new ran (Err refusal.Room) none h s = let more = s.0 in absurd (omega (arith, none, more))
 counted_all mode set stream old new ran (Err refusal.Memory) none h s = tt
