@@ -1,6 +1,6 @@
 -- A message that is written, or why it is not.
-use Rattle.std.proofs.Common.{◌≡◌, ◌≤◌, ℕ, Bool, true, false, ◌&&◌, List, [], ◌++◌, Some, None, Ok, Err, Result, drop, refl, ap, ◌∙◌, arith}
-use Rattle.std.specs.Prelude.{OnOk, nat_lt, not, if◌then◌else◌}
+use Rattle.std.proofs.Common.{◌≡◌, ◌≤◌, ℕ, Bool, true, false, List, ◌++◌, Some, None, refl, arith}
+use Rattle.std.specs.Prelude.{nat_lt, not, if◌then◌else◌}
 use Rattle.fast_template.specs.Resolved.{Instructions, Resolved}
 use Rattle.fast_template.specs.TemplateSets.{TemplateList, templates_in, IsSound}
 use Rattle.fast_dictionary.specs.Dictionary.{Dictionary}

@@ -1,11 +1,11 @@
 -- How many nodes a sequence leaves, element by element.
-use Rattle.std.proofs.Common.{◌≡◌, ◌<◌, ◌≤◌, ◌-◌, ◌+◌, inl, inr, ℕ, zero, suc, Bool, true, false, ◌||◌, List, [], ◌∷◌, length, drop, map, Option, Some, None, refl, ap, ◌∙◌, arith}
+use Rattle.std.proofs.Common.{◌≡◌, ◌<◌, ◌≤◌, ◌-◌, ◌+◌, inl, inr, ℕ, zero, suc, Bool, true, false, ◌||◌, List, [], ◌∷◌, length, drop, Option, Some, None, refl, ap, ◌∙◌, arith}
 use Rattle.std.specs.Prelude.{nat_lt}
 use Rattle.std.specs.Global.{Vec}
 use Rattle.std.proofs.lemmas.Bool.Decides.{nat_tests}
 use Rattle.fast_stream.specs.declared.message.Node.{Node}
 use Rattle.fast_stream.specs.declared.message.Node.TheVariants.{Sequence}
-use Rattle.fast_stream.specs.Nodes.{Elements, elements_of, element_count, item_of, items_in, nodes_in, nodes_in_elements, nodes_of}
+use Rattle.fast_stream.specs.Nodes.{item_of, items_in, nodes_in, nodes_in_elements, nodes_of}
 use Rattle.fast_nodes.proofs.Views.{count_seen, is_elements, seen}
 use Rattle.fast_nodes.specs.FirstRefusal.{IsLeft, has_large, has_large_in, item_is_large}
 

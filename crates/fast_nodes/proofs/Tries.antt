@@ -1,6 +1,6 @@
 -- Nodes that are written one after the other.
-use Rattle.std.proofs.Common.{◌≡◌, ◌≤◌, ◌<◌, ◌+◌, ℕ, Bool, true, false, ◌&&◌, ◌||◌, List, [], ◌∷◌, ◌++◌, length, map, drop, get_or, ℤ, Some, None, Ok, Err, inl, inr, Result, refl, sym, ap, ◌∙◌, arith}
-use Rattle.std.specs.Prelude.{◌⊎◌, nat_lt}
+use Rattle.std.proofs.Common.{◌≡◌, ◌≤◌, ◌<◌, ◌+◌, ℕ, Bool, true, false, ◌&&◌, ◌||◌, List, ◌∷◌, ◌++◌, length, drop, get_or, ℤ, Some, Ok, Err, inl, inr, Result, refl, sym, ap, ◌∙◌, arith}
+use Rattle.std.specs.Prelude.{nat_lt}
 use Rattle.std.specs.Global.{Vec}
 use Rattle.std.proofs.lemmas.List.{drop_more, drop_all}
 use Rattle.fast_template.specs.declared.resolved.Flat.{Flat}
@@ -13,7 +13,7 @@ use Rattle.fast_stream.specs.declared.message.Node.TheVariants as nodes
 use Rattle.fast_value.specs.declared.kind.Presence.{Presence}
 use Rattle.fast_template.specs.declared.resolved.FieldPart.{FieldPart}
 use Rattle.fast_template.specs.Resolved.{Instruction, Instructions, instruction_of, list_of, then_instruction, is_optional, has_map}
-use Rattle.fast_stream.specs.Nodes.{Item, single, group_items, sequence_elements, Items, no_items, then_item, Elements, no_elements, then_element, item_of, items_in, elements_of, element_count}
+use Rattle.fast_stream.specs.Nodes.{Item, single, group_items, sequence_elements, Items, no_items, then_item, Elements, no_elements, then_element, item_of, items_in, element_count}
 use Rattle.fast_nodes.specs.declared.fault.EncodeFault.{EncodeFault}
 use Rattle.fast_nodes.specs.Added.{Books, CanTry, CanTryOne, CanTryEach, GoesOn, IsPut, IsPutWhole, IsSmall, AreSmall, AreSmallIn, NotPut, Piece, Puts, PutsWhole, Seals, both, each_of, of_item, of_items, of_part, segment_of}
 use Rattle.fast_nodes.specs.FirstRefusal.{item_is_large, has_large, has_large_in, part_judged, item_judged, items_judged, elements_judged}

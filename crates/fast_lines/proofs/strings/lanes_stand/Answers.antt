@@ -1,4 +1,3 @@
-use Rattle.std.proofs.Common.{arith}
 use Rattle.std.proofs.lemmas.Bool.{eqb-true}
 use Rattle.fast_lines.proofs.Lanes.{lanes_plain}
 use Rattle.fast_lines.proofs.strings.lanes_stand.Goals as goal

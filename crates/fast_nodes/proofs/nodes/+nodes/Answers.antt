@@ -1,13 +1,12 @@
-use Rattle.std.proofs.Common.{rules, ◌≡◌, ◌≢◌, ◌+◌, ◌∷◌, ◌∙◌, Ok, Err, ap, length, drop, arith}
+use Rattle.std.proofs.Common.{rules, ◌≢◌, ◌∙◌, Ok, Err, ap, length, arith}
 use Rattle.std.proofs.lemmas.Result.{err_from_is_err_and}
 use Rattle.fast_template.specs.Resolved.{has_map, list_of}
 use Rattle.fast_stream.specs.Nodes.{items_in}
-use Rattle.fast_nodes.specs.Added.{CanTry, CanTryEach, CanTryOne, books_of}
+use Rattle.fast_nodes.specs.Added.{CanTry, books_of}
 use Rattle.fast_writer.specs.Levels.{level_of}
 use Rattle.fast_writer.specs.Written.{IsEmpty}
 use Rattle.fast_nodes.proofs.Shapes.{other_number}
-use Rattle.fast_nodes.proofs.Tries.{can_each, can_node, can_segment, element_refused, elements_end, elements_next, few_elements, group_put, length_refused, next_of, no_group_put, parts_put, node_refused, nodes_end, nodes_next, segment_put, sequence_put}
-use Rattle.fast_nodes.proofs.Views.{seen}
+use Rattle.fast_nodes.proofs.Tries.{can_each, can_segment, element_refused, elements_end, elements_next, few_elements, group_put, length_refused, next_of, no_group_put, parts_put, nodes_end, nodes_next, segment_put, sequence_put}
 use Rattle.fast_nodes.proofs.nodes.+nodes.Goals as goal
 
 -- ---- nodes in a row
