@@ -1,18 +1,15 @@
 //! Writes one message.
 
-ghost use Rattle.std.specs.Prelude.{◌≡◌, ◌⊎◌, ◌&&◌, [], Some, true, false, drop, IsTrue, IfErr, OnOk, OnErr};
+ghost use Rattle.std.specs.Prelude.{◌≡◌, [], true, IsTrue, MatchResult, OnErr};
 ghost use Rattle.fast_template.specs.Resolved.{list_of};
 ghost use Rattle.fast_template.specs.TemplateSets.{identifier_key};
 ghost use Rattle.fast_value.specs.declared.scalar.Scalar.TheVariants.{U32};
 ghost use Rattle.fast_stream.specs.Nodes.{content_of, items_in};
-ghost use Rattle.fast_stream.specs.Bodies.{WithMap};
 ghost use Rattle.fast_stream.specs.Streams.{identifier as identifier_part};
 ghost use Rattle.fast_walk.specs.Told.{HoldScalars};
-ghost use Rattle.fast_nodes.specs.Added.{Adds, AnswersBytes, CanTry, GoesOn, MessageStands, message_judged, rest_judged};
-ghost use Rattle.fast_writer.specs.Canonical.{CanonBody, IsShortestMap};
-ghost use Rattle.fast_nodes.specs.FirstRefusal.{items_judged, refused, segment_judged};
+ghost use Rattle.fast_nodes.specs.Added.{AnswersBytes, CanTry, IsRestPut, NotPut, books_of, in_segment, of_message, rest_judged};
 ghost use Rattle.fast_writer.specs.Levels.{level_of};
-ghost use Rattle.fast_writer.specs.Written.{Ended, has_set, state};
+ghost use Rattle.fast_writer.specs.Written.{state};
 
 use fast_dictionary::Entries;
 use fast_nodes::{EncodeCause, EncodeFault, Journal, put_back, put_nodes, put_value, seal};
@@ -30,22 +27,14 @@ fn put_rest<'a, E: Entries>(
     level: &mut Segment,
     out: &mut Vec<u8>,
 ) -> Result<(), EncodeFault>
-    requires ready { CanTry (E.serves journal.now.entries) (list_of members.now)
-        (items_in nodes.now) }
-    requires holds { HoldScalars (E.contents journal.now.entries) }
-    ensures added { OnOk result (Adds (λ s x t. CanonBody (list_of members.now) s x
-        (items_in nodes.now) t) (λ s. items_judged (list_of members.now) (items_in nodes.now) s)
-        (E.contents journal.old.entries) (level_of level.old) (E.contents journal.new.entries)
-        (level_of level.new)) }
-    ensures ended { OnOk result (Ended (level_of level.new) out.old.items out.new.items) }
-    ensures room { OnOk result
-        ((level.new.own && has_set (drop 1792 level.new.bits)) ≡ false) }
-    ensures refused { IfErr result (λ f. (f ≡ refused EncodeCause.Memory)
-        ⊎ (rest_judged level.old.own (list_of members.now) (items_in nodes.now)
-        (state (E.contents journal.old.entries) level.old.bits) ≡ Err f)) }
-    ensures goes { GoesOn (E.serves journal.old.entries) journal.old.changes.items
-        (E.contents journal.old.entries) (E.serves journal.new.entries) journal.new.changes.items
-        (E.contents journal.new.entries) }
+    requires { CanTry (books_of E.Entries journal.now) (list_of members.now) (items_in nodes.now) }
+    ensures put { MatchResult result
+        (λ _. IsRestPut (list_of members.now) (items_in nodes.now)
+        (books_of E.Entries journal.old) (level_of level.old) out.old.items
+        (books_of E.Entries journal.new) (level_of level.new) out.new.items)
+        (λ f. NotPut (rest_judged level.old.own (list_of members.now) (items_in nodes.now)
+        (state (E.contents journal.old.entries) level.old.bits))
+        (books_of E.Entries journal.old) (books_of E.Entries journal.new) f) }
     ensures unchanged { OnErr result (out.new.items ≡ out.old.items) }
 {
     put_nodes(members, nodes, alloc, journal, level)?;
@@ -77,14 +66,11 @@ pub(crate) fn put_message<'a, E: Entries>(
 ) -> Result<(), EncodeFault>
     requires identifier { identifier.now ≡ identifier_part }
     requires served { IsTrue (E.serves journal.now.entries identifier_key) }
-    requires ready { CanTry (E.serves journal.now.entries) (list_of members.now)
+    requires ready { CanTry (books_of E.Entries journal.now) (list_of members.now)
         (content_of message.now).items }
-    requires holds { HoldScalars (E.contents journal.now.entries) }
-    ensures answer { AnswersBytes (λ d x e. WithMap IsShortestMap (MessageStands
-        (list_of members.now) (content_of message.now)) d x e)
-        (λ d. segment_judged true (message_judged (list_of members.now) (content_of message.now)) d)
-        (E.contents journal.old.entries) out.old.items (E.contents journal.new.entries)
-        out.new.items result }
+    ensures answer { AnswersBytes (in_segment true (of_message (list_of members.now)
+        (content_of message.now))) (E.contents journal.old.entries) out.old.items
+        (E.contents journal.new.entries) out.new.items result }
     ensures holds { HoldScalars (E.contents journal.new.entries) }
     ensures unchanged { OnErr result ((out.new.items ≡ out.old.items)
         × (E.contents journal.new.entries ≡ E.contents journal.old.entries)) }

@@ -1,5 +1,9 @@
--- Lemmas on a text of which only a front is kept.
-use Rattle.std.proofs.Common.{◌≡◌, ◌≤◌, ◌+◌, ◌-◌, ◌∙◌, ℕ, List, [], ◌∷◌, ◌++◌, length, take, min, ap, sym, arith, length-take, refl, zero, suc}
+-- A text that is read, of which only a front is kept.
+use Rattle.std.proofs.Common.{◌≡◌, ◌≤◌, ◌+◌, ◌-◌, ◌∙◌, ℕ, List, [], ◌∷◌, ◌++◌, length, take, min, ap, sym, arith, length-take, append-nil, subst, refl, zero, suc}
+use Rattle.fast_io.specs.Counts.{counted}
+use Rattle.fast_io.specs.declared.input.ByteInput.{Ghosts}
+use Rattle.fast_decoder.specs.Inputs.{Reader, Reads, reader_by}
+use Rattle.fast_decoder.proofs.Inputs.{more_read}
 use Rattle.std.proofs.lemmas.List.{take_all, take_min}
 use Rattle.std.proofs.Math.Nat.{min_comm}
 use Rattle.std.proofs.Math.Seq.{take-append-add}
@@ -20,3 +24,18 @@ kept_then (suc n) (x ∷ got) more = ap (λ (xs : List ℕ). x ∷ xs) (kept_the
 -- what was kept is the whole text where it is within the limit
 pub whole_kept : (n : ℕ) (got : List ℕ) → length (take (n + 1) got) ≤ n → take (n + 1) got ≡ got
 whole_kept n got few = take_all (n + 1) got (omega (arith, few, length-take (n + 1) got))
+
+abbrev pub reader_of : {R : Type 0} (input : Ghosts R) → R → Reader
+reader_of input r = reader_by input.left input.calls input.errors input.ends r
+
+-- So many reads gave these bytes, a front of which is kept; none failed, and none met the end.
+pub record Keeps (old now : Reader) (count : ℕ) (text : List ℕ) : Type 0 where
+  pub got : List ℕ
+  pub reads : Reads old now count got
+  pub kept : text ≡ take 16777217 got
+  pub errors : now.errors ≡ old.errors
+  pub ends : now.ends ≡ old.ends
+
+-- one read more, which gave nothing
+pub ended : {old now new : Reader} {count : ℕ} {text : List ℕ} (k : Keeps old now count text) → Reads now new 1 [] → Reads old new (count + 1) k.got
+ended {old} {now} {new} {count} k one = subst (λ (got : List ℕ). Reads old new (count + 1) got) (append-nil k.got) (more_read old now new count k.got [] k.reads one)

@@ -1,7 +1,7 @@
 -- Texts of lists of nodes, from their front on.
-use Rattle.std.proofs.Common.{◌≡◌, ◌≢◌, ◌<◌, ◌+◌, ℕ, suc, List, [], ◌∷◌, ◌++◌, Option, None, length, drop, get_or, map, option_map, Result, Ok, Err, refl, sym, subst, ap, ap₂, ◌∙◌}
+use Rattle.std.proofs.Common.{◌≡◌, ◌≢◌, ◌<◌, ◌≤◌, ◌+◌, ℕ, suc, List, [], ◌∷◌, ◌++◌, Option, Some, None, length, drop, get_or, map, option_map, Result, Ok, Err, refl, sym, subst, ap, ◌∙◌}
 use Rattle.std.specs.Prelude.{codes}
-use Rattle.std.proofs.lemmas.List.{drop_more}
+use Rattle.std.proofs.lemmas.List.{append-nil, drop_all, drop_more}
 use Rattle.std.specs.Global.{Vec, Global}
 use Rattle.std.specs.formers.vec.Vec.{mapped}
 use mathlib.Core.Former.{this}
@@ -18,8 +18,8 @@ use Rattle.fast_stream.specs.Nodes.{Item, Items, sequence_elements, item_of, ite
 use Rattle.fast_lines.specs.declared.form.Form.{Form}
 use Rattle.fast_lines.specs.Signs.{between}
 use Rattle.fast_lines.specs.Lines.{braced, bracketed, elements_text, joined, member_text, members_text, node_text, sequence_text}
-use Rattle.fast_lines.proofs.Written.{extends_by, joined_none, leads_more, leads_stop, shows_behind, shows_err}
-use Rattle.fast_lines.specs.Written.{Adds, Leads, Shows}
+use Rattle.fast_lines.proofs.Written.{extends_by, joined_none, shows_behind, shows_err, shows_no_first, shows_then}
+use Rattle.fast_lines.specs.Written.{Adds, Shows}
 use Rattle.fast_lines.specs.declared.lines.ShowFault.{ShowFault}
 
 -- one list is longer than the other
@@ -31,62 +31,50 @@ lengths_differ form before (f ∷ fs) (n ∷ ns) h =
     ap (joined (member_text form before (instruction_of f) (item_of n))) (lengths_differ form (between form) fs ns (λ e. h (ap suc e)))
     ∙ joined_none (member_text form before (instruction_of f) (item_of n))
 
-pub members_at : (form : Form) (before : List ℕ) (flats : List Flat) (nodes : List Node) (i : ℕ) (f : Flat) (n : Node) → i < length flats → i < length nodes
-    → members_text form before (list_of (drop i flats)) (items_in (drop i nodes))
-    ≡ joined (member_text form before (instruction_of (get_or flats i f)) (item_of (get_or nodes i n))) (members_text form (between form) (list_of (drop (i + 1) flats)) (items_in (drop (i + 1) nodes)))
-members_at form before flats nodes i f n a b =
-    ap₂ (λ (fs : List Flat) (ns : List Node). members_text form before (list_of fs) (items_in ns)) (drop_more flats i f a) (drop_more nodes i n b)
-
-pub elements_at : (form : Form) (text : Items → Option (List ℕ)) (before : List ℕ) (es : List (Vec Node)) (i : ℕ) (e : Vec Node) → i < length es
-    → elements_text form text before (elements_of (map (λ v. items_in v.items) (drop i es)))
-    ≡ joined (option_map (λ t. before ++ t) (braced (text (items_in (get_or es i e).items)))) (elements_text form text (between form) (elements_of (map (λ v. items_in v.items) (drop (i + 1) es))))
-elements_at form text before es i e a = ap (λ l. elements_text form text before (elements_of (map (λ v. items_in v.items) l))) (drop_more es i e a)
-
 -- ---- steps of the two loops
 
-pub members_more : (form : Form) (whole : Option (List ℕ)) (front : List ℕ) (flats : List Flat) (nodes : List Node) (i : ℕ) (f : Flat) (n : Node) (a b c : List ℕ)
-    → i < length flats → i < length nodes → get_or flats i f ≡ f → get_or nodes i n ≡ n
-    → Leads whole (members_text form front (list_of (drop i flats)) (items_in (drop i nodes))) a b
-    → Adds (member_text form front (instruction_of f) (item_of n)) b c
-    → Leads whole (members_text form (between form) (list_of (drop (i + 1) flats)) (items_in (drop (i + 1) nodes))) a c
-members_more form whole front flats nodes i f n a b c lf ln ff nn l x =
-    let rest = members_text form (between form) (list_of (drop (i + 1) flats)) (items_in (drop (i + 1) nodes)) in
-    leads_more whole (member_text form front (instruction_of f) (item_of n)) rest a b c
-    (subst (λ t. Leads whole t a b) (members_at form front flats nodes i f n lf ln ∙ ap₂ (λ g m. joined (member_text form front (instruction_of g) (item_of m)) rest) ff nn) l) x
+pub next_of : {A : Type 0} (xs : List A) (at : ℕ) (x : A) → at < length xs → x ≡ get_or xs at x → drop at xs ≡ x ∷ drop (at + 1) xs
+next_of xs at x inside is = drop_more xs at x inside ∙ ap (λ (y : _). y ∷ drop (at + 1) xs) (sym is)
 
-pub members_stop : (form : Form) (whole : Option (List ℕ)) (front : List ℕ) (flats : List Flat) (nodes : List Node) (i : ℕ) (f : Flat) (n : Node) (a b c : List ℕ) (e : ShowFault) (r : Result Unit ShowFault)
-    → r ≡ Err e → i < length flats → i < length nodes → get_or flats i f ≡ f → get_or nodes i n ≡ n
-    → Leads whole (members_text form front (list_of (drop i flats)) (items_in (drop i nodes))) a b
-    → Shows (member_text form front (instruction_of f) (item_of n)) (Err e) b c
-    → Shows whole r a c
-members_stop form whole front flats nodes i f n a b c e r is lf ln ff nn l x =
-    let rest = members_text form (between form) (list_of (drop (i + 1) flats)) (items_in (drop (i + 1) nodes)) in
-    leads_stop whole (member_text form front (instruction_of f) (item_of n)) rest a b c e r is
-    (subst (λ t. Leads whole t a b) (members_at form front flats nodes i f n lf ln ∙ ap₂ (λ g m. joined (member_text form front (instruction_of g) (item_of m)) rest) ff nn) l) x
+-- From here on the texts of instructions are left: what is answered of those is answered of all.
+pub record MembersLeft (form : Form) (before : List ℕ) (flats : List Flat) (nodes : List Node) (old : List ℕ) (at : ℕ) (lead now : List ℕ) : Type 0 where
+  pub on : (r : Result Unit ShowFault) (new : List ℕ) → Shows (members_text form lead (list_of (drop at flats)) (items_in (drop at nodes))) r now new → Shows (members_text form before (list_of flats) (items_in nodes)) r old new
 
-pub elements_more : (form : Form) (whole : Option (List ℕ)) (text : Items → Option (List ℕ)) (front : List ℕ) (es : List (Vec Node)) (i : ℕ) (v : Vec Node) (a b c d : List ℕ)
-    → i < length es → get_or es i v ≡ v
-    → Leads whole (elements_text form text front (elements_of (map (λ u. items_in u.items) (drop i es)))) a b
-    → c ≡ b ++ front
-    → Adds (braced (text (items_in v.items))) c d
-    → Leads whole (elements_text form text (between form) (elements_of (map (λ u. items_in u.items) (drop (i + 1) es)))) a d
-elements_more form whole text front es i v a b c d le vv l p x =
-    let rest = elements_text form text (between form) (elements_of (map (λ u. items_in u.items) (drop (i + 1) es))) in
-    leads_more whole (option_map (λ t. front ++ t) (braced (text (items_in v.items)))) rest a b d
-    (subst (λ t. Leads whole t a b) (elements_at form text front es i v le ∙ ap (λ (u : Vec Node). joined (option_map (λ t. front ++ t) (braced (text (items_in u.items)))) rest) vv) l)
-    (shows_behind front (braced (text (items_in v.items))) b c d (Ok tt) p x)
+adds_nothing : (a : List ℕ) → Adds (Some []) a a
+adds_nothing a = record { line = []; there = refl; appended = sym (append-nil a) }
 
-pub elements_stop : (form : Form) (whole : Option (List ℕ)) (text : Items → Option (List ℕ)) (front : List ℕ) (es : List (Vec Node)) (i : ℕ) (v : Vec Node) (a b c d : List ℕ) (e : ShowFault) (r : Result Unit ShowFault)
-    → r ≡ Err e → i < length es → get_or es i v ≡ v
-    → Leads whole (elements_text form text front (elements_of (map (λ u. items_in u.items) (drop i es)))) a b
-    → c ≡ b ++ front
-    → Shows (braced (text (items_in v.items))) (Err e) c d
-    → Shows whole r a d
-elements_stop form whole text front es i v a b c d e r is le vv l p x =
-    let rest = elements_text form text (between form) (elements_of (map (λ u. items_in u.items) (drop (i + 1) es))) in
-    leads_stop whole (option_map (λ t. front ++ t) (braced (text (items_in v.items)))) rest a b d e r is
-    (subst (λ t. Leads whole t a b) (elements_at form text front es i v le ∙ ap (λ (u : Vec Node). joined (option_map (λ t. front ++ t) (braced (text (items_in u.items)))) rest) vv) l)
-    (shows_behind front (braced (text (items_in v.items))) b c d (Err e) p x)
+pub members_end : {form : Form} {before old lead now : List ℕ} {flats : List Flat} {nodes : List Node} {at : ℕ} → MembersLeft form before flats nodes old at lead now
+    → length flats ≤ at → length nodes ≤ at → Adds (members_text form before (list_of flats) (items_in nodes)) old now
+members_end {now = now} {flats = flats} {nodes = nodes} {at = at} left no_flat no_node = (rw (drop_all at flats no_flat, drop_all at nodes no_node) at left.on) (Ok tt) now (adds_nothing now)
+
+module _ {form : Form} {before old lead now : List ℕ} {flats : List Flat} {nodes : List Node} {at : ℕ} {f : Flat} {n : Node} (left : MembersLeft form before flats nodes old at lead now)
+    (flat : drop at flats ≡ f ∷ drop (at + 1) flats) (node : drop at nodes ≡ n ∷ drop (at + 1) nodes) where
+  pub members_next : {new : List ℕ} → Adds (member_text form lead (instruction_of f) (item_of n)) now new → MembersLeft form before flats nodes old (at + 1) (between form) new
+  members_next x = record { on = λ r last h. (rw (flat, node) at left.on) r last (shows_then _ last r x h) }
+
+  pub members_stop : (new : List ℕ) (e : ShowFault) → Shows (member_text form lead (instruction_of f) (item_of n)) (Err e) now new → Shows (members_text form before (list_of flats) (items_in nodes)) (Err e) old new
+  members_stop new e h = (rw (flat, node) at left.on) (Err e) new (shows_no_first (member_text form lead (instruction_of f) (item_of n)) (members_text form (between form) (list_of (drop (at + 1) flats)) (items_in (drop (at + 1) nodes))) now new e h)
+
+-- the texts of elements of instructions
+abbrev pub texts : Form → List Flat → List ℕ → List (Vec Node) → Option (List ℕ)
+texts form members lead es = elements_text form (λ ns. members_text form [] (list_of members) ns) lead (elements_of (map (λ v. items_in v.items) es))
+
+abbrev pub text_of : Form → List Flat → List Node → Option (List ℕ)
+text_of form members nodes = braced (members_text form [] (list_of members) (items_in nodes))
+
+pub record ElementsLeft (form : Form) (members : List Flat) (es : List (Vec Node)) (old : List ℕ) (at : ℕ) (lead now : List ℕ) : Type 0 where
+  pub on : (r : Result Unit ShowFault) (new : List ℕ) → Shows (texts form members lead (drop at es)) r now new → Shows (texts form members [] es) r old new
+
+pub elements_end : {form : Form} {members : List Flat} {es : List (Vec Node)} {old lead now : List ℕ} {at : ℕ} → ElementsLeft form members es old at lead now → length es ≤ at → Adds (texts form members [] es) old now
+elements_end {es = es} {now = now} {at = at} left end = (rw (drop_all at es end) at left.on) (Ok tt) now (adds_nothing now)
+
+module _ {form : Form} {members : List Flat} {es : List (Vec Node)} {old lead now mid : List ℕ} {at : ℕ} {e : Vec Node} {nodes : List Node} (left : ElementsLeft form members es old at lead now)
+    (here : drop at es ≡ e ∷ drop (at + 1) es) (is : nodes ≡ e.items) (led : mid ≡ now ++ lead) where
+  pub elements_next : {new : List ℕ} → Adds (text_of form members nodes) mid new → ElementsLeft form members es old (at + 1) (between form) new
+  elements_next {new} x = record { on = λ r last h. (rw (here) at left.on) r last (shows_then _ last r (shows_behind lead (text_of form members e.items) now mid new (Ok tt) led (subst (λ ns. Adds (text_of form members ns) mid new) is x)) h) }
+
+  pub elements_stop : (new : List ℕ) (f : ShowFault) → Shows (text_of form members nodes) (Err f) mid new → Shows (texts form members [] es) (Err f) old new
+  elements_stop new f h = (rw (here) at left.on) (Err f) new (shows_no_first (option_map (λ t. lead ++ t) (text_of form members e.items)) (texts form members (between form) (drop (at + 1) es)) now new f (shows_behind lead (text_of form members e.items) now mid new (Err f) led (subst (λ ns. Shows (text_of form members ns) (Err f) mid new) is h)))
 
 -- ---- what the constructors of the program are
 

@@ -71,7 +71,7 @@ words_put xs t next n last all covers room =
     ∙ ap (λ x. x ++ drop (next + length t) xs) (take-append-drop last t)
 
 -- a word that is put into bytes, of which those that are laid out count
-pub word_laid : (xs bytes : List ℕ) (at start n : ℕ) → at + n ≤ length xs → length (chunk 0 n (drop start bytes)) ≡ n → 64 - start ≤ n
+word_laid : (xs bytes : List ℕ) (at start n : ℕ) → at + n ≤ length xs → length (chunk 0 n (drop start bytes)) ≡ n → 64 - start ≤ n
     → take (at + (64 - start)) (put_chunk at xs (chunk 0 n (drop start bytes))) ≡ take at xs ++ laid bytes start
 word_laid xs bytes at start n room long h =
     let ys = chunk 0 n (drop start bytes) in
@@ -81,3 +81,11 @@ word_laid xs bytes at start n room long h =
     ∙ ap (λ m. take (m + (64 - start)) (take at xs ++ (ys ++ rest))) (sym front)
     ∙ take-append-add (take at xs) (ys ++ rest) (64 - start)
     ∙ ap (λ z. take at xs ++ z) (take-append-le (64 - start) ys rest (omega (arith, long, h)) ∙ take-take (64 - start) n (drop start bytes) h)
+
+-- the same of the bytes from there on
+pub put_laid : (xs bytes : List ℕ) (at start n : ℕ) → length bytes ≡ 96 → start + n ≤ 96 → at + n ≤ length xs → 64 - start ≤ n
+    → take (at + (64 - start)) (put_chunk at xs (chunk 0 n (take (96 - start) (drop start bytes)))) ≡ take at xs ++ laid bytes start
+put_laid xs bytes at start n long fits room h =
+    let rest = length-drop start bytes in
+    let back : take (96 - start) (drop start bytes) ≡ drop start bytes = take_all (96 - start) (drop start bytes) (omega (arith, rest, long)) in
+    rw (back) (word_laid xs bytes at start n room (length-chunk 0 n (drop start bytes) (omega (arith, rest, long, fits))) h)

@@ -16,7 +16,7 @@ use Rattle.fast_lines.specs.declared.form.Form.{Form}
 use Rattle.fast_lines.specs.declared.form.Form.TheVariants.{Text, Json}
 use Rattle.fast_lines.specs.Lines.{joined}
 use Rattle.fast_lines.specs.Signs.{is_plain, unit_text}
-use Rattle.fast_lines.specs.Written.{Extends, Writes, Adds, Shows, Leads}
+use Rattle.fast_lines.specs.Written.{Extends, Writes, Adds, Shows}
 
 -- ---- more behind an output
 
@@ -41,6 +41,9 @@ appended_more a b c s t e f = f ∙ ap (λ l. l ++ t) e ∙ append_assoc a s t
 pub writes_err : (t a b : List ℕ) (r : Result Unit AllocError) → IsErr r → Extends a b → Writes t r a b
 writes_err t a b (Ok u) e x = absurd (true≢false (sym e))
 writes_err t a b (Err f) e x = x
+
+pub writes_stop : (t s a b c : List ℕ) (r : Result Unit AllocError) → IsErr r → b ≡ a ++ s → Extends b c → Writes t r a c
+writes_stop t s a b c r e was more = writes_err t a c r e (extends_more a b c (extends_by a b s was) more)
 
 -- ---- one more element of a list
 
@@ -69,9 +72,15 @@ encode_one xs i d lt =
     ap encode_lower (take_more xs i d lt) ∙ encode-append lower_digits (take i xs) (get_or xs i d ∷ [])
 
 -- the digits of what is left of some bytes, from its first on
-pub encode_front : (xs : List ℕ) (i : ℕ) (d : ℕ) → i < length xs → encode_lower (drop i xs) ≡ encode_lower (get_or xs i d ∷ []) ++ encode_lower (drop (i + 1) xs)
+encode_front : (xs : List ℕ) (i : ℕ) (d : ℕ) → i < length xs → encode_lower (drop i xs) ≡ encode_lower (get_or xs i d ∷ []) ++ encode_lower (drop (i + 1) xs)
 unfolding encode_with
 encode_front xs i d lt = ap encode_lower (drop_more xs i d lt)
+
+-- and what stands behind it
+pub hex_more : (xs rest : List ℕ) (left : ℕ) → 0 < left → left ≤ length xs → encode_lower (get_or xs (left - 1) 0 ∷ []) ++ (encode_lower (drop left xs) ++ rest) ≡ encode_lower (drop (left - 1) xs) ++ rest
+hex_more xs rest left some few =
+    let next : left - 1 + 1 ≡ left = omega (arith, some) in
+    rw (encode_front xs (left - 1) 0 (omega (arith, some, few)), next, append_assoc) refl
 
 pub encode_none : encode_lower [] ≡ []
 unfolding encode_with
@@ -108,28 +117,7 @@ adds_between o w t a b c d e x f = record {
   appended = f ∙ ap (λ l. l ++ w) (x.appended ∙ ap (λ l. l ++ x.line) e ∙ append_assoc a o x.line) ∙ append_assoc a (o ++ x.line) w;
 }
 
--- ---- texts of lists, from their front on
-
-pub leads_start : (t : Option (List ℕ)) (a : List ℕ) → Leads t t a a
-leads_start t a = record { front = []; whole_is = same t; appended = sym (append-nil a) } where
-  same : (o : Option (List ℕ)) → o ≡ option_map (λ x. [] ++ x) o
-  same None = refl
-  same (Some x) = refl
-
-joined_some : (s : List ℕ) (t : Option (List ℕ)) → joined (Some s) t ≡ option_map (λ x. s ++ x) t
-joined_some s None = refl
-joined_some s (Some t) = refl
-
-behind_both : (s u : List ℕ) (t : Option (List ℕ)) → option_map (λ x. s ++ x) (option_map (λ x. u ++ x) t) ≡ option_map (λ x. (s ++ u) ++ x) t
-behind_both s u None = refl
-behind_both s u (Some t) = ap Some (sym (append_assoc s u t))
-
-pub leads_more : (whole t rest : Option (List ℕ)) (a b c : List ℕ) → Leads whole (joined t rest) a b → Adds t b c → Leads whole rest a c
-leads_more whole t rest a b c l x = record {
-  front = l.front ++ x.line;
-  whole_is = l.whole_is ∙ ap (λ o. option_map (λ y. l.front ++ y) (joined o rest)) x.there ∙ ap (option_map (λ y. l.front ++ y)) (joined_some x.line rest) ∙ behind_both l.front x.line rest;
-  appended = x.appended ∙ ap (λ z. z ++ x.line) l.appended ∙ append_assoc a l.front x.line;
-}
+-- ---- one text behind another
 
 pub joined_none : (s : Option (List ℕ)) → joined s None ≡ None
 joined_none None = refl
@@ -139,15 +127,14 @@ none_joined : (t : Option (List ℕ)) → joined None t ≡ None
 none_joined None = refl
 none_joined (Some t) = refl
 
-pub leads_err : (whole t rest : Option (List ℕ)) (a b c : List ℕ) (f : ShowFault) → Leads whole (joined t rest) a b → Shows t (Err f) b c → Shows whole (Err f) a c
-leads_err whole t rest a b c Memory l w = extends_more a b c (extends_by a b l.front l.appended) w
-leads_err whole t rest a b c Mismatch l w = (
-  l.whole_is ∙ ap (λ o. option_map (λ y. l.front ++ y) (joined o rest)) w.0 ∙ ap (option_map (λ y. l.front ++ y)) (none_joined rest),
-  extends_more a b c (extends_by a b l.front l.appended) w.1,
-)
+pub shows_then : {s : Option (List ℕ)} (t : Option (List ℕ)) {a b : List ℕ} (c : List ℕ) (r : Result Unit ShowFault) → Adds s a b → Shows t r b c → Shows (joined s t) r a c
+shows_then t {a} c (Ok u) x h = record { line = x.line ++ h.line; there = ap₂ joined x.there h.there; appended = h.appended ∙ ap (λ l. l ++ h.line) x.appended ∙ append_assoc a x.line h.line }
+shows_then t {a} {b} c (Err Memory) x h = extends_more a b c (extends_by a b x.line x.appended) h
+shows_then {s} t {a} {b} c (Err Mismatch) x h = (ap (joined s) h.0 ∙ joined_none s, extends_more a b c (extends_by a b x.line x.appended) h.1)
 
-pub leads_stop : (whole t rest : Option (List ℕ)) (a b c : List ℕ) (f : ShowFault) (r : Result Unit ShowFault) → r ≡ Err f → Leads whole (joined t rest) a b → Shows t (Err f) b c → Shows whole r a c
-leads_stop whole t rest a b c f r e l w = rw e (leads_err whole t rest a b c f l w)
+pub shows_no_first : (s t : Option (List ℕ)) (a b : List ℕ) (f : ShowFault) → Shows s (Err f) a b → Shows (joined s t) (Err f) a b
+shows_no_first s t a b Memory h = h
+shows_no_first s t a b Mismatch h = (ap (λ o. joined o t) h.0 ∙ none_joined t, h.1)
 
 -- ---- a text in pieces
 

@@ -1,5 +1,5 @@
 -- What a call has put behind an output (our own).
-use Rattle.std.specs.Prelude.{◌≡◌, ℕ, List, ◌++◌, Option, Some, None, option_map, Result, Ok, Err}
+use Rattle.std.specs.Prelude.{◌≡◌, ℕ, List, ◌++◌, Option, Some, None, Result, Ok, Err}
 use Rattle.std.specs.declared.alloc.AllocError.{AllocError}
 use Rattle.fast_lines.specs.declared.lines.ShowFault.{ShowFault}
 use Rattle.fast_lines.specs.declared.lines.ShowFault.TheVariants.{Mismatch, Memory}
@@ -25,9 +25,3 @@ abbrev pub Shows : Option (List ℕ) → Result Unit ShowFault → List ℕ → 
 Shows text (Ok u) before after = Adds text before after
 Shows text (Err Mismatch) before after = (text ≡ None) × Extends before after
 Shows text (Err Memory) before after = Extends before after
-
--- a front of the whole text stands behind what stood before, and the rest of the text is left
-pub record Leads (whole rest : Option (List ℕ)) (before after : List ℕ) : Type 0 where
-  pub front : List ℕ
-  pub whole_is : whole ≡ option_map (λ text. front ++ text) rest
-  pub appended : after ≡ before ++ front

@@ -39,6 +39,7 @@ pub(crate) fn push_sign(sign: &[u8], out: &mut Vec<u8>) -> Result<(), AllocError
 }
 
 /// The two hex digits of a byte.
+#[tactic(auto, using(crate::proofs::Written::encode_pair))]
 #[inline(always)]
 pub(crate) fn hex_pair(byte: u8) -> [u8; 2]
     ensures { result ≡ encode_lower (byte ∷ []) }
@@ -68,6 +69,7 @@ pub(crate) fn push_hex(bytes: &[u8], out: &mut Vec<u8>) -> Result<(), AllocError
 }
 
 /// Appends a number in decimal digits; many have one.
+#[tactic(auto, using(std::proofs::lemmas::Fmt::decimal_digit))]
 #[inline(always)]
 pub(crate) fn push_unsigned(number: u64, out: &mut Vec<u8>) -> Result<(), AllocError>
     ensures { Writes (decimal number) result out.old.items out.new.items }

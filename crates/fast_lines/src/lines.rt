@@ -43,6 +43,7 @@ impl From<AllocError> for ShowFault {
 }
 
 /// Whether each byte is a character of ASCII.
+#[tactic(auto, using(fast_field::proofs::RefusalSteps::characters_told))]
 fn all_characters(text: &[u8]) -> bool
     ensures { result ≡ are_characters text.now }
 {

@@ -158,6 +158,7 @@ impl Piece {
     }
 
     /// Lays a number in front in decimal digits; many have one.
+    #[tactic(auto, using(std::proofs::lemmas::Fmt::decimal_digit))]
     #[inline(always)]
     pub(crate) fn lay_unsigned(&mut self, start: usize, number: u64) -> usize
         requires { (20 ≤ start) × (start ≤ 64) }

@@ -19,6 +19,7 @@ pub(crate) fn stands(byte: u8) -> bool
     0x20 <= byte && byte <= 0x7E && byte != b'"' && byte != b'\\'
 }
 
+#[tactic(auto, using(crate::proofs::Written::writes_stop))]
 fn push_units<S: Escape>(escape: S, text: &[u8], out: &mut Vec<u8>) -> Result<(), AllocError>
     ensures { Writes (flat_map (unit_text S.form) text.now) result out.old.items out.new.items }
 {
@@ -28,17 +29,17 @@ fn push_units<S: Escape>(escape: S, text: &[u8], out: &mut Vec<u8>) -> Result<()
     Ok(())
 }
 
-/// Whether the 16 bytes from `at` on stand as they are.
+/// Whether so many bytes from `at` on stand as they are.
 #[inline(always)]
-fn lanes_stand(text: &[u8], at: usize) -> bool
-    requires { at + 16 ≤ length text.now }
-    ensures { result ≡ true → (k : ℕ) → at ≤ k → k < at + 16 → is_plain (slice_index text.now k) ≡ true }
+fn lanes_stand<const N: usize>(text: &[u8], at: usize) -> bool
+    requires { (N ≤ 64) × (at + N ≤ length text.now) }
+    ensures { result ≡ true → (k : ℕ) → at ≤ k → k < at + N → is_plain (slice_index text.now k) ≡ true }
 {
-    let lanes = u8x16::from_slice(&text[at..]);
-    let below = lanes.simd_lt(u8x16::splat(0x20)).to_bitmask();
-    let above = lanes.simd_gt(u8x16::splat(0x7E)).to_bitmask();
-    let quotes = lanes.simd_eq(u8x16::splat(b'"')).to_bitmask();
-    let slashes = lanes.simd_eq(u8x16::splat(b'\\')).to_bitmask();
+    let lanes = Simd::<u8, N>::from_slice(&text[at..]);
+    let below = lanes.simd_lt(Simd::splat(0x20)).to_bitmask();
+    let above = lanes.simd_gt(Simd::splat(0x7E)).to_bitmask();
+    let quotes = lanes.simd_eq(Simd::splat(b'"')).to_bitmask();
+    let slashes = lanes.simd_eq(Simd::splat(b'\\')).to_bitmask();
     if below != 0 {
         return false;
     }
@@ -51,30 +52,7 @@ fn lanes_stand(text: &[u8], at: usize) -> bool
     slashes == 0
 }
 
-/// The same of the 8 bytes.
-#[inline(always)]
-fn half_stands(text: &[u8], at: usize) -> bool
-    requires { at + 8 ≤ length text.now }
-    ensures { result ≡ true → (k : ℕ) → at ≤ k → k < at + 8 → is_plain (slice_index text.now k) ≡ true }
-{
-    let lanes = u8x8::from_slice(&text[at..]);
-    let below = lanes.simd_lt(u8x8::splat(0x20)).to_bitmask();
-    let above = lanes.simd_gt(u8x8::splat(0x7E)).to_bitmask();
-    let quotes = lanes.simd_eq(u8x8::splat(b'"')).to_bitmask();
-    let slashes = lanes.simd_eq(u8x8::splat(b'\\')).to_bitmask();
-    if below != 0 {
-        return false;
-    }
-    if above != 0 {
-        return false;
-    }
-    if quotes != 0 {
-        return false;
-    }
-    slashes == 0
-}
-
-/// The same of a string of 16 bytes at least.
+/// Whether each byte of a string of 16 bytes at least stands as it is.
 fn long_stands(text: &[u8]) -> bool
     requires { 16 ≤ length text.now }
     ensures { result ≡ true → list_all is_plain text.now ≡ true }
@@ -82,12 +60,12 @@ fn long_stands(text: &[u8]) -> bool
     let last = text.len() - 16;
     let mut at = 0;
     while at < last {
-        if !lanes_stand(text, at) {
+        if !lanes_stand::<16>(text, at) {
             return false;
         }
         at += 16;
     }
-    lanes_stand(text, last)
+    lanes_stand::<16>(text, last)
 }
 
 /// Whether each byte of a string stands as it is, looked at one by one.
@@ -107,18 +85,19 @@ pub fn all_stand(text: &[u8]) -> bool
         return long_stands(text);
     }
     if text.len() >= 8 {
-        return half_stands(text, 0) && half_stands(text, text.len() - 8);
+        return lanes_stand::<8>(text, 0) && lanes_stand::<8>(text, text.len() - 8);
     }
     each_stands(text)
 }
 
 /// Appends 8 bytes of a string.
+#[tactic(auto, using(crate::proofs::Lanes::all_plain, crate::proofs::Written::plain_text))]
 #[inline(always)]
 fn push_eight<S: Escape>(escape: S, text: &[u8], out: &mut Vec<u8>) -> Result<(), AllocError>
     requires { length text.now ≡ 8 }
     ensures { Writes (flat_map (unit_text S.form) text.now) result out.old.items out.new.items }
 {
-    if half_stands(text, 0) {
+    if lanes_stand::<8>(text, 0) {
         return push(text, out);
     }
     push_units(escape, text, out)
@@ -137,6 +116,7 @@ fn push_pieces<S: Escape>(escape: S, text: &[u8], out: &mut Vec<u8>) -> Result<(
 }
 
 /// Appends a string without its quotes; mostly it stands as it is, and goes there at once.
+#[tactic(auto, using(crate::proofs::Written::plain_text))]
 fn push_text<S: Escape>(escape: S, text: &[u8], out: &mut Vec<u8>) -> Result<(), AllocError>
     ensures { Writes (flat_map (unit_text S.form) text.now) result out.old.items out.new.items }
 {

@@ -1,5 +1,5 @@
 -- What was changed can be put back.
-use Rattle.std.proofs.Common.{◌≡◌, ℕ, Bool, true, false, List, [], ◌∷◌, ◌++◌, Option, refl, sym, ap, ◌∙◌}
+use Rattle.std.proofs.Common.{◌≡◌, ℕ, Bool, true, false, List, [], ◌∷◌, ◌++◌, Option, Err, inl, inr, refl, sym, ap, ◌∙◌}
 use Rattle.std.specs.Prelude.{cond, IsTrue}
 use Rattle.std.specs.Ordering.{is_eq}
 use Rattle.fast_value.specs.Key.{key_cmp}
@@ -17,7 +17,10 @@ use Rattle.fast_walk.specs.Told.{HoldScalars}
 use Rattle.fast_walk.proofs.Putting.{set_written}
 use Rattle.fast_walk.proofs.Telling.{form_holds}
 use Rattle.fast_nodes.specs.declared.journal.Change.{Change}
-use Rattle.fast_nodes.specs.Added.{Changed, GoesOn}
+use Rattle.fast_nodes.specs.Added.{Books, Changed, GoesOn, IsPartPut, IsPut, IsValuePut, NoPartPut, NoValuePut, of_part}
+use Rattle.fast_nodes.specs.declared.fault.EncodeFault.{EncodeFault}
+use Rattle.fast_nodes.proofs.Additions.{part_added}
+use Rattle.fast_writer.specs.Written.{Segment}
 
 -- ---- entries within their types
 
@@ -48,6 +51,19 @@ still_undefined p d v h =
     let none : entry ≡ Undefined = sym (entry_at-set_same d p.key entry) ∙ ap (λ (e : Dictionary). entry_at e p.key) (set_written p d v) ∙ h in
     ap (with_entry d p.key) none
 
+-- ---- a part's value
+
+pub value_is : (d : Dictionary) {p : FieldPart} {v : Option Scalar} {l k : Segment} {before new : Entry} {e : Dictionary} → IsFieldPart p → HoldScalars d → IsPartPut p v (entry_at d p.key) l before new k → e ≡ set_entry d p.key new → IsValuePut p v d l before e k
+value_is d {p} {v} is holds put set =
+    let after = set ∙ ap (set_entry d p.key) put.after ∙ set_written p d v in
+    record { adds = rw (after) (part_added d put); before = put.before; after = after; holds = rw (after) (best_holds p d put.spelt.bit put.spelt.form v is holds put.spelt.best) }
+
+pub no_value : (d : Dictionary) {p : FieldPart} {v : Option Scalar} {l : Segment} {new : Entry} {e : Dictionary} {f : EncodeFault} → NoPartPut p v (entry_at d p.key) new f → e ≡ set_entry d p.key new → NoValuePut p v d l e f
+no_value d {p} not set = record {
+  why = elim (not.why) [ inl memory ↦ inl memory | inr refusal ↦ inr (rw (refusal.1) (ap Err (sym refusal.2))) ];
+  unchanged = set ∙ ap (set_entry d p.key) not.kept ∙ set_entry-there d p.key;
+}
+
 -- ---- many entries
 
 pub changed_more : (serves : Key → Bool) (cs : List Change) (c : Change) (start d : Dictionary) (v : Option Scalar) → IsTrue (serves c.part.now.key) → c.before ≡ entry_at d c.part.now.key
@@ -72,17 +88,24 @@ changed_last serves (b ∷ cs) c start e h =
 
 -- ---- from one to another
 
-pub goes_on_then : (serves mid later : Key → Bool) (bs cs ds : List Change) (d e f : Dictionary) → GoesOn serves bs d mid cs e → GoesOn mid cs e later ds f → GoesOn serves bs d later ds f
-goes_on_then serves mid later bs cs ds d e f a b = record {
-  same_keys = b.same_keys ∙ a.same_keys;
-  holds = λ h. b.holds (a.holds h);
-  changed = λ start h. rw (a.same_keys) at (b.changed start (rw (sym a.same_keys) at (a.changed start h)));
+pub goes_same : {a : Books} → GoesOn a a
+goes_same = record { same_keys = refl; holds = λ h. h; changed = λ start h. h }
+
+pub goes_then : {a b c : Books} → GoesOn a b → GoesOn b c → GoesOn a c
+goes_then g h = record {
+  same_keys = h.same_keys ∙ g.same_keys;
+  holds = λ was. h.holds (g.holds was);
+  changed = λ start was. h.changed start (g.changed start was);
 }
 
-pub goes_on_more : (serves later : Key → Bool) (cs ds : List Change) (c : Change) (d e : Dictionary) (v : Option Scalar) → later ≡ serves → ds ≡ cs ++ c ∷ []
-    → IsTrue (serves c.part.now.key) → c.before ≡ entry_at d c.part.now.key → e ≡ written c.part.now d v → HoldScalars e → GoesOn serves cs d later ds e
-goes_on_more serves later cs ds c d e v keys items served before after holds = record {
-  same_keys = keys;
-  holds = λ h. holds;
-  changed = λ start h. rw (items, after) (changed_more serves cs c start d v served before h);
+-- one change more
+pub value_put : {a b : Books} {l k : Segment} {v : Option Scalar} (c : Change) → b.serves ≡ a.serves → b.changes ≡ a.changes ++ c ∷ [] → IsTrue (a.serves c.part.now.key)
+    → IsValuePut c.part.now v a.entries l c.before b.entries k → IsPut (of_part c.part.now v) a l b k
+value_put {a} {v = v} c keys items served put = record {
+  adds = put.adds;
+  goes = record {
+    same_keys = keys;
+    holds = λ h. put.holds;
+    changed = λ start h. rw (keys, items, put.after) (changed_more a.serves a.changes c start a.entries v served put.before h);
+  };
 }

@@ -18,7 +18,7 @@ use Rattle.fast_wire.specs.Spellings.{map_of, IsUsed, IsMapSize}
 use Rattle.fast_wire.specs.Writing.{IsShortest}
 use Rattle.fast_wire.proofs.MapForms.{map_shortest}
 use Rattle.fast_field.specs.declared.fault.FieldRefusal.{FieldRefusal}
-use Rattle.fast_field.specs.Best.{IsBest}
+use Rattle.fast_field.specs.Bases.{next}
 use Rattle.fast_field.specs.Deltas.{Cut}
 use Rattle.fast_field.specs.Fields.{FormOf}
 use Rattle.fast_field.specs.Parts.{IsFieldPart, EachPart, EachPartIn}
@@ -27,21 +27,20 @@ use Rattle.fast_field.specs.Within.{HasRangeOr}
 use Rattle.fast_field.proofs.BestValues.{best_stands}
 use Rattle.fast_field.proofs.PartsOfSets.{parts_of_sets}
 use Rattle.fast_stream.specs.Nodes.{Item, single, group_items, sequence_elements, Items, no_items, then_item, Elements, no_elements, then_element, element_count, Content}
-use Rattle.fast_stream.specs.Bodies.{State, Then, PartBy, PieceBy, Each, written}
+use Rattle.fast_stream.specs.Bodies.{State, written}
 use Rattle.fast_stream.specs.Streams.{members_of, identifier}
 use Rattle.fast_stream.proofs.FoundMembers.{members_have}
 use Rattle.fast_nodes.specs.declared.fault.EncodeFault.{EncodeFault}
-use Rattle.fast_nodes.specs.Added.{Standing, Judging, Adds, AddsBytes, IsSmall, AreSmall, AreSmallIn, message_judged}
-use Rattle.fast_writer.specs.Canonical.{CanonBody, CanonMessage, IsShortestMap}
+use Rattle.fast_nodes.specs.Added.{Adds, AddsBytes, IsPartPut, IsSealed, IsSmall, AreSmall, AreSmallIn, Piece, Whole, both, each_of, in_segment, of_item, of_items, of_message, of_part, segment_of}
+use Rattle.fast_writer.specs.Canonical.{CanonMessage}
 use Rattle.fast_nodes.specs.FirstRefusal.{item_fits, items_fit, elements_fit, whole_refusal, judged, part_judged, segment_judged, item_judged, items_judged, elements_judged, or_else, error_in, message_refusal, first_refusal}
 use Rattle.fast_nodes.specs.Ranges.{HasRanges, HaveRanges, HaveRangesIn, IsInRange}
-use Rattle.fast_writer.specs.Written.{has_set, Segment, state, bits_for, CanonSegment, Spelt, Asked, Ended}
-use Rattle.fast_nodes.proofs.Additions.{adds_then, body_none, body_more, part_added, no_group_added, group_added, sequence_added, elements_none, elements_more, segment_added}
+use Rattle.fast_writer.specs.Written.{has_set, Segment, state, bits_for, Asked, IsEmpty}
+use Rattle.fast_nodes.proofs.Additions.{adds_then, body_none, part_added, no_group_added, group_added, message_added, sequence_added, elements_none, elements_more, segment_added}
 use Rattle.fast_nodes.proofs.Changes.{best_holds}
-use Rattle.fast_nodes.proofs.Messages.{fitting, message_added, written_is}
+use Rattle.fast_nodes.proofs.Messages.{fitting, written_is}
 use Rattle.fast_walk.specs.Told.{HoldScalars}
 use Rattle.fast_walk.proofs.Telling.{identifier_is}
-use Rattle.fast_nodes.proofs.Puts.{bit_is}
 use Rattle.fast_nodes.proofs.Tries.{and_true, or_false, small_all}
 
 -- ---- the map of bits that it has room for
@@ -87,12 +86,12 @@ shortest_map bits room =
     let n = size_of u.number u.few in
     (map_of n.0 bits 0, map_shortest bits u.number n.0 u.used n.1)
 
-ended_by : (own : Bool) (l : Segment) (old : List ℕ) → l.own ≡ own → (own && has_set (drop 1792 l.bits)) ≡ false → (new : List ℕ) × Ended l old new
-ended_by true l old is room =
+sealed_by : (own : Bool) (l : Segment) (old : List ℕ) → l.own ≡ own → (own && has_set (drop 1792 l.bits)) ≡ false → (new : List ℕ) × IsSealed l old new
+sealed_by true l old is room =
     let m = shortest_map l.bits room in
-    (old ++ (m.0 ++ l.bytes), record { map = m.0; bytes = refl; shortest = λ own. m.1; none = λ none. absurd (let both : true ≡ false = sym is ∙ none in cc) })
-ended_by false l old is room =
-    (old ++ ([] ++ l.bytes), record { map = []; bytes = refl; shortest = λ own. absurd (let both : false ≡ true = sym is ∙ own in cc); none = λ none. refl })
+    (old ++ (m.0 ++ l.bytes), record { ended = record { map = m.0; bytes = refl; shortest = λ own. m.1; none = λ none. absurd (let both : true ≡ false = sym is ∙ none in cc) }; room = rw (is) room })
+sealed_by false l old is room =
+    (old ++ ([] ++ l.bytes), record { ended = record { map = []; bytes = refl; shortest = λ own. absurd (let both : false ≡ true = sym is ∙ own in cc); none = λ none. refl }; room = rw (is) refl })
 
 -- ---- what is judged without a refusal
 
@@ -110,16 +109,16 @@ room_ok true f d e h = absurd cc
 
 -- ---- what is added
 
-record Added (Stands : Standing) (judge : Judging) (d : Dictionary) (l : Segment) : Type 0 where
+record Added (p : Piece) (d : Dictionary) (l : Segment) : Type 0 where
   entries : Dictionary
   level : Segment
-  adds : Adds Stands judge d l entries level
+  adds : Adds p d l entries level
   holds : HoldScalars entries
 
-record AddedBytes (Stands : Dictionary → List ℕ → Dictionary → Type 0) (judge : Dictionary → Result Dictionary EncodeFault) (d : Dictionary) (old : List ℕ) : Type 0 where
+record AddedBytes (w : Whole) (d : Dictionary) (old : List ℕ) : Type 0 where
   entries : Dictionary
   bytes : List ℕ
-  adds : AddsBytes Stands judge d old entries bytes
+  adds : AddsBytes w d old entries bytes
   holds : HoldScalars entries
 
 -- a form stands under bit 1 where its part takes no bit
@@ -134,7 +133,7 @@ row_bit operator.Delta i e false cut b v h none = absurd h
 row_bit operator.Tail i e false cut b v h none = absurd cc
 
 add_part : (p : FieldPart) (v : Option Scalar) (d : Dictionary) (l : Segment) (t : State) → IsFieldPart p → HoldScalars d → HasRangeOr v → part_judged p (state d l.bits) v ≡ Ok t
-    → Added (λ s x t. PartBy IsBest p s x v t) (λ s. part_judged p s v) d l
+    → Added (of_part p v) d l
 add_part p v d l t is holds range h =
     let needs = part_needs_bit p in
     let e = entry_at d p.key in
@@ -142,45 +141,38 @@ add_part p v d l t is holds range h =
     let best = best_stands p e v is (holds p.key) range none in
     let bit = best.0 in
     let k : Segment = record { bits = l.bits ++ bits_for needs bit; own = l.own; bytes = l.bytes ++ best.1 } in
-    let spelt : Spelt p e v l k = record {
-      bit = bit;
-      form = best.1;
-      bits = refl;
-      own = refl;
-      bytes = refl;
-      needs = row_bit p.operator p e bit best.2.cut best.1 v best.2.form.row;
-      best = best.2;
-    } in record {
-      entries = written p d v;
-      level = k;
-      adds = part_added p d (written p d v) v l k refl spelt (ap (λ (b : Bool). l.bits ++ bits_for needs b) (bit_is p e bit best.1 v best.2)) none;
-      holds = best_holds p d bit best.1 v is holds best.2;
-    }
+    let put : IsPartPut p v e l e (next p e v) k = record {
+      spelt = record { bit = bit; form = best.1; bits = refl; own = refl; bytes = refl; needs = row_bit p.operator p e bit best.2.cut best.1 v best.2.form.row; best = best.2 };
+      after = refl;
+      before = refl;
+      allowed = none;
+    } in record { entries = written p d v; level = k; adds = part_added d put; holds = best_holds p d bit best.1 v is holds best.2 }
 
 -- ---- a segment
 
+abbrev nothing : Bool → Segment
+nothing own = record { bits = []; own = own; bytes = [] }
+
+empty : (own : Bool) → IsEmpty own (nothing own)
+empty own = record { bits = refl; own_is = refl; bytes = refl }
+
 add_segment : (members : Instructions) (ns : Items) (d : Dictionary) (old : List ℕ) (e : Dictionary)
-    → ((l : Segment) (t : State) → items_judged members ns (state d l.bits) ≡ Ok t → Added (λ s x t. CanonBody members s x ns t) (λ s. items_judged members ns s) d l)
-    → segment_judged (has_map members) (λ t. items_judged members ns t) d ≡ Ok e
-    → AddedBytes (λ d x e. CanonSegment members d x ns e) (λ d. segment_judged (has_map members) (λ t. items_judged members ns t) d) d old
+    → ((l : Segment) (t : State) → items_judged members ns (state d l.bits) ≡ Ok t → Added (of_items members ns) d l)
+    → (segment_of members ns).judge d ≡ Ok e → AddedBytes (segment_of members ns) d old
 add_segment members ns d old e inside h =
-    let k : Segment = record { bits = []; own = has_map members; bytes = [] } in
     let f = bind_ok (items_judged members ns (state d [])) (λ s. if has_map members && has_set (drop 1792 s.bits) then Err _ else Ok s.dictionary) e h in
-    let a = inside k f.0 f.1 in
+    let a = inside (nothing (has_map members)) f.0 f.1 in
     let room = room_ok (has_map members && has_set (drop 1792 a.level.bits)) _ a.entries e (rw (a.adds.judged) at h) in
-    let own_room : (a.level.own && has_set (drop 1792 a.level.bits)) ≡ false = rw (a.adds.own) room in
-    let ended = ended_by a.level.own a.level old refl own_room in
-    record { entries = a.entries; bytes = ended.0; adds = segment_added members ns d a.entries k a.level old ended.0 refl refl refl a.adds ended.1 own_room; holds = a.holds }
+    let sealed = sealed_by (has_map members) a.level old a.adds.own room in
+    record { entries = a.entries; bytes = sealed.0; adds = segment_added members ns (empty (has_map members)) a.adds sealed.1; holds = a.holds }
 
 -- ---- instructions
 
 count_range : (n : ℕ) → n ≤ 65535 → n < 4294967296
 count_range n h = omega (arith, h)
 
-added_then : (P : Standing) (p : Judging) (Q : Standing) (q : Judging) (d : Dictionary) (l : Segment) → (a : Added P p d l) → Added Q q a.entries a.level
-    → Added (λ s b t. Then (λ x u. P s x u) (λ u y. Q u y t) b) (λ s. p s >>= λ t. q t) d l
-added_then P p Q q d l a b =
-    record { entries = b.entries; level = b.level; adds = adds_then P p Q q d a.entries b.entries l a.level b.level a.adds b.adds; holds = b.holds }
+added_then : {p q : Piece} {d : Dictionary} {l : Segment} (a : Added p d l) → Added q a.entries a.level → Added (both p q) d l
+added_then a b = record { entries = b.entries; level = b.level; adds = adds_then a.adds b.adds; holds = b.holds }
 
 -- a bit more
 abbrev with_bit : Segment → Bool → Bool → Segment
@@ -191,18 +183,17 @@ bit_asked l takes bit = record { bits = refl; own = refl; bytes = refl }
 
 mutual
   add_piece : (i : Instruction) → EachPart IsFieldPart i → (n : Item) → item_fits i n ≡ true → IsSmall n → HasRanges n → (d : Dictionary) (l : Segment) (t : State) → HoldScalars d → item_judged i n (state d l.bits) ≡ Ok t
-      → Added (λ s x t. PieceBy IsBest IsShortestMap i s x n t) (λ s. item_judged i n s) d l
+      → Added (of_item i n) d l
   add_piece (whole_field name number presence whole) is (single v) fits small range d l t holds h = add_part whole v d l t is holds range h
   add_piece (field_in_parts name number presence exponent mantissa) is (single None) fits small range d l t holds h = add_part exponent None d l t is.0 holds tt h
   add_piece (field_in_parts name number presence exponent mantissa) is (single (Some (Decimal e m))) fits small range d l t holds h =
       let f = bind_ok (part_judged exponent (state d l.bits) (Some (I32 e))) (λ u. part_judged mantissa u (Some (I64 m))) t h in
       let first = add_part exponent (Some (I32 e)) d l f.0 is.0 holds range.0 f.1 in
       let second = add_part mantissa (Some (I64 m)) first.entries first.level t is.1 first.holds range.1 (rw (first.adds.judged) at h) in
-      added_then (λ s x t. PartBy IsBest exponent s x (Some (I32 e)) t) (λ s. part_judged exponent s (Some (I32 e))) (λ s x t. PartBy IsBest mantissa s x (Some (I64 m)) t) (λ s. part_judged mantissa s (Some (I64 m)))
-      d l first second
+      added_then first second
   add_piece (group_of name number presence members) is (single None) fits small range d l t holds h =
       let k = with_bit l (is_optional presence) false in
-      record { entries = d; level = k; adds = no_group_added name number presence members d l k fits (bit_asked l (is_optional presence) false); holds = holds }
+      record { entries = d; level = k; adds = no_group_added name number presence members fits (bit_asked l (is_optional presence) false); holds = holds }
   add_piece (group_of name number presence members) is (group_items ns) fits small range d l t holds h =
       let k = with_bit l (is_optional presence) true in
       let f = bind_ok (segment_judged (has_map members) (λ u. items_judged members ns u) d) (λ e. Ok (state e (l.bits ++ bits_for (is_optional presence) true))) t h in
@@ -210,7 +201,7 @@ mutual
       record {
         entries = a.entries;
         level = record { bits = k.bits; own = k.own; bytes = a.bytes };
-        adds = group_added name number presence members ns d a.entries l k a.bytes (bit_asked l (is_optional presence) true) a.adds;
+        adds = group_added name number presence members ns (bit_asked l (is_optional presence) true) a.adds;
         holds = a.holds;
       }
   add_piece (sequence_of name number presence length members) is (single None) fits small range d l t holds h = add_part length None d l t is.0 holds tt h
@@ -223,31 +214,31 @@ mutual
       record {
         entries = second.entries;
         level = record { bits = first.level.bits; own = first.level.own; bytes = second.bytes };
-        adds = sequence_added name number presence length members es d first.entries second.entries l first.level second.bytes first.adds second.adds;
+        adds = sequence_added name number presence length members es first.adds second.adds;
         holds = second.holds;
       }
   add_piece i is n fits small range d l t holds h = absurd cc
 
   add_body : (members : Instructions) → EachPartIn IsFieldPart members → (ns : Items) → items_fit members ns ≡ true → AreSmall ns → HaveRanges ns → (d : Dictionary) (l : Segment) (t : State) → HoldScalars d → items_judged members ns (state d l.bits) ≡ Ok t
-      → Added (λ s x t. CanonBody members s x ns t) (λ s. items_judged members ns s) d l
-  add_body no_instructions is no_items fits small range d l t holds h = record { entries = d; level = l; adds = body_none d l; holds = holds }
+      → Added (of_items members ns) d l
+  add_body no_instructions is no_items fits small range d l t holds h = record { entries = d; level = l; adds = body_none; holds = holds }
   add_body (then_instruction i is) are (then_item n ns) fits small range d l t holds h =
       let fit = and_true (item_fits i n) (items_fit is ns) fits in
       let f = bind_ok (item_judged i n (state d l.bits)) (λ u. items_judged is ns u) t h in
       let first = add_piece i are.0 n fit.0 small.0 range.0 d l f.0 holds f.1 in
       let second = add_body is are.1 ns fit.1 small.1 range.1 first.entries first.level t first.holds (rw (first.adds.judged) at h) in
-      record { entries = second.entries; level = second.level; adds = body_more i is n ns d first.entries second.entries l first.level second.level first.adds second.adds; holds = second.holds }
+      added_then first second
   add_body members is ns fits small range d l t holds h = absurd cc
 
   add_elements : (members : Instructions) → EachPartIn IsFieldPart members → (es : Elements) → elements_fit members es ≡ true → AreSmallIn es → HaveRangesIn es → (d : Dictionary) (old : List ℕ) (after : Dictionary) → HoldScalars d
-      → elements_judged members es d ≡ Ok after → AddedBytes (λ d y e. Each (CanonSegment members) d y es e) (λ d. elements_judged members es d) d old
-  add_elements members is no_elements fits small range d old after holds h = record { entries = d; bytes = old; adds = elements_none members d old; holds = holds }
+      → elements_judged members es d ≡ Ok after → AddedBytes (each_of members es) d old
+  add_elements members is no_elements fits small range d old after holds h = record { entries = d; bytes = old; adds = elements_none members; holds = holds }
   add_elements members is (then_element ns es) fits small range d old after holds h =
       let fit = and_true (items_fit members ns) (elements_fit members es) fits in
       let f = bind_ok (segment_judged (has_map members) (λ u. items_judged members ns u) d) (λ e. elements_judged members es e) after h in
       let first = add_segment members ns d old f.0 (λ k' u j. add_body members is ns fit.0 small.0 range.0 d k' u holds j) f.1 in
       let second = add_elements members is es fit.1 small.1 range.1 first.entries first.bytes after first.holds (rw (first.adds.judged) at h) in
-      record { entries = second.entries; bytes = second.bytes; adds = elements_more members ns es d first.entries second.entries old first.bytes second.bytes first.adds second.adds; holds = second.holds }
+      record { entries = second.entries; bytes = second.bytes; adds = elements_more members ns es first.adds second.adds; holds = second.holds }
 
 -- ---- messages
 
@@ -263,28 +254,26 @@ abbrev HasBytes : TemplateList → Dictionary → Content → Type 0
 HasBytes set d m = (bytes : List ℕ) × (after : Dictionary) × CanonMessage (templates_in set) d bytes m after
 
 message_bytes : (set : TemplateList) (d : Dictionary) (m : Content) (members : Instructions) (s : State) (after : Dictionary) → members_of (templates_in set) m.template ≡ Some members → EachPartIn IsFieldPart members → HoldScalars d → IsInRange m
-    → whole_refusal members m.items ≡ None → message_judged members m (state d []) ≡ Ok s → segment_judged true (message_judged members m) d ≡ Ok after → HasBytes set d m
+    → whole_refusal members m.items ≡ None → (of_message members m).judge (state d []) ≡ Ok s → (in_segment true (of_message members m)).judge d ≡ Ok after → HasBytes set d m
 message_bytes set d m members s after named parts holds range whole inside h =
     let id : Option Scalar = Some (U32 m.template) in
-    let k : Segment = record { bits = []; own = true; bytes = [] } in
     let fit = fitting members m.items whole in
     let f = bind_ok (part_judged identifier (state d []) id) (λ u. items_judged members m.items u) s inside in
-    let first = add_part identifier id d k f.0 identifier_is holds range.template f.1 in
+    let first = add_part identifier id d (nothing true) f.0 identifier_is holds range.template f.1 in
     let second = add_body members parts m.items fit.fits (small_all m.items fit.large) range.items first.entries first.level s first.holds (rw (first.adds.judged) at inside) in
-    let room = room_ok (has_set (drop 1792 second.level.bits)) _ second.entries after (rw (first.adds.judged, second.adds.judged) at h) in
-    let own_room : (second.level.own && has_set (drop 1792 second.level.bits)) ≡ false = rw (second.adds.own, first.adds.own) room in
-    let ended = ended_by second.level.own second.level [] refl own_room in
-    let adds = message_added members m d first.entries second.entries k first.level second.level [] ended.0 refl refl refl first.adds second.adds ended.1 own_room in
-    let written = written_is (templates_in set) d second.entries m members [] ended.0 named whole adds in
-    (written.0, second.entries, written.2)
+    let both = added_then first second in
+    let room = room_ok (has_set (drop 1792 both.level.bits)) _ both.entries after (rw (both.adds.judged) at h) in
+    let sealed = sealed_by true both.level [] both.adds.own room in
+    let written = written_is (templates_in set) m members named whole (message_added members m (empty true) both.adds sealed.1) in
+    (written.0, both.entries, written.2)
 
 bytes_of : (set : TemplateList) (d : Dictionary) (m : Content) (found : Option Instructions) → members_of (templates_in set) m.template ≡ found → IsSound set → HoldScalars d → IsInRange m
     → message_refusal found d m ≡ None → HasBytes set d m
 bytes_of set d m None named sound holds range none = absurd cc
 bytes_of set d m (Some members) named sound holds range none =
-    let both = both_none (whole_refusal members m.items) (error_in (segment_judged true (message_judged members m) d)) none in
-    let judged = no_error (segment_judged true (message_judged members m) d) both.1 in
-    let inside = bind_ok (message_judged members m (state d [])) (λ s. if true && has_set (drop 1792 s.bits) then Err _ else Ok s.dictionary) judged.0 judged.1 in
+    let both = both_none (whole_refusal members m.items) (error_in ((in_segment true (of_message members m)).judge d)) none in
+    let judged = no_error ((in_segment true (of_message members m)).judge d) both.1 in
+    let inside = bind_ok ((of_message members m).judge (state d [])) (λ s. if true && has_set (drop 1792 s.bits) then Err _ else Ok s.dictionary) judged.0 judged.1 in
     message_bytes set d m members inside.0 judged.0 named (members_have (EachPartIn IsFieldPart) (templates_in set) (parts_of_sets set sound) m.template members named) holds range both.0 inside.1 judged.1
 
 -- what is not refused has canonical bytes

@@ -1,7 +1,8 @@
 mod RefusedRows
 mod Shapes
+mod Views
 mod Sizes
-mod Judgements
+pub mod Judgements
 mod Puts
 pub mod Additions
 pub mod Changes

@@ -35,7 +35,6 @@ use Rattle.fast_stream.specs.Bodies.{State, Then, Each, WithMap, SegmentBy, Part
 use Rattle.fast_stream.specs.Streams.{members_of, identifier, MapAt, BodyOfBy, MessageForm}
 use Rattle.fast_stream.proofs.FoundMembers.{members_have}
 use Rattle.fast_nodes.specs.declared.fault.EncodeFault.{EncodeFault}
-use Rattle.fast_nodes.specs.Added.{Judging}
 use Rattle.fast_walk.specs.Told.{HoldScalars}
 use Rattle.fast_nodes.specs.FirstRefusal.{value_fits, item_fits, items_fit, elements_fit, item_is_large, has_large, has_large_in, whole_refusal, part_judged, segment_judged, item_judged, items_judged, elements_judged, message_refusal, first_refusal}
 use Rattle.fast_writer.specs.Written.{state, bits_for, has_set}
@@ -82,7 +81,7 @@ map_few map bits m =
 -- ---- what is judged, and lets something pass
 
 -- From s to t nothing is refused, and no bit is asked for where the map's is 0.
-record Passes (judge : Judging) (s t : State) : Type 0 where
+record Passes (judge : State → Result State EncodeFault) (s t : State) : Type 0 where
   asked : List Bool
   below : Below asked s.bits t.bits
   judged : (bits : List Bool) → judge (state s.dictionary bits) ≡ Ok (state t.dictionary (bits ++ asked))
@@ -98,8 +97,8 @@ record Allowed (fits large : Bool) (P : Type 0) : Type 0 where
   size : large ≡ false
   passes : P
 
-passes_then : (p q : Judging) (s u t : State) → Passes p s u → Passes q u t → Passes (λ x. p x >>= λ y. q y) s t
-passes_then p q s u t h k = record {
+passes_then : {p q : State → Result State EncodeFault} {s u t : State} → Passes p s u → Passes q u t → Passes (λ x. p x >>= λ y. q y) s t
+passes_then {s = s} {u = u} {t = t} h k = record {
   asked = h.asked ++ k.asked;
   below = below_both h.asked k.asked s.bits u.bits t.bits h.below k.below;
   judged = λ bits. rw (h.judged bits) (k.judged (bits ++ h.asked) ∙ ap (λ (l : List Bool). Ok (state t.dictionary l)) (append_assoc bits h.asked k.asked));
@@ -163,13 +162,13 @@ part_value p v s b t is holds h = (values_within p (entry_at s.dictionary p.key)
 
 -- ---- a segment
 
-with_map_passes : (Inside : State → List ℕ → State → Type 0) (judge : Judging) (d : Dictionary) (b : List ℕ) (after : Dictionary)
+with_map_passes : (Inside : State → List ℕ → State → Type 0) (judge : State → Result State EncodeFault) (d : Dictionary) (b : List ℕ) (after : Dictionary)
     → (m : WithMap (MapAt Usual) Inside d b after) → Passes judge (state d m.bits) (state after m.left) → PassesWhole (segment_judged true judge d) after
 with_map_passes Inside judge d b after m k =
     let room = has_room 1792 k.asked m.bits m.left k.below (map_few m.map m.bits m.map_form) in
     record { is = rw (k.judged [], room) refl; holds = k.holds }
 
-segment_allowed : (fits large has : Bool) (Inside : State → List ℕ → State → Type 0) (judge : Judging) (d : Dictionary) (b : List ℕ) (after : Dictionary) → HoldScalars d
+segment_allowed : (fits large has : Bool) (Inside : State → List ℕ → State → Type 0) (judge : State → Result State EncodeFault) (d : Dictionary) (b : List ℕ) (after : Dictionary) → HoldScalars d
     → ((s : State) (x : List ℕ) (t : State) → HoldScalars s.dictionary → Inside s x t → Allowed fits large (Passes judge s t))
     → SegmentBy (MapAt Usual) has Inside d b after → Allowed fits large (PassesWhole (segment_judged has judge d) after)
 segment_allowed fits large true Inside judge d b after holds inside m =
@@ -234,7 +233,7 @@ mutual
   piece_allowed (field_in_parts name number presence exponent mantissa) is (single (Some (Decimal e m))) few s b t holds h =
       let first = part_passes exponent (Some (I32 e)) s h.front h.between is.0 holds h.first in
       let second = part_passes mantissa (Some (I64 m)) h.between h.back t is.1 first.holds h.second in
-      record { shape = refl; size = refl; passes = passes_then (λ u. part_judged exponent u (Some (I32 e))) (λ u. part_judged mantissa u (Some (I64 m))) s h.between t first second }
+      record { shape = refl; size = refl; passes = passes_then first second }
   piece_allowed (group_of name number presence members) is (single None) few s b t holds h =
       record { shape = left_out_optional presence s.bits h.0; size = refl; passes = left_out_passes presence s t holds h.0 h.2 }
   piece_allowed (group_of name number presence members) is (group_items ns) few s b t holds h =
@@ -250,8 +249,7 @@ mutual
       record {
         shape = k.shape;
         size = sequence_small es few k.size;
-        passes = passes_then (λ u. part_judged length u count) (λ u. elements_judged members es u.dictionary >>= λ d. Ok (state d u.bits)) s h.between t first
-            (elements_pass (λ d. elements_judged members es d) h.between t h.second.0 k.passes);
+        passes = passes_then first (elements_pass (λ d. elements_judged members es d) h.between t h.second.0 k.passes);
       }
   piece_allowed i is n few s b t holds h = absurd h
 
@@ -274,7 +272,7 @@ mutual
       record {
         shape = rw (first.shape, second.shape) refl;
         size = rw (first.size, second.size) refl;
-        passes = passes_then (λ u. item_judged i n u) (λ u. items_judged is ns u) s h.between t first.passes second.passes;
+        passes = passes_then first.passes second.passes;
       }
   body_allowed members is ns few s b t holds h = absurd h
 
@@ -308,7 +306,7 @@ no_refusal (Some members) d m b after parts holds few h =
     let o = h.inside in
     let first = part_passes identifier id (state d h.bits) o.front o.between identifier_is holds o.first in
     let second = body_allowed members (parts members refl) m.items few o.between o.back (state after h.left) first.holds o.second in
-    let all = passes_then (λ u. part_judged identifier u id) (λ u. items_judged members m.items u) (state d h.bits) o.between (state after h.left) first second.passes in
+    let all = passes_then first second.passes in
     let whole = with_map_passes (MessageStandsBy (Some members) m) (λ s. part_judged identifier s id >>= λ u. items_judged members m.items u) d b after h all in
     let fits : whole_refusal members m.items ≡ None = rw (second.shape, not_over (nodes_in m.items) few, second.size) refl in
     rw (fits, whole.is) refl

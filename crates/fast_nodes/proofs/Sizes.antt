@@ -1,26 +1,19 @@
 -- How many nodes a sequence leaves, element by element.
-use Rattle.std.proofs.Common.{◌≡◌, ◌<◌, ◌≤◌, ◌-◌, ◌+◌, inl, inr, ℕ, zero, suc, Bool, true, false, ◌||◌, List, [], ◌∷◌, length, drop, map, Option, Some, None, refl, ap, ◌∙◌, arith}
+use Rattle.std.proofs.Common.{◌≡◌, ◌<◌, ◌≤◌, ◌-◌, ◌+◌, inl, inr, ℕ, zero, suc, Bool, true, false, ◌||◌, List, [], ◌∷◌, length, drop, Option, Some, None, refl, ap, ◌∙◌, arith}
 use Rattle.std.specs.Prelude.{nat_lt}
 use Rattle.std.specs.Global.{Vec}
 use Rattle.std.proofs.lemmas.Bool.Decides.{nat_tests}
 use Rattle.fast_stream.specs.declared.message.Node.{Node}
 use Rattle.fast_stream.specs.declared.message.Node.TheVariants.{Sequence}
-use Rattle.fast_stream.specs.Nodes.{Elements, elements_of, element_count, item_of, items_in, nodes_in, nodes_in_elements, nodes_of}
-use Rattle.fast_walk.proofs.Views.{item_of-sequence}
+use Rattle.fast_stream.specs.Nodes.{item_of, items_in, nodes_in, nodes_in_elements, nodes_of}
+use Rattle.fast_nodes.proofs.Views.{count_seen, is_elements, seen}
 use Rattle.fast_nodes.specs.FirstRefusal.{IsLeft, has_large, has_large_in, item_is_large}
-
-abbrev pub seen : List (Vec Node) → Elements
-seen es = elements_of (map (λ e. items_in e.items) es)
-
-count_seen : (es : List (Vec Node)) → element_count (seen es) ≡ length es
-count_seen [] = refl
-count_seen (e ∷ es) = let h = count_seen es in omega (arith, h)
 
 -- a sequence by its elements
 pub of_sequence : (es : Vec (Vec Node)) (node : Node) (left : ℕ) (r : Option ℕ) → node ≡ Sequence es
     → IsLeft (1 + nodes_in_elements (seen es.items)) (nat_lt 65535 (length es.items) || has_large_in (seen es.items)) left r
     → IsLeft (nodes_of (item_of node)) (item_is_large (item_of node)) left r
-of_sequence es node left r is h = rw (is, item_of-sequence es, count_seen es.items) h
+of_sequence es node left r is h = rw (is_elements es is, count_seen es.items) h
 
 or_true : (b : Bool) → (b || true) ≡ true
 or_true true = refl

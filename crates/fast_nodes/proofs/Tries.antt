@@ -1,28 +1,26 @@
 -- Nodes that are written one after the other.
-use Rattle.std.proofs.Common.{◌≡◌, ◌≤◌, ℕ, Bool, true, false, ◌&&◌, ◌||◌, List, [], ◌∷◌, length, map, Some, Ok, Err, inl, inr, Result, refl, ◌∙◌, arith}
-use Rattle.std.specs.Prelude.{◌⊎◌, nat_lt}
+use Rattle.std.proofs.Common.{◌≡◌, ◌≤◌, ◌<◌, ◌+◌, ℕ, Bool, true, false, ◌&&◌, ◌||◌, List, ◌∷◌, ◌++◌, length, drop, get_or, ℤ, Some, Ok, Err, inl, inr, Result, refl, sym, ap, ◌∙◌, arith}
+use Rattle.std.specs.Prelude.{nat_lt}
 use Rattle.std.specs.Global.{Vec}
-use Rattle.fast_value.specs.declared.key.Key.{Key}
-use Rattle.fast_template.specs.declared.resolved.Flat.{Flat, fold_out-Flat}
-use Rattle.fast_template.specs.declared.resolved.Flat.TheVariants.{Sequence, outs-Sequence}
-use Rattle.fast_value.specs.declared.scalar.Scalar.TheVariants.{U32}
+use Rattle.std.proofs.lemmas.List.{drop_more, drop_all}
+use Rattle.fast_template.specs.declared.resolved.Flat.{Flat}
+use Rattle.fast_template.specs.declared.resolved.Flat.TheVariants.{Group, Parts, Sequence}
+use Rattle.fast_value.specs.declared.scalar.Scalar.{Scalar}
+use Rattle.fast_value.specs.declared.scalar.Scalar.TheVariants.{U32, I32, I64, Decimal}
+use Rattle.fast_wire.specs.Reading.{◌>>=◌}
 use Rattle.fast_stream.specs.declared.message.Node.{Node}
 use Rattle.fast_stream.specs.declared.message.Node.TheVariants as nodes
-use Rattle.fast_walk.proofs.Views.{item_of-sequence}
 use Rattle.fast_value.specs.declared.kind.Presence.{Presence}
 use Rattle.fast_template.specs.declared.resolved.FieldPart.{FieldPart}
-use Rattle.fast_template.specs.Resolved.{Instruction, Instructions, flat_step, instruction_of, list_of, group_of, sequence_of, no_instructions, then_instruction, is_optional, has_map}
-use Rattle.fast_dictionary.specs.Dictionary.{Dictionary}
-use Rattle.fast_field.specs.Best.{IsBest}
-use Rattle.fast_stream.specs.Nodes.{Item, single, group_items, sequence_elements, Items, no_items, then_item, Elements, no_elements, then_element, item_of, items_in, elements_of, element_count}
-use Rattle.fast_stream.specs.Bodies.{PartBy, PieceBy, Each}
-use Rattle.fast_nodes.specs.declared.fault.EncodeCause.TheVariants as cause
+use Rattle.fast_template.specs.Resolved.{Instruction, Instructions, instruction_of, list_of, then_instruction, is_optional, has_map}
+use Rattle.fast_stream.specs.Nodes.{Item, single, group_items, sequence_elements, Items, no_items, then_item, Elements, no_elements, then_element, item_of, items_in, element_count}
 use Rattle.fast_nodes.specs.declared.fault.EncodeFault.{EncodeFault}
-use Rattle.fast_nodes.specs.Added.{Adds, AddsBytes, Answers, AnswersBytes, CanTry, CanTryOne, CanTryEach, IsSmall, AreSmall, AreSmallIn}
-use Rattle.fast_writer.specs.Canonical.{CanonBody, IsShortestMap}
-use Rattle.fast_nodes.specs.FirstRefusal.{refused, item_is_large, has_large, has_large_in, part_judged, segment_judged, item_judged, items_judged, elements_judged}
-use Rattle.fast_writer.specs.Written.{Segment, state, CanonSegment, Asked}
-use Rattle.fast_nodes.proofs.Additions.{body_none, body_more, group_added, sequence_added, elements_none, elements_more}
+use Rattle.fast_nodes.specs.Added.{Books, CanTry, CanTryOne, CanTryEach, GoesOn, IsPut, IsPutWhole, IsSmall, AreSmall, AreSmallIn, NotPut, Piece, Puts, PutsWhole, Seals, both, each_of, of_item, of_items, of_part, segment_of}
+use Rattle.fast_nodes.specs.FirstRefusal.{item_is_large, has_large, has_large_in, part_judged, item_judged, items_judged, elements_judged}
+use Rattle.fast_writer.specs.Written.{Segment, state, bits_for, Asked, IsEmpty}
+use Rattle.fast_nodes.proofs.Additions.{adds_then, body_none, elements_none, elements_more, group_added, no_group_added, not_sealed, segment_added, sequence_added}
+use Rattle.fast_nodes.proofs.Changes.{goes_same, goes_then}
+use Rattle.fast_nodes.proofs.Views.{count_seen, is_absent, is_elements, is_group, is_items, is_parts, is_sequence, is_value, seen}
 
 pub and_true : (b c : Bool) → (b && c) ≡ true → (b ≡ true) × (c ≡ true)
 and_true true c h = (refl, h)
@@ -34,14 +32,17 @@ or_false false c h = (refl, h)
 
 -- ---- what is known of each
 
-can_rest : (serves : Key → Bool) (i : Instruction) (is : Instructions) (n : Item) (ns : Items) → CanTry serves (then_instruction i is) (then_item n ns) → CanTry serves is ns
-can_rest serves i is n ns h = record { parts = h.parts.1; served = h.served.1; fits = (and_true _ _ h.fits).1; small = h.small.1 }
+pub can_first : {a : Books} {i : Instruction} {is : Instructions} {n : Item} {ns : Items} → CanTry a (then_instruction i is) (then_item n ns) → CanTryOne a i n
+can_first h = record { parts = h.parts.0; served = h.served.0; fits = (and_true _ _ h.fits).0; small = h.small.0; holds = h.holds }
 
-pub can_element : (serves : Key → Bool) (is : Instructions) (ns : Items) (es : Elements) → CanTryEach serves is (then_element ns es) → CanTry serves is ns
-can_element serves is ns es h = record { parts = h.parts; served = h.served; fits = (and_true _ _ h.fits).0; small = h.small.0 }
+can_rest : {a b : Books} {i : Instruction} {is : Instructions} {n : Item} {ns : Items} → CanTry a (then_instruction i is) (then_item n ns) → GoesOn a b → CanTry b is ns
+can_rest h g = record { parts = h.parts.1; served = rw (g.same_keys) h.served.1; fits = (and_true _ _ h.fits).1; small = h.small.1; holds = g.holds h.holds }
 
-can_others : (serves : Key → Bool) (is : Instructions) (ns : Items) (es : Elements) → CanTryEach serves is (then_element ns es) → CanTryEach serves is es
-can_others serves is ns es h = record { parts = h.parts; served = h.served; fits = (and_true _ _ h.fits).1; small = h.small.1 }
+pub can_element : {a : Books} {is : Instructions} {ns : Items} {es : Elements} → CanTryEach a is (then_element ns es) → CanTry a is ns
+can_element h = record { parts = h.parts; served = h.served; fits = (and_true _ _ h.fits).0; small = h.small.0; holds = h.holds }
+
+can_others : {a b : Books} {is : Instructions} {ns : Items} {es : Elements} → CanTryEach a is (then_element ns es) → GoesOn a b → CanTryEach b is es
+can_others h g = record { parts = h.parts; served = rw (g.same_keys) h.served; fits = (and_true _ _ h.fits).1; small = h.small.1; holds = g.holds h.holds }
 
 not_less : (n : ℕ) → nat_lt 65535 n ≡ false → n ≤ 65535
 not_less n h = search (arith, h)
@@ -60,92 +61,117 @@ mutual
   small_each no_elements h = tt
   small_each (then_element ns es) h = let p = or_false (has_large ns) (has_large_in es) h in (small_all ns p.0, small_each es p.1)
 
-pub count_is : {A : Type 0} (f : A → Items) (es : List A) → element_count (elements_of (map f es)) ≡ length es
-count_is f [] = refl
-count_is f (e ∷ es) = let h = count_is f es in omega (arith, h)
+-- ---- one behind the other
 
--- ---- instructions with others inside
+pub refused_then : {A B : Type 0} {r : Result A EncodeFault} (later : A → Result B EncodeFault) {a b : Books} {f : EncodeFault} → NotPut r a b f → NotPut (r >>= λ x. later x) a b f
+refused_then later h = record { why = elim (h.why) [ inl memory ↦ inl memory | inr why ↦ inr (rw (why) refl) ]; goes = h.goes }
 
-pub group_answers : (name : List ℕ) (number : ℕ) (presence : Presence) (members : Instructions) (ns : Items) (d e : Dictionary) (l k : Segment) (new : List ℕ) (r : Result (Unit {0}) EncodeFault)
-    → Asked (is_optional presence) true l k
-    → AnswersBytes (λ d x e. CanonSegment members d x ns e) (λ d. segment_judged (has_map members) (λ t. items_judged members ns t) d) d k.bytes e new r
-    → Answers (λ s x t. PieceBy IsBest IsShortestMap (group_of name number presence members) s x (group_items ns) t) (λ s. item_judged (group_of name number presence members) (group_items ns) s)
-    d l e (record { bits = k.bits; own = k.own; bytes = new }) r
-group_answers name number presence members ns d e l k new (Ok x) asked a = group_added name number presence members ns d e l k new asked a
-group_answers name number presence members ns d e l k new (Err f) asked (inl h) = inl h
-group_answers name number presence members ns d e l k new (Err f) asked (inr h) = inr (rw (h) refl)
+refused_behind : {A B : Type 0} {r : Result A EncodeFault} {x : A} (later : A → Result B EncodeFault) {a b c : Books} {f : EncodeFault} → r ≡ Ok x → GoesOn a b → NotPut (later x) b c f → NotPut (r >>= λ y. later y) a c f
+refused_behind later is goes h = record { why = elim (h.why) [ inl memory ↦ inl memory | inr why ↦ inr (rw (is) why) ]; goes = goes_then goes h.goes }
 
-pub sequence_answers : (name : List ℕ) (number : ℕ) (presence : Presence) (p : FieldPart) (members : Instructions) (es : Elements) (d e f : Dictionary) (l k : Segment) (new : List ℕ) (r : Result (Unit {0}) EncodeFault)
-    → Adds (λ s x t. PartBy IsBest p s x (Some (U32 (element_count es))) t) (λ s. part_judged p s (Some (U32 (element_count es)))) d l e k
-    → AnswersBytes (λ d y f. Each (CanonSegment members) d y es f) (λ d. elements_judged members es d) e k.bytes f new r
-    → Answers (λ s x t. PieceBy IsBest IsShortestMap (sequence_of name number presence p members) s x (sequence_elements es) t) (λ s. item_judged (sequence_of name number presence p members) (sequence_elements es) s)
-    d l f (record { bits = k.bits; own = k.own; bytes = new }) r
-sequence_answers name number presence p members es d e f l k new (Ok x) a b = sequence_added name number presence p members es d e f l k new a b
-sequence_answers name number presence p members es d e f l k new (Err g) a (inl h) = inl h
-sequence_answers name number presence p members es d e f l k new (Err g) a (inr h) = inr (rw (a.judged, h) refl)
+pub puts_then : {p : Piece} (q : Piece) {a b : Books} {l k : Segment} (c : Books) (j : Segment) (r : Result (Unit {0}) EncodeFault) → IsPut p a l b k → Puts q b k c j r → Puts (both p q) a l c j r
+puts_then q c j (Ok x) h g = record { adds = adds_then h.adds g.adds; goes = goes_then h.goes g.goes }
+puts_then q c j (Err f) h g = refused_behind (λ t. q.judge t) h.adds.judged h.goes g
 
-pub length_refused : (name : List ℕ) (number : ℕ) (presence : Presence) (p : FieldPart) (members : Instructions) (es : Elements) (d : Dictionary) (l : Segment) (f : EncodeFault)
-    → (f ≡ refused cause.Memory) ⊎ (part_judged p (state d l.bits) (Some (U32 (element_count es))) ≡ Err f)
-    → (f ≡ refused cause.Memory) ⊎ (item_judged (sequence_of name number presence p members) (sequence_elements es) (state d l.bits) ≡ Err f)
-length_refused name number presence p members es d l f (inl h) = inl h
-length_refused name number presence p members es d l f (inr h) = inr (rw (h) refl)
+elements_then : (members : Instructions) (ns : Items) (es : Elements) {a b : Books} {old mid : List ℕ} (c : Books) (new : List ℕ) (r : Result (Unit {0}) EncodeFault)
+    → IsPutWhole (segment_of members ns) a old b mid → PutsWhole (each_of members es) b mid c new r → PutsWhole (each_of members (then_element ns es)) a old c new r
+elements_then members ns es c new (Ok x) h g = record { adds = elements_more members ns es h.adds g.adds; goes = goes_then h.goes g.goes }
+elements_then members ns es c new (Err f) h g = refused_behind (λ d. elements_judged members es d) h.adds.judged h.goes g
+
+-- ---- with others inside
+
+pub segment_put : (members : Instructions) (ns : Items) (old new : List ℕ) (r : Result (Unit {0}) EncodeFault) {a b : Books} {k l : Segment} → IsEmpty (has_map members) k
+    → IsPut (of_items members ns) a k b l → Seals l old new r → PutsWhole (segment_of members ns) a old b new r
+segment_put members ns old new (Ok x) empty h s = record { adds = segment_added members ns empty h.adds s; goes = h.goes }
+segment_put members ns old new (Err f) empty h s = record { why = not_sealed empty h.adds s; goes = h.goes }
+
+pub group_put : {flat : Flat} {node : Node} {name : List ℕ} {number : ℕ} {presence : Presence} (members : Vec Flat) (ns : Vec Node) {l k : Segment} (a b : Books) (new : List ℕ) (r : Result (Unit {0}) EncodeFault)
+    → flat ≡ Group name number presence members → node ≡ nodes.Group ns → Asked (is_optional presence) true l k
+    → PutsWhole (segment_of (list_of members.items) (items_in ns.items)) a k.bytes b new r
+    → Puts (of_item (instruction_of flat) (item_of node)) a l b (record { bits = k.bits; own = k.own; bytes = new }) r
+group_put {name} {number} {presence} members ns a b new (Ok x) flat node asked h =
+    rw (is_group members flat, is_items ns node) (record { adds = group_added name number presence (list_of members.items) (items_in ns.items) asked h.adds; goes = h.goes })
+group_put {presence} members ns {l} a b new (Err f) flat node asked h = rw (is_group members flat, is_items ns node) (refused_then (λ e. Ok (state e (l.bits ++ bits_for (is_optional presence) true))) h)
+
+pub no_group_put : {flat : Flat} {node : Node} {name : List ℕ} {number : ℕ} {presence : Presence} (members : Vec Flat) {a : Books} {l k : Segment}
+    → flat ≡ Group name number presence members → node ≡ nodes.Absent → CanTryOne a (instruction_of flat) (item_of node) → Asked (is_optional presence) false l k
+    → IsPut (of_item (instruction_of flat) (item_of node)) a l a k
+no_group_put {name} {number} {presence} members flat node can asked =
+    let ready = rw (is_group members flat, is_absent node) at can in
+    rw (is_group members flat, is_absent node) (record { adds = no_group_added name number presence (list_of members.items) ready.fits asked; goes = goes_same })
+
+pub parts_put : {flat : Flat} {node : Node} {name : List ℕ} {number : ℕ} {presence : Presence} {exponent mantissa : FieldPart} {v : Scalar} (e m : ℤ) {a b : Books} {l k : Segment} (c : Books) (j : Segment) (r : Result (Unit {0}) EncodeFault)
+    → flat ≡ Parts name number presence exponent mantissa → node ≡ nodes.Value v → v ≡ Decimal e m → IsPut (of_part exponent (Some (I32 e))) a l b k
+    → Puts (of_part mantissa (Some (I64 m))) b k c j r → Puts (of_item (instruction_of flat) (item_of node)) a l c j r
+parts_put {mantissa} e m c j r flat node v h g = rw (is_parts flat, is_value node, v) (puts_then (of_part mantissa (Some (I64 m))) c j r h g)
+
+pub sequence_put : {flat : Flat} {node : Node} {name : List ℕ} {number : ℕ} {presence : Presence} {part : FieldPart} (members : Vec Flat) (es : Vec (Vec Node)) {a b : Books} {l k : Segment} (c : Books) (new : List ℕ) (r : Result (Unit {0}) EncodeFault)
+    → flat ≡ Sequence name number presence part members → node ≡ nodes.Sequence es → IsPut (of_part part (Some (U32 (length es.items)))) a l b k
+    → PutsWhole (each_of (list_of members.items) (seen es.items)) b k.bytes c new r
+    → Puts (of_item (instruction_of flat) (item_of node)) a l c (record { bits = k.bits; own = k.own; bytes = new }) r
+sequence_put {name} {number} {presence} {part} members es c new (Ok x) flat node h g =
+    rw (is_sequence members flat, is_elements es node) (record { adds = sequence_added name number presence part (list_of members.items) (seen es.items) (rw (count_seen es.items) h.adds) g.adds; goes = goes_then h.goes g.goes })
+sequence_put members es {k} c new (Err f) flat node h g =
+    rw (is_sequence members flat, is_elements es node, count_seen es.items) (refused_behind (λ t. elements_judged (list_of members.items) (seen es.items) t.dictionary >>= λ e. Ok (state e t.bits)) h.adds.judged h.goes (refused_then (λ e. Ok (state e k.bits)) g))
+
+pub length_refused : {flat : Flat} {node : Node} {name : List ℕ} {number : ℕ} {presence : Presence} {part : FieldPart} (members : Vec Flat) (es : Vec (Vec Node)) {a b : Books} (l : Segment) {f : EncodeFault}
+    → flat ≡ Sequence name number presence part members → node ≡ nodes.Sequence es → NotPut (part_judged part (state a.entries l.bits) (Some (U32 (length es.items)))) a b f
+    → NotPut (item_judged (instruction_of flat) (item_of node) (state a.entries l.bits)) a b f
+length_refused members es l flat node h =
+    rw (is_sequence members flat, is_elements es node, count_seen es.items) (refused_then (λ t. elements_judged (list_of members.items) (seen es.items) t.dictionary >>= λ e. Ok (state e t.bits)) h)
+
+pub can_each : {flat : Flat} {node : Node} {name : List ℕ} {number : ℕ} {presence : Presence} {part : FieldPart} (members : Vec Flat) (es : Vec (Vec Node)) {a b : Books} (fs : List Flat) (ns : List (Vec Node))
+    → flat ≡ Sequence name number presence part members → node ≡ nodes.Sequence es → fs ≡ members.items → ns ≡ es.items → CanTryOne a (instruction_of flat) (item_of node) → GoesOn a b → CanTryEach b (list_of fs) (seen ns)
+can_each members es fs ns flat node these those h g =
+    let one = rw (is_sequence members flat, is_elements es node) at h in
+    rw (these, those) (record { parts = one.parts.1; served = rw (g.same_keys) one.served.1; fits = one.fits; small = one.small.1; holds = g.holds one.holds })
+
+pub few_elements : {flat : Flat} {node : Node} {name : List ℕ} {number : ℕ} {presence : Presence} {part : FieldPart} (members : Vec Flat) (es : Vec (Vec Node)) {a : Books}
+    → flat ≡ Sequence name number presence part members → node ≡ nodes.Sequence es → CanTryOne a (instruction_of flat) (item_of node) → length es.items ≤ 65535
+few_elements members es flat node h = let one = rw (is_sequence members flat, is_elements es node) at h in rw (count_seen es.items) at one.small.0
 
 -- ---- nodes in a row
 
--- Of these nodes the last ones are left, from this dictionary and level.
-pub record Reached (serves : Key → Bool) (all : Instructions) (every : Items) (d : Dictionary) (l : Segment) (is : Instructions) (ns : Items) (e : Dictionary) (k : Segment) : Type 0 where
-  pub ready : CanTry serves is ns
-  pub judged : items_judged all every (state d l.bits) ≡ items_judged is ns (state e k.bits)
-  pub adds : (f : Dictionary) (j : Segment) → Adds (λ s x t. CanonBody is s x ns t) (λ s. items_judged is ns s) e k f j
-      → Adds (λ s x t. CanonBody all s x every t) (λ s. items_judged all every s) d l f j
+-- From this node on they are left: what is answered of those is answered of all.
+pub record NodesLeft (flats : List Flat) (nodes : List Node) (a : Books) (l : Segment) (at : ℕ) (b : Books) (k : Segment) : Type 0 where
+  pub ready : CanTry b (list_of (drop at flats)) (items_in (drop at nodes))
+  pub on : (c : Books) (j : Segment) (r : Result (Unit {0}) EncodeFault) → Puts (of_items (list_of (drop at flats)) (items_in (drop at nodes))) b k c j r → Puts (of_items (list_of flats) (items_in nodes)) a l c j r
 
-pub reached_more : (serves : Key → Bool) (all : Instructions) (every : Items) (d : Dictionary) (l : Segment) (i : Instruction) (is : Instructions) (n : Item) (ns : Items) (e f : Dictionary) (k j : Segment)
-    → Reached serves all every d l (then_instruction i is) (then_item n ns) e k
-    → Adds (λ s x t. PieceBy IsBest IsShortestMap i s x n t) (λ s. item_judged i n s) e k f j
-    → Reached serves all every d l is ns f j
-reached_more serves all every d l i is n ns e f k j r a = record {
-  ready = can_rest serves i is n ns r.ready;
-  judged = rw (r.judged, a.judged) refl;
-  adds = λ g m h. r.adds g m (body_more i is n ns e f g k j m a h);
-}
+pub next_of : {A : Type 0} (xs : List A) (at : ℕ) (x : A) → at < length xs → x ≡ get_or xs at x → drop at xs ≡ x ∷ drop (at + 1) xs
+next_of xs at x inside is = drop_more xs at x inside ∙ ap (λ (y : _). y ∷ drop (at + 1) xs) (sym is)
 
-pub reached_end : (serves : Key → Bool) (all : Instructions) (every : Items) (d : Dictionary) (l : Segment) (e : Dictionary) (k : Segment)
-    → Reached serves all every d l no_instructions no_items e k → Adds (λ s x t. CanonBody all s x every t) (λ s. items_judged all every s) d l e k
-reached_end serves all every d l e k r = r.adds e k (body_none e k)
+module _ {flats : List Flat} {nodes : List Node} {a b : Books} {l k : Segment} {at : ℕ} (left : NodesLeft flats nodes a l at b k) where
+  pub nodes_end : length flats ≤ at → length nodes ≤ at → IsPut (of_items (list_of flats) (items_in nodes)) a l b k
+  nodes_end no_flat no_node = left.on b k (Ok tt) (rw (drop_all at flats no_flat, drop_all at nodes no_node) (record { adds = body_none; goes = goes_same }))
+
+  module _ {f : Flat} {n : Node} (flat : drop at flats ≡ f ∷ drop (at + 1) flats) (node : drop at nodes ≡ n ∷ drop (at + 1) nodes) where
+    pub can_node : CanTryOne b (instruction_of f) (item_of n)
+    can_node = can_first (rw (flat, node) at left.ready)
+
+    pub nodes_next : {c : Books} {j : Segment} → IsPut (of_item (instruction_of f) (item_of n)) b k c j → NodesLeft flats nodes a l (at + 1) c j
+    nodes_next h = record { ready = can_rest (rw (flat, node) at left.ready) h.goes; on = λ d m r g. (rw (flat, node) at left.on) d m r (puts_then _ d m r h g) }
+
+    pub node_refused : {c : Books} {fault : EncodeFault} → NotPut (item_judged (instruction_of f) (item_of n) (state b.entries k.bits)) b c fault → NotPut (items_judged (list_of flats) (items_in nodes) (state a.entries l.bits)) a c fault
+    node_refused {c} {fault} h = (rw (flat, node) at left.on) c k (Err fault) (refused_then (λ t. items_judged (list_of (drop (at + 1) flats)) (items_in (drop (at + 1) nodes)) t) h)
 
 -- ---- elements
 
--- Of these elements the last ones are left, from this dictionary and behind these bytes.
-pub record ReachedElement (serves : Key → Bool) (members : Instructions) (every : Elements) (d : Dictionary) (old : List ℕ) (es : Elements) (e : Dictionary) (now : List ℕ) : Type 0 where
-  pub ready : CanTryEach serves members es
-  pub judged : elements_judged members every d ≡ elements_judged members es e
-  pub adds : (f : Dictionary) (new : List ℕ) → AddsBytes (λ d y f. Each (CanonSegment members) d y es f) (λ d. elements_judged members es d) e now f new
-      → AddsBytes (λ d y f. Each (CanonSegment members) d y every f) (λ d. elements_judged members every d) d old f new
+-- From this element on they are left.
+pub record ElementsLeft (members : List Flat) (es : List (Vec Node)) (a : Books) (old : List ℕ) (at : ℕ) (b : Books) (new : List ℕ) : Type 0 where
+  pub ready : CanTryEach b (list_of members) (seen (drop at es))
+  pub on : (c : Books) (last : List ℕ) (r : Result (Unit {0}) EncodeFault) → PutsWhole (each_of (list_of members) (seen (drop at es))) b new c last r → PutsWhole (each_of (list_of members) (seen es)) a old c last r
 
-pub element_more : (serves : Key → Bool) (members : Instructions) (every : Elements) (d : Dictionary) (old : List ℕ) (ns : Items) (es : Elements) (e f : Dictionary) (now new : List ℕ)
-    → ReachedElement serves members every d old (then_element ns es) e now
-    → AddsBytes (λ d x e. CanonSegment members d x ns e) (λ d. segment_judged (has_map members) (λ t. items_judged members ns t) d) e now f new
-    → ReachedElement serves members every d old es f new
-element_more serves members every d old ns es e f now new r a = record {
-  ready = can_others serves members ns es r.ready;
-  judged = rw (r.judged, a.judged) refl;
-  adds = λ g last h. r.adds g last (elements_more members ns es e f g now new last a h);
-}
+module _ {members : List Flat} {es : List (Vec Node)} {a b : Books} {old new : List ℕ} {at : ℕ} (left : ElementsLeft members es a old at b new) where
+  pub elements_end : length es ≤ at → IsPutWhole (each_of (list_of members) (seen es)) a old b new
+  elements_end end = left.on b new (Ok tt) (rw (drop_all at es end) (record { adds = elements_none (list_of members); goes = goes_same }))
 
-pub element_end : (serves : Key → Bool) (members : Instructions) (every : Elements) (d : Dictionary) (old : List ℕ) (e : Dictionary) (now : List ℕ)
-    → ReachedElement serves members every d old no_elements e now → AddsBytes (λ d y f. Each (CanonSegment members) d y every f) (λ d. elements_judged members every d) d old e now
-element_end serves members every d old e now r = r.adds e now (elements_none members e now)
+  module _ {e : Vec Node} (here : drop at es ≡ e ∷ drop (at + 1) es) where
+    pub can_segment : CanTry b (list_of members) (items_in e.items)
+    can_segment = can_element (rw (here) at left.ready)
 
--- ---- the elements of a sequence, as they stand in memory
+    pub elements_next : {c : Books} {last : List ℕ} → IsPutWhole (segment_of (list_of members) (items_in e.items)) b new c last → ElementsLeft members es a old (at + 1) c last
+    elements_next h =
+        record { ready = can_others (rw (here) at left.ready) h.goes; on = λ d m r g. (rw (here) at left.on) d m r (elements_then (list_of members) (items_in e.items) (seen (drop (at + 1) es)) d m r h g) }
 
-flat_sequence : (name : List ℕ) (number : ℕ) (presence : Presence) (length : FieldPart) (members : Vec Flat)
-    → instruction_of (Sequence name number presence length members) ≡ sequence_of name number presence length (list_of members.items)
-flat_sequence name number presence length members =
-    fold_out-Flat Instruction flat_step (Sequence name number presence length members) ∙ rw (outs-Sequence name number presence length members) refl
-
-pub can_each : (serves now : Key → Bool) (flat : Flat) (node : Node) (name : List ℕ) (number : ℕ) (presence : Presence) (part : FieldPart) (members : Vec Flat) (elements : Vec (Vec Node)) (fs : List Flat) (es : List (Vec Node))
-    → flat ≡ Sequence name number presence part members → node ≡ nodes.Sequence elements → fs ≡ members.items → es ≡ elements.items → now ≡ serves
-    → CanTryOne serves (instruction_of flat) (item_of node) → CanTryEach now (list_of fs) (elements_of (map (λ (e : Vec Node). items_in e.items) es))
-can_each serves now flat node name number presence part members elements fs es first second these those same h =
-    let one = rw (first, second, item_of-sequence elements, flat_sequence name number presence part members) at h in
-    rw (these, those, same) (record { parts = one.parts.1; served = one.served.1; fits = one.fits; small = one.small.1 })
+    pub element_refused : {c : Books} {fault : EncodeFault} → NotPut ((segment_of (list_of members) (items_in e.items)).judge b.entries) b c fault → NotPut (elements_judged (list_of members) (seen es) a.entries) a c fault
+    element_refused {c} {fault} h = (rw (here) at left.on) c new (Err fault) (refused_then (λ d. elements_judged (list_of members) (seen (drop (at + 1) es)) d) h)

@@ -145,6 +145,11 @@ abbrev pub early_refusal : Option Instructions → Items → Option EncodeFault
 early_refusal None ns = Some (refused cause.D9)
 early_refusal (Some members) ns = whole_refusal members ns
 
+-- the members are those of the message's template, and it is whole
+pub record IsJudged (set : List Resolved) (m : Content) (members : Instructions) : Type 0 where
+  pub known : members_of set m.template ≡ Some members
+  pub whole : whole_refusal members m.items ≡ None
+
 abbrev pub or_else : Option EncodeFault → Option EncodeFault → Option EncodeFault
 or_else (Some f) later = Some f
 or_else None later = later

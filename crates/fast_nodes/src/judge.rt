@@ -1,13 +1,12 @@
 //! What is judged of a message before its fields are written.
 
-ghost use Rattle.std.specs.Prelude.{◌≡◌, IfErr, IfOk, None, Some};
+ghost use Rattle.std.specs.Prelude.{◌≡◌, MatchResult, Some};
 ghost use Rattle.fast_template.specs.Resolved.{list_of};
 ghost use Rattle.fast_template.specs.TemplateSets.{IsSound, templates_in};
-ghost use Rattle.fast_dictionary.specs.Dictionary.{Dictionary};
 ghost use Rattle.fast_field.specs.Calls.{Judges};
 ghost use Rattle.fast_stream.specs.Nodes.{content_of, items_in};
 ghost use Rattle.fast_stream.specs.Streams.{members_of};
-ghost use Rattle.fast_nodes.specs.FirstRefusal.{early_refusal, first_refusal, is_too_large, whole_refusal};
+ghost use Rattle.fast_nodes.specs.FirstRefusal.{IsJudged, early_refusal, is_too_large, whole_refusal};
 
 use crate::fault::{EncodeCause, EncodeFault};
 use crate::shape::all_fit;
@@ -54,14 +53,10 @@ pub fn template_for<'a>(
     message: &Message,
 ) -> Result<&'a FlatTemplate, EncodeFault>
     ensures sound { IsSound set.now }
-    ensures known { IfOk result (λ t. members_of (templates_in set.now) message.now.template
-        ≡ Some (list_of t.now.members.items)) }
-    ensures whole { IfOk result (λ t. whole_refusal (list_of t.now.members.items)
-        (content_of message.now).items ≡ None) }
-    ensures early { IfErr result (λ f. early_refusal (members_of (templates_in set.now) message.now.template)
+    ensures judged { MatchResult result
+        (λ t. IsJudged (templates_in set.now) (content_of message.now) (list_of t.now.members.items))
+        (λ f. early_refusal (members_of (templates_in set.now) message.now.template)
         (content_of message.now).items ≡ Some f) }
-    ensures refused { IfErr result (λ f. (d : Dictionary)
-        → first_refusal (templates_in set.now) d (content_of message.now) ≡ Some f) }
 {
     match set.find(message.template) {
         None => Err(EncodeFault {

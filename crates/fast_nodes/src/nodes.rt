@@ -1,19 +1,12 @@
 //! Writes the nodes of a message, each by its instruction.
 
-ghost use Rattle.std.specs.Prelude.{◌≡◌, ◌≤◌, ℕ, List, Some, IsTrue, length, map};
-ghost use Rattle.fast_template.specs.Resolved.{field_in_parts, has_map as has_map_of, instruction_of, list_of};
-ghost use Rattle.fast_value.specs.declared.kind.Presence.{Presence as PresenceOf};
+ghost use Rattle.std.specs.Prelude.{◌≡◌, ◌≤◌, length, map};
+ghost use Rattle.fast_template.specs.Resolved.{instruction_of, list_of};
 ghost use Rattle.fast_value.specs.declared.scalar.Scalar.TheVariants.{I32, I64, U32};
-ghost use Rattle.fast_field.specs.Best.{IsBest};
-ghost use Rattle.fast_field.specs.Parts.{IsFieldPart};
-ghost use Rattle.fast_stream.specs.Nodes.{elements_of, item_of, items_in, single};
-ghost use Rattle.fast_stream.specs.Bodies.{Each, PartBy, PieceBy};
-ghost use Rattle.fast_nodes.specs.Added.{Answers, AnswersBytes, CanTry, CanTryEach, CanTryOne, GoesOn};
-ghost use Rattle.fast_walk.specs.Told.{HoldScalars};
-ghost use Rattle.fast_writer.specs.Canonical.{CanonBody, IsShortestMap};
-ghost use Rattle.fast_nodes.specs.FirstRefusal.{elements_judged, item_judged, items_judged, part_judged, refused, segment_judged};
+ghost use Rattle.fast_stream.specs.Nodes.{elements_of, item_of, items_in};
+ghost use Rattle.fast_nodes.specs.Added.{CanTry, CanTryEach, CanTryOne, Puts, PutsWhole, books_of, each_of, of_item, of_items, segment_of};
+ghost use Rattle.fast_nodes.specs.FirstRefusal.{refused};
 ghost use Rattle.fast_writer.specs.Levels.{level_of};
-ghost use Rattle.fast_writer.specs.Written.{CanonSegment};
 
 use crate::fault::{EncodeCause, EncodeFault};
 use crate::journal::Journal;
@@ -49,82 +42,24 @@ fn mantissa_of(mantissa: &i64) -> Scalar
     Scalar::I64(*mantissa)
 }
 
-// Writes the length of a sequence.
-fn put_length<'a, E: Entries>(
-    alloc: Global,
-    part: &'a FieldPart,
-    elements: &[Vec<Node>],
-    journal: &mut Journal<'a, E>,
-    level: &mut Segment,
-) -> Result<(), EncodeFault>
-    requires few { length elements.now ≤ 65535 }
-    requires part { IsFieldPart part.now }
-    requires served { IsTrue (E.serves journal.now.entries part.now.key) }
-    requires holds { HoldScalars (E.contents journal.now.entries) }
-    ensures answer { Answers (λ s x t. PartBy IsBest part.now s x
-        (Some (U32 (length elements.now))) t)
-        (λ s. part_judged part.now s (Some (U32 (length elements.now))))
-        (E.contents journal.old.entries) (level_of level.old) (E.contents journal.new.entries)
-        (level_of level.new) result }
-    ensures goes { GoesOn (E.serves journal.old.entries) journal.old.changes.items
-        (E.contents journal.old.entries) (E.serves journal.new.entries) journal.new.changes.items
-        (E.contents journal.new.entries) }
+// The value of a length.
+fn length_of(elements: &[Vec<Node>]) -> Scalar
+    requires { length elements.now ≤ 65535 }
+    ensures { result ≡ U32 (length elements.now) }
 {
-    journal.put(
-        alloc,
-        part,
-        Some(&Scalar::U32(elements.len() as u32)),
-        level,
-    )
+    Scalar::U32(elements.len() as u32)
 }
 
 // What is known of the elements of a sequence, for the proofs: it does nothing.
 fn tell_elements<'a, E: Entries>(members: &[Flat], elements: &[Vec<Node>], journal: &Journal<'a, E>)
-    requires ready { CanTryEach (E.serves journal.now.entries) (list_of members.now)
+    requires { CanTryEach (books_of E.Entries journal.now) (list_of members.now)
         (elements_of (map (λ e. items_in e.items) elements.now)) }
-    ensures { CanTryEach (E.serves journal.now.entries) (list_of members.now)
+    ensures { CanTryEach (books_of E.Entries journal.now) (list_of members.now)
         (elements_of (map (λ e. items_in e.items) elements.now)) }
 {
     let _ = members;
     let _ = elements;
     let _ = journal;
-}
-
-// Writes a decimal in parts.
-fn put_decimal<'a, E: Entries>(
-    alloc: Global,
-    exponent: &'a FieldPart,
-    mantissa: &'a FieldPart,
-    value: &Scalar,
-    journal: &mut Journal<'a, E>,
-    level: &mut Segment,
-) -> Result<(), EncodeFault>
-    requires exponent { IsFieldPart exponent.now }
-    requires mantissa { IsFieldPart mantissa.now }
-    requires served { IsTrue (E.serves journal.now.entries exponent.now.key) }
-    requires mantissa_served { IsTrue (E.serves journal.now.entries mantissa.now.key) }
-    requires holds { HoldScalars (E.contents journal.now.entries) }
-    ensures answer { (name : List ℕ) (number : ℕ) (presence : PresenceOf)
-        → Answers (λ s x t. PieceBy IsBest IsShortestMap (field_in_parts name number presence
-        exponent.now mantissa.now) s x (single (Some value.now)) t)
-        (λ s. item_judged (field_in_parts name number presence exponent.now mantissa.now)
-        (single (Some value.now)) s) (E.contents journal.old.entries) (level_of level.old)
-        (E.contents journal.new.entries) (level_of level.new) result }
-    ensures goes { GoesOn (E.serves journal.old.entries) journal.old.changes.items
-        (E.contents journal.old.entries) (E.serves journal.new.entries) journal.new.changes.items
-        (E.contents journal.new.entries) }
-{
-    match value {
-        Scalar::Decimal {
-            exponent: e,
-            mantissa: m,
-        } => {
-            journal.put(alloc, exponent, Some(&exponent_of(e)), level)?;
-            journal.put(alloc, mantissa, Some(&mantissa_of(m)), level)?;
-            Ok(())
-        }
-        _ => Err(no_shape()),
-    }
 }
 
 // Writes a node by its instruction.
@@ -136,16 +71,11 @@ fn put_node<'a, E: Entries>(
     journal: &mut Journal<'a, E>,
     level: &mut Segment,
 ) -> Result<(), EncodeFault>
-    requires ready { CanTryOne (E.serves journal.now.entries) (instruction_of flat.now)
+    requires { CanTryOne (books_of E.Entries journal.now) (instruction_of flat.now)
         (item_of node.now) }
-    requires holds { HoldScalars (E.contents journal.now.entries) }
-    ensures answer { Answers (λ s x t. PieceBy IsBest IsShortestMap (instruction_of flat.now) s x
-        (item_of node.now) t) (λ s. item_judged (instruction_of flat.now) (item_of node.now) s)
-        (E.contents journal.old.entries) (level_of level.old) (E.contents journal.new.entries)
-        (level_of level.new) result }
-    ensures goes { GoesOn (E.serves journal.old.entries) journal.old.changes.items
-        (E.contents journal.old.entries) (E.serves journal.new.entries) journal.new.changes.items
-        (E.contents journal.new.entries) }
+    ensures { Puts (of_item (instruction_of flat.now) (item_of node.now))
+        (books_of E.Entries journal.old) (level_of level.old)
+        (books_of E.Entries journal.new) (level_of level.new) result }
 {
     match flat {
         Flat::Field { whole, .. } => match node {
@@ -159,7 +89,16 @@ fn put_node<'a, E: Entries>(
             ..
         } => match node {
             Node::Absent => journal.put(alloc, exponent, None, level),
-            Node::Value(value) => { put_decimal(alloc, exponent, mantissa, value, journal, level) }
+            Node::Value(value) => match value {
+                Scalar::Decimal {
+                    exponent: e,
+                    mantissa: m,
+                } => {
+                    journal.put(alloc, exponent, Some(&exponent_of(e)), level)?;
+                    journal.put(alloc, mantissa, Some(&mantissa_of(m)), level)
+                }
+                _ => Err(no_shape()),
+            },
             Node::Group(_) | Node::Sequence(_) => Err(no_shape()),
         },
         Flat::Group {
@@ -186,7 +125,7 @@ fn put_node<'a, E: Entries>(
             Node::Sequence(elements) => {
                 let members: &'a [Flat] = members;
                 let elements: &[Vec<Node>] = elements;
-                put_length(alloc, length, elements, journal, level)?;
+                journal.put(alloc, length, Some(&length_of(elements)), level)?;
                 tell_elements(members, elements, journal);
                 put_elements(members, elements, alloc, journal, &mut level.bytes.out)
             }
@@ -208,16 +147,10 @@ pub fn put_nodes<'a, E: Entries>(
     journal: &mut Journal<'a, E>,
     level: &mut Segment,
 ) -> Result<(), EncodeFault>
-    requires ready { CanTry (E.serves journal.now.entries) (list_of flats.now)
-        (items_in nodes.now) }
-    requires holds { HoldScalars (E.contents journal.now.entries) }
-    ensures answer { Answers (λ s x t. CanonBody (list_of flats.now) s x (items_in nodes.now) t)
-        (λ s. items_judged (list_of flats.now) (items_in nodes.now) s)
-        (E.contents journal.old.entries) (level_of level.old) (E.contents journal.new.entries)
-        (level_of level.new) result }
-    ensures goes { GoesOn (E.serves journal.old.entries) journal.old.changes.items
-        (E.contents journal.old.entries) (E.serves journal.new.entries) journal.new.changes.items
-        (E.contents journal.new.entries) }
+    requires { CanTry (books_of E.Entries journal.now) (list_of flats.now) (items_in nodes.now) }
+    ensures { Puts (of_items (list_of flats.now) (items_in nodes.now))
+        (books_of E.Entries journal.old) (level_of level.old)
+        (books_of E.Entries journal.new) (level_of level.new) result }
 {
     if flats.len() != nodes.len() {
         return Err(no_shape());
@@ -237,17 +170,10 @@ fn put_segment<'a, E: Entries>(
     journal: &mut Journal<'a, E>,
     out: &mut Vec<u8>,
 ) -> Result<(), EncodeFault>
-    requires ready { CanTry (E.serves journal.now.entries) (list_of members.now)
-        (items_in nodes.now) }
-    requires holds { HoldScalars (E.contents journal.now.entries) }
-    ensures answer { AnswersBytes (λ d x e. CanonSegment (list_of members.now) d x (items_in nodes.now)
-        e) (λ d. segment_judged (has_map_of (list_of members.now))
-        (λ t. items_judged (list_of members.now) (items_in nodes.now) t) d)
-        (E.contents journal.old.entries) out.old.items (E.contents journal.new.entries)
-        out.new.items result }
-    ensures goes { GoesOn (E.serves journal.old.entries) journal.old.changes.items
-        (E.contents journal.old.entries) (E.serves journal.new.entries) journal.new.changes.items
-        (E.contents journal.new.entries) }
+    requires { CanTry (books_of E.Entries journal.now) (list_of members.now) (items_in nodes.now) }
+    ensures { PutsWhole (segment_of (list_of members.now) (items_in nodes.now))
+        (books_of E.Entries journal.old) out.old.items
+        (books_of E.Entries journal.new) out.new.items result }
 {
     let mut level = Segment::new(alloc, has_map(members));
     put_nodes(members, nodes, alloc, journal, &mut level)?;
@@ -264,18 +190,12 @@ fn put_elements<'a, E: Entries>(
     journal: &mut Journal<'a, E>,
     out: &mut Vec<u8>,
 ) -> Result<(), EncodeFault>
-    requires ready { CanTryEach (E.serves journal.now.entries) (list_of members.now)
+    requires { CanTryEach (books_of E.Entries journal.now) (list_of members.now)
         (elements_of (map (λ e. items_in e.items) elements.now)) }
-    requires holds { HoldScalars (E.contents journal.now.entries) }
-    ensures answer { AnswersBytes (λ d y e. Each (CanonSegment (list_of members.now)) d y
-        (elements_of (map (λ e. items_in e.items) elements.now)) e)
-        (λ d. elements_judged (list_of members.now)
-        (elements_of (map (λ e. items_in e.items) elements.now)) d)
-        (E.contents journal.old.entries) out.old.items (E.contents journal.new.entries)
-        out.new.items result }
-    ensures goes { GoesOn (E.serves journal.old.entries) journal.old.changes.items
-        (E.contents journal.old.entries) (E.serves journal.new.entries) journal.new.changes.items
-        (E.contents journal.new.entries) }
+    ensures { PutsWhole (each_of (list_of members.now)
+        (elements_of (map (λ e. items_in e.items) elements.now)))
+        (books_of E.Entries journal.old) out.old.items
+        (books_of E.Entries journal.new) out.new.items result }
 {
     'elements: for at in 0..elements.len() {
         put_segment(members, &elements[at], alloc, journal, out)?;

@@ -1,17 +1,12 @@
 //! A part of a message that is written.
 
-ghost use Rattle.std.specs.Prelude.{◌≡◌, ◌⊎◌, ◌++◌, ◌&&◌, true, false, drop, not, None, Some, IfErr, IfOk, OnErr, OnOk};
+ghost use Rattle.std.specs.Prelude.{◌≡◌, MatchResult};
 ghost use Rattle.std.specs.Option.{option_copied};
-ghost use Rattle.fast_template.specs.Resolved.{part_needs_bit as part_needs_bit_of};
-ghost use Rattle.fast_field.specs.Bases.{next};
 ghost use Rattle.fast_field.specs.Parts.{IsFieldPart};
-ghost use Rattle.fast_field.specs.Planning.{left_out_of};
-ghost use Rattle.fast_field.specs.Refusals.{refusal_of};
 ghost use Rattle.fast_field.specs.Within.{HoldsScalar};
-ghost use Rattle.fast_field.specs.declared.fault.FieldRefusal.{FieldRefusal as RefusalOf};
+ghost use Rattle.fast_nodes.specs.Added.{IsPartPut, NoPartPut, Seals};
 ghost use Rattle.fast_nodes.specs.FirstRefusal.{cause_of, fault_of, refused};
 ghost use Rattle.fast_writer.specs.Levels.{level_of};
-ghost use Rattle.fast_writer.specs.Written.{Ended, Spelt, bits_for, has_set};
 
 use crate::fault::{EncodeCause, EncodeFault};
 use fast_dictionary::Entry;
@@ -84,13 +79,7 @@ fn no_room() -> EncodeFault
 ///
 /// Limit: a bit is 1 for which the map has no room. Memory: a growth was refused.
 pub fn seal(level: &Segment, out: &mut Vec<u8>) -> Result<(), EncodeFault>
-    ensures ended { OnOk result (Ended (level_of level.now) out.old.items out.new.items) }
-    ensures room { OnOk result
-        ((level.now.own && has_set (drop 1792 level.now.bits)) ≡ false) }
-    ensures refused { IfErr result (λ f. (f ≡ refused EncodeCause.Memory)
-        ⊎ ((f ≡ refused EncodeCause.Limit)
-        × ((level.now.own && has_set (drop 1792 level.now.bits)) ≡ true))) }
-    ensures unchanged { OnErr result (out.new.items ≡ out.old.items) }
+    ensures { Seals (level_of level.now) out.old.items out.new.items result }
 {
     match level.seal(out) {
         Err(WireFault::TooLong) => Err(no_room()),
@@ -114,21 +103,10 @@ pub(crate) fn put_part(
 ) -> Result<Entry, EncodeFault>
     requires part { IsFieldPart part.now }
     requires entry { HoldsScalar entry.old }
-    ensures spelt { OnOk result (Spelt part.now entry.old (option_copied value.entry)
-        (level_of level.old) (level_of level.new)) }
-    // the bit is 0 exactly where that gives the value
-    ensures bit { OnOk result (level.new.bits ≡ level.old.bits
-        ++ bits_for (part_needs_bit_of part.now) (not (left_out_of part.now.operator part.now
-        entry.old (option_copied value.entry)))) }
-    ensures after { OnOk result (entry.new
-        ≡ next part.now entry.old (option_copied value.entry)) }
-    ensures before { IfOk result (λ e. e ≡ entry.old) }
-    ensures allowed { OnOk result
-        (refusal_of part.now entry.old (option_copied value.entry) ≡ None) }
-    ensures refused { IfErr result (λ f. (f ≡ refused EncodeCause.Memory)
-        ⊎ ((r : RefusalOf) × (refusal_of part.now entry.old (option_copied value.entry) ≡ Some r)
-        × (f ≡ fault_of part.now r))) }
-    ensures kept { OnErr result (entry.new ≡ entry.old) }
+    ensures { MatchResult result
+        (λ before. IsPartPut part.now (option_copied value.entry) entry.old (level_of level.old)
+        before entry.new (level_of level.new))
+        (λ f. NoPartPut part.now (option_copied value.entry) entry.old entry.new f) }
 {
     match plan_field(part, entry.view(), value) {
         Err(refusal) => Err(fault_for(part, refusal)),

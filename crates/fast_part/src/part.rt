@@ -111,32 +111,7 @@ fn take_generally(
     Ok((value, next))
 }
 
-/// Takes a part's value from the bytes: an integer at once, and all else in the general way.
-#[inline(always)]
-fn take_sent(
-    alloc: Global,
-    part: &FieldPart,
-    entry: &mut Entry,
-    bit: bool,
-    level: Level,
-    bytes: &[u8],
-    at: usize,
-) -> Result<(Option<Scalar>, usize), FieldFault>
-    requires { at ≤ length bytes.now }
-    ensures place { IfOk result (λ x. (at ≤ x.1) × (x.1 ≤ length bytes.now)) }
-    ensures taken { IfOk result (λ x. TookFrom level part.now bit entry.old entry.new x.0
-        (drop at bytes.now) (drop x.1 bytes.now)) }
-    ensures stops { IfErr result (λ f. f ≢ FieldFault.Memory
-        → (field_at level part.now entry.old bit (drop at bytes.now) ≡ Err f)
-        × (entry.new ≡ entry.old)) }
-{
-    match take_quickly(part, entry, bit, level, bytes, at) {
-        Some((value, next)) => Ok((Some(value), next)),
-        None => take_generally(alloc, part, entry, bit, level, bytes, at),
-    }
-}
-
-/// Takes a part's value, from the bytes where no bit gives it, and makes its entry the one afterwards.
+/// Takes a part's value, from the bytes where no bit gives it, an integer at once, and makes its entry the one afterwards.
 #[inline(always)]
 fn take_value(
     alloc: Global,
@@ -160,7 +135,10 @@ fn take_value(
             let value = copied(alloc, found.value(part, entry.view()))?;
             Ok((value, at))
         }
-        None => take_sent(alloc, part, entry, bit, level, bytes, at),
+        None => match take_quickly(part, entry, bit, level, bytes, at) {
+            Some((value, next)) => Ok((Some(value), next)),
+            None => take_generally(alloc, part, entry, bit, level, bytes, at),
+        },
     }
 }
 

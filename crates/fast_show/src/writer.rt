@@ -63,6 +63,7 @@ impl<'a, S: Signs> LineWriter<'a, S> {
     }
 
     // Begins the line of a message of the template of an identifier; of one that the set has not, there is no name.
+    #[tactic(auto, using(fast_told::proofs::SameLines::name_is, fast_told::proofs::SameLines::name_is_not))]
     #[inline(always)]
     fn open_line(&mut self, id: u32) -> Result<(), AllocError>
         ensures line { OnOk result (line_now S.form self.new.line
@@ -285,6 +286,7 @@ impl<S: Signs> Receiver for LineWriter<'_, S> {
         }
     }
 
+    #[tactic(auto, using(fast_told::proofs::Writing::has_left_out))]
     #[inline(always)]
     fn left_out(&mut self, name: &Name) -> Result<(), AllocError> {
         self.line.tell_absent(self.signs, name)?;
@@ -348,6 +350,7 @@ impl<S: Signs> Output for LineWriter<'_, S> {
 
     ghost makes = { λ set ms out. lines_of_set S.form set ms ≡ Some out };
 
+    #[tactic(auto, using(crate::proofs::Waitings::ready_in_front))]
     #[inline(always)]
     fn finished(&self) -> &[u8] {
         &self.out

@@ -35,25 +35,11 @@ use Rattle.fast_slices.specs.Calls.{Canons, Counts, Done, IsRefused, Overflows, 
 
 by_cause : (c : Cause) (mode : Mode) (set : List Resolved) (turns : ℕ) (left : Option (List ℕ)) (bytes : List ℕ) (place : Place) → RefusedBy c mode set turns left bytes place → c ≢ cause.Memory → c ≢ cause.Read → length bytes < turns
     → FirstFault mode set bytes place c × (c ≡ cause.Truncated → IsAtEnd left)
-by_cause cause.D2 mode set turns left bytes place h memory read few = (h, λ e. absurd cc)
-by_cause cause.D4 mode set turns left bytes place h memory read few = (h, λ e. absurd cc)
-by_cause cause.D5 mode set turns left bytes place h memory read few = (h, λ e. absurd cc)
-by_cause cause.D6 mode set turns left bytes place h memory read few = (h, λ e. absurd cc)
-by_cause cause.D7 mode set turns left bytes place h memory read few = (h, λ e. absurd cc)
-by_cause cause.D9 mode set turns left bytes place h memory read few = (h, λ e. absurd cc)
-by_cause cause.D12 mode set turns left bytes place h memory read few = (h, λ e. absurd cc)
-by_cause cause.BlockEnd mode set turns left bytes place h memory read few = (h, λ e. absurd cc)
-by_cause cause.R1 mode set turns left bytes place h memory read few = (h, λ e. absurd cc)
-by_cause cause.R2 mode set turns left bytes place h memory read few = (h, λ e. absurd cc)
-by_cause cause.R6 mode set turns left bytes place h memory read few = (h, λ e. absurd cc)
-by_cause cause.R7 mode set turns left bytes place h memory read few = (h, λ e. absurd cc)
-by_cause cause.R8 mode set turns left bytes place h memory read few = (h, λ e. absurd cc)
-by_cause cause.R9 mode set turns left bytes place h memory read few = (h, λ e. absurd cc)
-by_cause cause.Limit mode set turns left bytes place h memory read few = (h, λ e. absurd cc)
 by_cause cause.Truncated mode set turns left bytes place h memory read few = (h.0, λ e. h.1)
 by_cause cause.Read mode set turns left bytes place h memory read few = absurd (read refl)
 by_cause cause.Turns mode set turns left bytes place h memory read few = let many = h.1 in absurd (omega (arith, few, many))
 by_cause cause.Memory mode set turns left bytes place h memory read few = absurd (memory refl)
+by_cause c mode set turns left bytes place h memory read few = (h, λ e. absurd cc)
 
 -- the first fault of what was read is the stream's, where Truncated comes only at the stream's end
 whole : (rest input : List ℕ) (mode : Mode) (set : TemplateList) (place : Place) (c : Cause) → IsSound set → IsBytes (input ++ rest) → FirstFault mode (templates_in set) input place c → (c ≡ cause.Truncated → rest ≡ [])
@@ -75,7 +61,7 @@ refused fault mode set turns stream input rest messages sound fits parts few r m
     }
 
 -- a reader that counts no error was none that failed
-pub not_read : (ran : Result Summary CanonFault) (UsedUp : Type 0) (old new : Reader) → IsCausedBy ran UsedUp old new → old.errors ≡ 0 → new.errors ≡ 0 → (fault : Fault) → ran ≡ Err (canon.Stream fault) → fault.cause ≢ cause.Read
+not_read : (ran : Result Summary CanonFault) (UsedUp : Type 0) (old new : Reader) → IsCausedBy ran UsedUp old new → old.errors ≡ 0 → new.errors ≡ 0 → (fault : Fault) → ran ≡ Err (canon.Stream fault) → fault.cause ≢ cause.Read
 not_read ran UsedUp old new h before after fault same is =
     let caused = subst (λ (x : Result Summary CanonFault). IsCausedBy x UsedUp old new) same h in
     let e : new.errors ≡ counted old.errors = caused.0 is in absurd (omega (arith, before, after, e))
@@ -98,8 +84,8 @@ as_passes mode set turns left a b input (Err (canon.Stream fault)) few p = p
 as_passes mode set turns left a b input (Err canon.Write) few p = p
 as_passes mode set turns left a b input (Err canon.Memory) few p = p
 
--- what is known of a run over a stream in memory
-pub record HasRun (makes : Making) (mode : Mode) (set : TemplateList) (stream bytes : List ℕ) (ran : Result Summary CanonFault) : Type 0 where
+-- what is known of a run over a stream in memory, which read so much of it
+pub record HasRun (set : TemplateList) (stream : List ℕ) (ran : Result Summary CanonFault) (Passed : List ℕ → List ℕ → Type 0) : Type 0 where
   pub input : List ℕ
   pub rest : List ℕ
   pub sound : IsSound set
@@ -107,7 +93,15 @@ pub record HasRun (makes : Making) (mode : Mode) (set : TemplateList) (stream by
   pub few : length stream < 2 ^ 40
   pub parts : stream ≡ input ++ rest
   pub no_error : (fault : Fault) → ran ≡ Err (canon.Stream fault) → fault.cause ≢ cause.Read
-  pub passes : Passes makes mode (templates_in set) (2 ^ 40) (Some rest) (Some []) (Some bytes) input ran
+  pub passes : Passed input rest
+
+pub has_run : (set : TemplateList) (stream : List ℕ) (ran : Result Summary CanonFault) (UsedUp : Type 0) (old new : Reader) (Passed : List ℕ → List ℕ → Type 0) (input rest : List ℕ) → IsSound set → IsBytes stream → length stream < 2 ^ 40 → stream ≡ input ++ rest
+    → IsCausedBy ran UsedUp old new → old.errors ≡ 0 → new.errors ≡ 0 → Passed input rest → HasRun set stream ran Passed
+has_run set stream ran UsedUp old new Passed input rest sound fits few parts caused before after passes =
+    record { input = input; rest = rest; sound = sound; fits = fits; few = few; parts = parts; no_error = not_read ran UsedUp old new caused before after; passes = passes }
+
+abbrev pub HasWritten : Making → Mode → TemplateList → List ℕ → List ℕ → Result Summary CanonFault → Type 0
+HasWritten makes mode set stream bytes ran = HasRun set stream ran (λ input rest. Passes makes mode (templates_in set) (2 ^ 40) (Some rest) (Some []) (Some bytes) input ran)
 
 broken : (makes : Making) (mode : Mode) (set : TemplateList) (stream bytes old new input rest : List ℕ) → stream ≡ input ++ rest → PassesFront makes mode (templates_in set) (Some []) (Some bytes) input → length old < length bytes → new ≡ old
     → Overflows makes mode (templates_in set) stream old new
@@ -122,7 +116,7 @@ broken makes mode set stream bytes old new input rest parts p longer same =
       same = same;
     }
 
-overflows : (makes : Making) (mode : Mode) (set : TemplateList) (stream bytes old new : List ℕ) (ran : Result Summary CanonFault) → HasRun makes mode set stream bytes ran → length old < length bytes → new ≡ old
+overflows : (makes : Making) (mode : Mode) (set : TemplateList) (stream bytes old new : List ℕ) (ran : Result Summary CanonFault) → HasWritten makes mode set stream bytes ran → length old < length bytes → new ≡ old
     → Overflows makes mode (templates_in set) stream old new
 overflows makes mode set stream bytes old new (Ok summary) h longer same =
     let p = h.passes in record {
@@ -145,7 +139,7 @@ overflows makes mode set stream bytes old new (Err (canon.Stream fault)) h longe
 overflows makes mode set stream bytes old new (Err canon.Write) h longer same = broken makes mode set stream bytes old new h.input h.rest h.parts h.passes longer same
 overflows makes mode set stream bytes old new (Err canon.Memory) h longer same = broken makes mode set stream bytes old new h.input h.rest h.parts h.passes longer same
 
-pub settled : (makes : Making) (mode : Mode) (set : TemplateList) (stream bytes old new : List ℕ) (ran : Result Summary CanonFault) (r : Done) → length bytes < 2 ^ 64 → HasRun makes mode set stream bytes ran → Settles ran bytes old new r
+pub settled : (makes : Making) (mode : Mode) (set : TemplateList) (stream bytes old new : List ℕ) (ran : Result Summary CanonFault) (r : Done) → length bytes < 2 ^ 64 → HasWritten makes mode set stream bytes ran → Settles ran bytes old new r
     → Writes makes mode (templates_in set) stream old new r
 settled makes mode set stream bytes old new ran (Ok summary) room h s =
     let p = subst (λ (x : Result Summary CanonFault). Passes makes mode (templates_in set) (2 ^ 40) (Some h.rest) (Some []) (Some bytes) h.input x) s.0 h.passes in
@@ -168,29 +162,16 @@ settled makes mode set stream bytes old new ran (Err (refusal.Stream fault writt
       put = s.3;
       count = s.2;
     }
-settled makes mode set stream bytes old new ran (Err (refusal.Templates fault)) room h s = absurd s
 settled makes mode set stream bytes old new ran (Err refusal.Room) room h s = overflows makes mode set stream bytes old new ran h s.0 s.1
 settled makes mode set stream bytes old new ran (Err refusal.Memory) room h s = s
-settled makes mode set stream bytes old new ran (Err refusal.Mode) room h s = absurd s
-settled makes mode set stream bytes old new ran (Err refusal.TooLong) room h s = absurd s
+settled makes mode set stream bytes old new ran r room h s = absurd s
 
 -- ---- what is counted
 
--- what is known of a check of a stream in memory
-pub record HasChecked (mode : Mode) (set : TemplateList) (stream : List ℕ) (ran : Result Summary CanonFault) : Type 0 where
-  pub input : List ℕ
-  pub rest : List ℕ
-  pub sound : IsSound set
-  pub fits : IsBytes stream
-  pub few : length stream < 2 ^ 40
-  pub parts : stream ≡ input ++ rest
-  pub no_error : (fault : Fault) → ran ≡ Err (canon.Stream fault) → fault.cause ≢ cause.Read
-  pub checks : Checks mode (templates_in set) (2 ^ 40) (Some rest) input ran
-
-pub counted_all : (mode : Mode) (set : TemplateList) (stream old new : List ℕ) (ran : Result Summary CanonFault) (r : Done) → length old ≡ 0 → HasChecked mode set stream ran → Settles ran [] old new r
+pub counted_all : (mode : Mode) (set : TemplateList) (stream old new : List ℕ) (ran : Result Summary CanonFault) (r : Done) → length old ≡ 0 → HasRun set stream ran (λ input rest. Checks mode (templates_in set) (2 ^ 40) (Some rest) input ran) → Settles ran [] old new r
     → Counts mode (templates_in set) stream r
 counted_all mode set stream old new ran (Ok summary) none h s =
-    let p = subst (λ (x : Result Summary CanonFault). Checks mode (templates_in set) (2 ^ 40) (Some h.rest) h.input x) s.0 h.checks in
+    let p = subst (λ (x : Result Summary CanonFault). Checks mode (templates_in set) (2 ^ 40) (Some h.rest) h.input x) s.0 h.passes in
     let all : stream ≡ h.input = h.parts ∙ ap (λ (xs : List ℕ). h.input ++ xs) p.ends.ended ∙ append-nil h.input in record {
       messages = p.messages;
       bytes = p.out;
@@ -200,13 +181,11 @@ counted_all mode set stream old new ran (Ok summary) none h s =
       no_longer = subst (λ (xs : List ℕ). length p.out ≤ length xs) (sym all) p.no_longer;
     }
 counted_all mode set stream old new ran (Err (refusal.Stream fault written)) none h s =
-    let p = subst (λ (x : Result Summary CanonFault). Checks mode (templates_in set) (2 ^ 40) (Some h.rest) h.input x) s.0 h.checks in
+    let p = subst (λ (x : Result Summary CanonFault). Checks mode (templates_in set) (2 ^ 40) (Some h.rest) h.input x) s.0 h.passes in
     ((p.messages, refused fault mode set (2 ^ 40) stream h.input h.rest p.messages h.sound h.fits h.parts h.few p.refuses s.1 (h.no_error fault s.0)), s.2)
-counted_all mode set stream old new ran (Err (refusal.Templates fault)) none h s = absurd s
 counted_all mode set stream old new ran (Err refusal.Room) none h s = let more = s.0 in absurd (omega (arith, none, more))
 counted_all mode set stream old new ran (Err refusal.Memory) none h s = tt
-counted_all mode set stream old new ran (Err refusal.Mode) none h s = absurd s
-counted_all mode set stream old new ran (Err refusal.TooLong) none h s = absurd s
+counted_all mode set stream old new ran r none h s = absurd s
 
 -- ---- a room of as many bytes as the stream
 
@@ -218,13 +197,8 @@ no_room text word stream (inr (inr (some, few, inl e))) = absurd cc
 no_room text word stream (inr (inr (some, few, inr (fault, e, machine, loads)))) = absurd cc
 
 pub room_enough : (text : List ℕ) (word : ℕ) (stream old new : List ℕ) (r : Done) → Canons text word stream old new r → length stream ≤ length old → (answer_of r).status ≢ 3
-room_enough text word stream old new (Ok summary) h enough e = absurd cc
-room_enough text word stream old new (Err (refusal.Stream fault written)) h enough e = absurd cc
-room_enough text word stream old new (Err (refusal.Templates fault)) h enough e = absurd cc
-room_enough text word stream old new (Err refusal.Memory) h enough e = absurd cc
-room_enough text word stream old new (Err refusal.Mode) h enough e = absurd cc
-room_enough text word stream old new (Err refusal.TooLong) h enough e = absurd cc
 room_enough text word stream old new (Err refusal.Room) (inl h) enough e = absurd (no_room text word stream h.0)
 room_enough text word stream old new (Err refusal.Room) (inr (set, mode, given, over)) enough e =
     let less = no_longer mode set given.sound stream over.bytes over.messages over.carried over.made in
     let longer = over.longer in absurd (omega (arith, less, longer, enough))
+room_enough text word stream old new r h enough e = absurd cc

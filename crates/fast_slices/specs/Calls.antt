@@ -62,11 +62,9 @@ abbrev pub Settles : Result Summary CanonFault → List ℕ → List ℕ → Lis
 Settles ran bytes old new (Ok summary) = (ran ≡ Ok summary) × Puts bytes old new
 Settles ran bytes old new (Err (refusal.Stream fault written)) =
     (ran ≡ Err (canon.Stream fault)) × (fault.cause ≢ cause.Memory) × (written ≡ length bytes) × Puts bytes old new
-Settles ran bytes old new (Err (refusal.Templates fault)) = ⊥
 Settles ran bytes old new (Err refusal.Room) = (length old < length bytes) × (new ≡ old)
 Settles ran bytes old new (Err refusal.Memory) = new ≡ old
-Settles ran bytes old new (Err refusal.Mode) = ⊥
-Settles ran bytes old new (Err refusal.TooLong) = ⊥
+Settles ran bytes old new r = ⊥
 
 -- ---- a stream
 
@@ -107,11 +105,9 @@ pub record Overflows (makes : Making) (mode : Mode) (set : List Resolved) (strea
 abbrev pub Writes : Making → Mode → List Resolved → List ℕ → List ℕ → List ℕ → Done → Type 0
 Writes makes mode set stream old new (Ok summary) = WritesAll makes mode set stream old new summary
 Writes makes mode set stream old new (Err (refusal.Stream fault written)) = WritesBefore makes mode set stream old new fault written
-Writes makes mode set stream old new (Err (refusal.Templates fault)) = ⊥
 Writes makes mode set stream old new (Err refusal.Room) = Overflows makes mode set stream old new
 Writes makes mode set stream old new (Err refusal.Memory) = new ≡ old
-Writes makes mode set stream old new (Err refusal.Mode) = ⊥
-Writes makes mode set stream old new (Err refusal.TooLong) = ⊥
+Writes makes mode set stream old new r = ⊥
 
 -- The stream carries the messages to its end; the bytes that are counted are their canonical ones, no more than its own.
 pub record CountsAll (mode : Mode) (set : List Resolved) (stream : List ℕ) (summary : Summary) : Type 0 where
@@ -126,11 +122,8 @@ pub record CountsAll (mode : Mode) (set : List Resolved) (stream : List ℕ) (su
 abbrev pub Counts : Mode → List Resolved → List ℕ → Done → Type 0
 Counts mode set stream (Ok summary) = CountsAll mode set stream summary
 Counts mode set stream (Err (refusal.Stream fault written)) = ((messages : List Content) × IsRefused mode set stream messages fault) × (written ≡ 0)
-Counts mode set stream (Err (refusal.Templates fault)) = ⊥
-Counts mode set stream (Err refusal.Room) = ⊥
 Counts mode set stream (Err refusal.Memory) = Unit {0}
-Counts mode set stream (Err refusal.Mode) = ⊥
-Counts mode set stream (Err refusal.TooLong) = ⊥
+Counts mode set stream r = ⊥
 
 -- ---- a call
 

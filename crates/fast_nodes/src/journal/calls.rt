@@ -1,16 +1,12 @@
 //! The calls of a journal.
 
-ghost use Rattle.std.specs.Prelude.{◌≡◌, Option, [], IsTrue, IfOk, OnOk, OnErr};
+ghost use Rattle.std.specs.Prelude.{◌≡◌, Option, [], IsTrue, MatchResult};
 ghost use Rattle.std.specs.FinMap as finite;
 ghost use Rattle.std.specs.Option.{option_copied};
 ghost use Rattle.fast_value.specs.declared.scalar.Scalar.{Scalar as ScalarOf};
 ghost use Rattle.fast_dictionary.specs.Dictionary.{Dictionary, entry_at};
-ghost use Rattle.fast_field.specs.Best.{IsBest};
-ghost use Rattle.fast_field.specs.Parts.{IsFieldPart};
-ghost use Rattle.fast_stream.specs.Bodies.{PartBy, written};
-ghost use Rattle.fast_nodes.specs.Added.{Answers, Changed, GoesOn};
-ghost use Rattle.fast_walk.specs.Told.{HoldScalars};
-ghost use Rattle.fast_nodes.specs.FirstRefusal.{part_judged};
+ghost use Rattle.fast_stream.specs.Bodies.{written};
+ghost use Rattle.fast_nodes.specs.Added.{CanTryPart, Changed, IsValuePut, NoValuePut, Puts, books_of, of_part};
 ghost use Rattle.fast_writer.specs.Levels.{level_of};
 
 use crate::fault::EncodeFault;
@@ -34,17 +30,12 @@ pub fn put_value<E: Entries>(
     value: Option<&Scalar>,
     level: &mut Segment,
 ) -> Result<Entry, EncodeFault>
-    requires part { IsFieldPart part.now }
-    requires served { IsTrue (E.serves entries.now part.now.key) }
-    requires holds { HoldScalars (E.contents entries.now) }
-    ensures answer { Answers (λ s x t. PartBy IsBest part.now s x (option_copied value.entry) t)
-        (λ s. part_judged part.now s (option_copied value.entry)) (E.contents entries.old)
-        (level_of level.old) (E.contents entries.new) (level_of level.new) result }
-    ensures before { IfOk result (λ e. e ≡ entry_at (E.contents entries.old) part.now.key) }
-    ensures after { OnOk result (E.contents entries.new
-        ≡ written part.now (E.contents entries.old) (option_copied value.entry)) }
-    ensures holds { OnOk result (HoldScalars (E.contents entries.new)) }
-    ensures unchanged { OnErr result (E.contents entries.new ≡ E.contents entries.old) }
+    requires { CanTryPart (E.serves entries.now) (E.contents entries.now) part.now }
+    ensures put { MatchResult result
+        (λ before. IsValuePut part.now (option_copied value.entry) (E.contents entries.old)
+        (level_of level.old) before (E.contents entries.new) (level_of level.new))
+        (λ f. NoValuePut part.now (option_copied value.entry) (E.contents entries.old)
+        (level_of level.old) (E.contents entries.new) f) }
     ensures same_keys { E.serves entries.new ≡ E.serves entries.old }
 {
     match entries.entry_mut(&part.key) {
@@ -121,15 +112,10 @@ impl<'a, E: Entries> Journal<'a, E> {
         value: Option<&Scalar>,
         level: &mut Segment,
     ) -> Result<(), EncodeFault>
-        requires part { IsFieldPart part.now }
-        requires served { IsTrue (E.serves self.now.entries part.now.key) }
-        requires holds { HoldScalars (E.contents self.now.entries) }
-        ensures answer { Answers (λ s x t. PartBy IsBest part.now s x (option_copied value.entry) t)
-            (λ s. part_judged part.now s (option_copied value.entry)) (E.contents self.old.entries)
-            (level_of level.old) (E.contents self.new.entries) (level_of level.new) result }
-        ensures goes { GoesOn (E.serves self.old.entries) self.old.changes.items
-            (E.contents self.old.entries) (E.serves self.new.entries) self.new.changes.items
-            (E.contents self.new.entries) }
+        requires { CanTryPart (E.serves self.now.entries) (E.contents self.now.entries) part.now }
+        ensures { Puts (of_part part.now (option_copied value.entry))
+            (books_of E.Entries self.old) (level_of level.old)
+            (books_of E.Entries self.new) (level_of level.new) result }
     {
         if self.changes.reserve(1).is_err() {
             return Err(no_memory());

@@ -1,16 +1,11 @@
 use Rattle.std.proofs.Common.{◌++◌, ◌∷◌, [], sym, ap, ◌∙◌, get_or, take}
 use Rattle.std.proofs.lemmas.List.{append-nil, append_assoc}
 use Rattle.hex.specs.Hex.{encode_lower}
-use Rattle.fast_lines.proofs.Written.{encode_none, encode_one, extends_more, extends_by, writes_err}
+use Rattle.fast_lines.proofs.Written.{encode_none, encode_one}
 use Rattle.fast_lines.proofs.bytes.push_hex.Goals as goal
 
 pub loop-byte-init : goal.loop-byte-init
 loop-byte-init c = sym (ap (λ l. c.args.out.now.items ++ l) encode_none ∙ append-nil c.args.out.now.items)
-
-pub returns-in_err-push_hex_pair : goal.returns-in_err-push_hex_pair
-returns-in_err-push_hex_pair c =
-    let more = extends_more _ _ _ (extends_by _ _ _ c.loop-byte.invariant) (c.in_err-push_hex_pair.ensures) in
-    writes_err _ _ _ c.from_residual.result c.from_residual.ensures.0 more
 
 pub loop-byte-preserved : goal.loop-byte-preserved
 loop-byte-preserved c =

@@ -1,12 +1,12 @@
-use Rattle.std.proofs.Common.{rules, arith, ◌≡◌, ◌<◌, [], ◌++◌, Err, length, get_or, map, sym, subst, ap, ◌∙◌}
+use Rattle.std.proofs.Common.{arith, ◌≡◌, [], ◌++◌, Err, map, sym, ap, ◌∙◌}
 use Rattle.std.specs.Prelude.{codes}
 use Rattle.std.proofs.lemmas.Result.{err_from_is_err_and}
 use Rattle.fast_template.specs.Resolved.{instruction_of, list_of}
 use Rattle.fast_stream.specs.Nodes.{item_of, items_in, elements_of, sequence_elements}
-use Rattle.fast_lines.specs.Lines.{braced, label, members_text, node_text, sequence_text}
-use Rattle.fast_lines.specs.Written.{Adds, Shows}
-use Rattle.fast_lines.proofs.Written.{adds_between, extends_by, extends_more, extends_same, leads_start, shows_behind}
-use Rattle.fast_lines.proofs.Nested.{elements_more, elements_stop, item_of-sequence, lengths_differ, members_more, members_stop, node_text-sequence, shows_bracketed_err}
+use Rattle.fast_lines.specs.Lines.{label, members_text, node_text, sequence_text}
+use Rattle.fast_lines.specs.declared.lines.ShowFault.TheVariants.{Memory}
+use Rattle.fast_lines.proofs.Written.{adds_between, extends_same, shows_behind}
+use Rattle.fast_lines.proofs.Nested.{elements_end, elements_next, elements_stop, item_of-sequence, lengths_differ, members_end, members_next, members_stop, next_of, node_text-sequence, shows_bracketed_err}
 use Rattle.fast_lines.proofs.lines.+showing.Goals as goal
 
 pub show_members-returns-then-nodes-members : goal.show_members-returns-then-nodes-members
@@ -15,55 +15,40 @@ show_members-returns-then-nodes-members g t c = (
   extends_same c.args.out.now.items,
 )
 
-pub show_members-loop-index-init : goal.show_members-loop-index-init
-show_members-loop-index-init g t c = leads_start _ _
-
 pub show_members-loop-index-preserved : goal.show_members-loop-index-preserved
 show_members-loop-index-preserved g t c =
-    let i = c.loop-index.index in
-    let f = c.index-members-index.result in
-    let n = c.index-nodes-index.result in
-    let lf : i < length c.args.members.now = omega arith in
-    let ln : i < length c.args.nodes.now = omega arith in
-    let ff : get_or c.args.members.now i f ≡ f = search rules in
-    let nn : get_or c.args.nodes.now i n ≡ n = search rules in
-    rw (c.between-lead.ensures) (members_more g.S.Escape.form _ c.loop-index.lead.now c.args.members.now c.args.nodes.now i f n _ _ _ lf ln ff nn c.loop-index.invariant c.in_ok-show_member.ensures)
+    let flat = next_of c.args.members.now c.loop-index.index c.index-members-index.result (omega arith) c.index-members-index.is in
+    let node = next_of c.args.nodes.now c.loop-index.index c.index-nodes-index.result (omega arith) c.index-nodes-index.is in
+    rw (c.between-lead.ensures) (members_next c.loop-index.invariant flat node c.in_ok-show_member.ensures)
 
 pub show_members-returns-in_err-show_member : goal.show_members-returns-in_err-show_member
 show_members-returns-in_err-show_member g t c =
-    let i = c.loop-index.index in
-    let f = c.index-members-index.result in
-    let n = c.index-nodes-index.result in
-    let lf : i < length c.args.members.now = omega arith in
-    let ln : i < length c.args.nodes.now = omega arith in
-    let ff : get_or c.args.members.now i f ≡ f = search rules in
-    let nn : get_or c.args.nodes.now i n ≡ n = search rules in
+    let flat = next_of c.args.members.now c.loop-index.index c.index-members-index.result (omega arith) c.index-members-index.is in
+    let node = next_of c.args.nodes.now c.loop-index.index c.index-nodes-index.result (omega arith) c.index-nodes-index.is in
     let p = err_from_is_err_and c.from_residual.result c.from_residual.ensures.1 in
-    members_stop g.S.Escape.form _ c.loop-index.lead.now c.args.members.now c.args.nodes.now i f n _ _ _ c.in_err-show_member.field-0.0 c.from_residual.result (p.1 ∙ ap Err p.2) lf ln ff nn c.loop-index.invariant c.in_err-show_member.ensures
+    rw (p.1 ∙ ap Err p.2) (members_stop c.loop-index.invariant flat node c.show_member.new.out.items c.in_err-show_member.field-0.0 c.in_err-show_member.ensures)
 
 pub show_elements-returns-in_err-push : goal.show_elements-returns-in_err-push
 show_elements-returns-in_err-push g t c =
     let p = err_from_is_err_and c.from_residual.result c.from_residual.ensures.1 in
-    rw (p.1 ∙ ap Err p.2) (extends_more _ _ _ (extends_by _ _ _ c.loop-nodes.invariant.appended) (c.in_err-push.ensures))
+    rw (p.1 ∙ ap Err p.2) (c.loop-nodes.invariant.on (Err Memory) c.push.new.out.items c.in_err-push.ensures)
 
 pub show_elements-loop-nodes-preserved : goal.show_elements-loop-nodes-preserved
 show_elements-loop-nodes-preserved g t c =
-    let i = c.loop-nodes.nodes-index in
-    let v = c.nodes-item.result in
-    let le : i < length c.args.elements.now = omega arith in
-    let vv : get_or c.args.elements.now i v ≡ v = search rules in
-    let shown : Adds (braced (members_text g.S.Escape.form [] (list_of c.args.members.now) (items_in v.items))) c.push.new.out.items c.show_braced.new.out.items = subst (λ ns. Adds (braced (members_text g.S.Escape.form [] (list_of c.args.members.now) (items_in ns))) c.push.new.out.items c.show_braced.new.out.items) c.deref.ensures.value c.in_ok-show_braced.ensures in
-    rw (c.between-lead.ensures) (elements_more g.S.Escape.form _ (λ ns. members_text g.S.Escape.form [] (list_of c.args.members.now) ns) c.loop-nodes.lead.now c.args.elements.now i v _ _ _ _ le vv c.loop-nodes.invariant c.in_ok-push.ensures shown)
+    let here = next_of c.args.elements.now c.loop-nodes.nodes-index c.nodes-item.result (omega arith) c.nodes-item.is in
+    rw (c.between-lead.ensures) (elements_next c.loop-nodes.invariant here c.deref.ensures.value c.in_ok-push.ensures c.in_ok-show_braced.ensures)
 
 pub show_elements-returns-in_err-show_braced : goal.show_elements-returns-in_err-show_braced
 show_elements-returns-in_err-show_braced g t c =
-    let i = c.loop-nodes.nodes-index in
-    let v = c.nodes-item.result in
-    let le : i < length c.args.elements.now = omega arith in
-    let vv : get_or c.args.elements.now i v ≡ v = search rules in
+    let here = next_of c.args.elements.now c.loop-nodes.nodes-index c.nodes-item.result (omega arith) c.nodes-item.is in
     let p = err_from_is_err_and c.from_residual-in_err-show_braced.result c.from_residual-in_err-show_braced.ensures.1 in
-    let shown : Shows (braced (members_text g.S.Escape.form [] (list_of c.args.members.now) (items_in v.items))) (Err c.in_err-show_braced.field-0.0) c.push.new.out.items c.show_braced.new.out.items = subst (λ ns. Shows (braced (members_text g.S.Escape.form [] (list_of c.args.members.now) (items_in ns))) (Err c.in_err-show_braced.field-0.0) c.push.new.out.items c.show_braced.new.out.items) c.deref.ensures.value c.in_err-show_braced.ensures in
-    elements_stop g.S.Escape.form _ (λ ns. members_text g.S.Escape.form [] (list_of c.args.members.now) ns) c.loop-nodes.lead.now c.args.elements.now i v _ _ _ _ c.in_err-show_braced.field-0.0 c.from_residual-in_err-show_braced.result (p.1 ∙ ap Err p.2) le vv c.loop-nodes.invariant c.in_ok-push.ensures shown
+    rw (p.1 ∙ ap Err p.2) (elements_stop c.loop-nodes.invariant here c.deref.ensures.value c.in_ok-push.ensures c.show_braced.new.out.items c.in_err-show_braced.field-0.0 c.in_err-show_braced.ensures)
+
+pub show_members-returns : goal.show_members-returns
+show_members-returns g t c = members_end c.loop-index.invariant (omega arith) (omega arith)
+
+pub show_elements-returns : goal.show_elements-returns
+show_elements-returns g t c = elements_end c.loop-nodes.invariant (omega arith)
 
 pub show_member-returns-in-Sequence : goal.show_member-returns-in-Sequence
 show_member-returns-in-Sequence g t c =

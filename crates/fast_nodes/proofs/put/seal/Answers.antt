@@ -1,8 +1,11 @@
 use Rattle.std.proofs.Common.{inl, inr, sym, ◌∙◌}
 use Rattle.fast_nodes.proofs.put.seal.Goals as goal
 
-pub returns-in-Err-TooLong-clause-refused : goal.returns-in-Err-TooLong-clause-refused
-returns-in-Err-TooLong-clause-refused c = elim c.in-Err-TooLong.ensures.refused [
-  | inl memory ↦ absurd (let both = sym c.in-Err-TooLong.field-0-is ∙ memory in cc)
-  | inr many ↦ inr (c.no_room.ensures, many.1)
-]
+pub returns-in-Err-TooLong : goal.returns-in-Err-TooLong
+returns-in-Err-TooLong c = record {
+  why = elim c.in-Err-TooLong.ensures.refused [
+    | inl memory ↦ absurd (let both = sym c.in-Err-TooLong.field-0-is ∙ memory in cc)
+    | inr many ↦ inr (c.no_room.ensures, many.1)
+  ];
+  unchanged = c.in-Err-TooLong.ensures.unchanged;
+}

@@ -4,7 +4,8 @@ use Rattle.std.specs.Global.{Vec}
 use Rattle.std.proofs.lemmas.List.{drop_more}
 use Rattle.fast_stream.specs.declared.message.Node.{Node}
 use Rattle.fast_nodes.specs.FirstRefusal.{has_large_in}
-use Rattle.fast_nodes.proofs.Sizes.{seen, of_sequence, too_many, none_left, element_refused, all_left}
+use Rattle.fast_nodes.proofs.Sizes.{of_sequence, too_many, none_left, element_refused, all_left}
+use Rattle.fast_nodes.proofs.Views.{seen}
 use Rattle.fast_nodes.proofs.size.+size.Goals as goal
 
 pub left_behind-returns-then-len-gt-SIZE_LIMIT : goal.left_behind-returns-then-len-gt-SIZE_LIMIT

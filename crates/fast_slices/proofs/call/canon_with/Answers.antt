@@ -3,7 +3,7 @@ use Rattle.fast_template.specs.TemplateSets.{templates_in}
 use Rattle.fast_wire.proofs.Calls.{all_bytes}
 use Rattle.fast_writer.specs.Canonical.{IsCanonical}
 use Rattle.fast_pass.specs.Passed.{Passes}
-use Rattle.fast_slices.proofs.Streams.{as_passes, not_read, settled}
+use Rattle.fast_slices.proofs.Streams.{as_passes, has_run, settled}
 use Rattle.fast_slices.proofs.call.canon_with.Goals as goal
 
 pub returns : goal.returns
@@ -22,13 +22,6 @@ returns c =
     let fewer : length a.1 < 2 ^ 40 = omega (arith, size, sum, few) in
     let all = as_passes mode (templates_in set) (2 ^ 40) (Some rest) (Some c.new-kept.result.bytes.items) (Some wrote) a.1 ran fewer a.4 in
     let begun = subst (λ (xs : List ℕ). Passes IsCanonical mode (templates_in set) (2 ^ 40) (Some rest) (Some xs) (Some wrote) a.1 ran) c.new-kept.ensures all in
-    settled IsCanonical mode set stream c.deref.result.now c.args.room.now c.settle.new.room ran c.settle.result c.deref.type_inv.0 (record {
-      input = a.1;
-      rest = rest;
-      sound = c.requires.sound;
-      fits = all_bytes stream (λ k. omega (arith, c.type_inv.stream k));
-      few = few;
-      parts = parts;
-      no_error = not_read ran _ _ _ a.5 refl refl;
-      passes = subst (λ (xs : List ℕ). Passes IsCanonical mode (templates_in set) (2 ^ 40) (Some rest) (Some []) (Some xs) a.1 ran) (sym c.deref.ensures.value) begun;
-    }) c.settle.ensures
+    settled IsCanonical mode set stream c.deref.result.now c.args.room.now c.settle.new.room ran c.settle.result c.deref.type_inv.0
+    (has_run set stream ran _ _ _ _ a.1 rest c.requires.sound (all_bytes stream (λ k. omega (arith, c.type_inv.stream k))) few parts a.5 refl refl
+    (subst (λ (xs : List ℕ). Passes IsCanonical mode (templates_in set) (2 ^ 40) (Some rest) (Some []) (Some xs) a.1 ran) (sym c.deref.ensures.value) begun)) c.settle.ensures

@@ -1,13 +1,10 @@
 use Rattle.std.proofs.Common.{rules, ◌≤◌, length, decimal, arith}
-use Rattle.std.proofs.lemmas.Fmt.{decimal_digit, length-decimal-le}
+use Rattle.std.proofs.lemmas.Fmt.{length-decimal-le}
 use Rattle.fast_lines.proofs.Pieces.{laid_more}
 use Rattle.fast_lines.proofs.piece.Piece.lay_unsigned.Goals as goal
 
 pub write_digits-requires : goal.write_digits-requires
 write_digits-requires c = search (rules, length-decimal-le 20)
-
-pub returns-then-number-lt10-clause-laid : goal.returns-then-number-lt10-clause-laid
-returns-then-number-lt10-clause-laid c = rw (decimal_digit c.args.number (omega (arith, c.if-number-lt10.true))) c.lay_byte.ensures.laid
 
 pub returns-else-number-lt10-clause-place : goal.returns-else-number-lt10-clause-place
 returns-else-number-lt10-clause-place c =

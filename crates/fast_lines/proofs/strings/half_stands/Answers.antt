@@ -1,7 +1,0 @@
-use Rattle.std.proofs.Common.{arith}
-use Rattle.std.proofs.lemmas.Bool.{eqb-true}
-use Rattle.fast_lines.proofs.Lanes.{lanes_plain}
-use Rattle.fast_lines.proofs.strings.half_stands.Goals as goal
-
-pub returns : goal.returns
-returns c = λ is. lanes_plain c.args.text.now c.args.at 8 c.requires (omega arith) c.if-below-ne0.false c.if-above-ne0.false c.if-quotes-ne0.false (eqb-true _ _ is)

@@ -1,0 +1,45 @@
+-- What instructions and nodes with others inside are to contracts.
+use Rattle.std.proofs.Common.{◌≡◌, ℕ, List, [], ◌∷◌, Some, None, length, map, ap, ◌∙◌, refl, arith}
+use Rattle.std.specs.Global.{Vec}
+use Rattle.fast_value.specs.declared.kind.Presence.{Presence}
+use Rattle.fast_template.specs.declared.resolved.FieldPart.{FieldPart}
+use Rattle.fast_template.specs.declared.resolved.Flat.{Flat, fold_out-Flat}
+use Rattle.fast_template.specs.declared.resolved.Flat.TheVariants.{Parts, outs-Parts, Group, outs-Group, Sequence, outs-Sequence}
+use Rattle.fast_template.specs.Resolved.{Instruction, flat_step, instruction_of, list_of, field_in_parts, group_of, sequence_of}
+use Rattle.fast_value.specs.declared.scalar.Scalar.{Scalar}
+use Rattle.fast_stream.specs.declared.message.Node.{Node, fold_out-Node}
+use Rattle.fast_stream.specs.declared.message.Node.TheVariants.{outs-Absent, outs-Value}
+use Rattle.fast_stream.specs.declared.message.Node.TheVariants as nodes
+use Rattle.fast_stream.specs.Nodes.{Item, single, Elements, element_count, node_step, group_items, sequence_elements, elements_of, item_of, items_in}
+use Rattle.fast_walk.proofs.Views.{item_of-group, item_of-sequence}
+
+abbrev pub seen : List (Vec Node) → Elements
+seen es = elements_of (map (λ e. items_in e.items) es)
+
+pub count_seen : (es : List (Vec Node)) → element_count (seen es) ≡ length es
+count_seen [] = refl
+count_seen (e ∷ es) = let h = count_seen es in omega (arith, h)
+
+pub is_group : {flat : Flat} {name : List ℕ} {number : ℕ} {presence : Presence} (members : Vec Flat) → flat ≡ Group name number presence members → instruction_of flat ≡ group_of name number presence (list_of members.items)
+is_group {name} {number} {presence} members is = ap instruction_of is ∙ fold_out-Flat Instruction flat_step (Group name number presence members) ∙ rw (outs-Group name number presence members) refl
+
+pub is_sequence : {flat : Flat} {name : List ℕ} {number : ℕ} {presence : Presence} {part : FieldPart} (members : Vec Flat) → flat ≡ Sequence name number presence part members
+    → instruction_of flat ≡ sequence_of name number presence part (list_of members.items)
+is_sequence {name} {number} {presence} {part} members is =
+    ap instruction_of is ∙ fold_out-Flat Instruction flat_step (Sequence name number presence part members) ∙ rw (outs-Sequence name number presence part members) refl
+
+pub is_parts : {flat : Flat} {name : List ℕ} {number : ℕ} {presence : Presence} {exponent mantissa : FieldPart} → flat ≡ Parts name number presence exponent mantissa
+    → instruction_of flat ≡ field_in_parts name number presence exponent mantissa
+is_parts {name} {number} {presence} {exponent} {mantissa} is = ap instruction_of is ∙ fold_out-Flat Instruction flat_step (Parts name number presence exponent mantissa) ∙ rw (outs-Parts name number presence exponent mantissa) refl
+
+pub is_items : {node : Node} (ns : Vec Node) → node ≡ nodes.Group ns → item_of node ≡ group_items (items_in ns.items)
+is_items ns is = ap item_of is ∙ item_of-group ns
+
+pub is_elements : {node : Node} (es : Vec (Vec Node)) → node ≡ nodes.Sequence es → item_of node ≡ sequence_elements (seen es.items)
+is_elements es is = ap item_of is ∙ item_of-sequence es
+
+pub is_absent : {node : Node} → node ≡ nodes.Absent → item_of node ≡ single None
+is_absent is = ap item_of is ∙ fold_out-Node Item node_step nodes.Absent ∙ rw (outs-Absent) refl
+
+pub is_value : {node : Node} {v : Scalar} → node ≡ nodes.Value v → item_of node ≡ single (Some v)
+is_value {v = v} is = ap item_of is ∙ fold_out-Node Item node_step (nodes.Value v) ∙ rw (outs-Value v) refl
