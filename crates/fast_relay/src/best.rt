@@ -66,9 +66,8 @@ pub fn best_of(judged: Judged, bytes: &[u8], at: usize) -> Option<Best>
     }
 }
 
-/// Judges what is read under bit 1 and is NULL, or an ASCII string that was sent as a difference or a tail, be it with more
-/// than it had to, and makes the entry the one afterwards; nothing is written. None: nothing has changed, and the general way
-/// tells.
+/// Judges what is read under bit 1 and is NULL, or an ASCII string that was sent as a difference, be it with more than it
+/// had to, and makes the entry the one afterwards; nothing is written. None: nothing has changed, and the general way tells.
 #[inline(always)]
 pub fn judge_other(
     alloc: Global,

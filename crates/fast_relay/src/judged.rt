@@ -1,6 +1,6 @@
 //! Fields that are judged as they stand: whether their bytes are the best form of the value, or bit 0 is. The entry goes on,
-//! and nothing is written. Here are integers and constants, and the way to the others; what is not judged goes by the calls
-//! that write.
+//! and nothing is written. Here are integers and constants, and the way to the others; what is not judged here goes by
+//! `judge_other`, or the general way.
 
 ghost use Rattle.std.specs.Prelude.{◌≡◌, ◌≤◌, ◌+◌, Some, true, false, not, length, drop, slice_range, IfSome, ⊤};
 ghost use Rattle.fast_value.specs.Scalar.{of_integer};

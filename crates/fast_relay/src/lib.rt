@@ -1,18 +1,17 @@
-//! Fields that are read from one stream and written to another at once, with no value in between.
+//! Fields that are read at once, with no value in between, and what their best form is. Nothing is written here.
 //!
 //! These are most fields of a feed. [`pass_quickly`] takes what bit 0 gives. [`judge_field`] reads a field under bit 1, makes
 //! the entry the one afterwards, and says whether the field's bytes are its best form as they stand, or bit 0 is
-//! ([`Judged`]); it writes nothing. Two calls read a field in the same way and append its
-//! best form to a [`Run`]: [`relay_null`] NULL of any type, and answers what became of it ([`Relayed`]), and [`respell_text`]
-//! an ASCII string that was sent as a difference or a tail and says more than it had to. [`read_short_length`] reads a length
-//! in one byte that no entry keeps. Where nothing has changed the field goes the general way of `fast_field`: `find_field` and
-//! `write_found`.
+//! ([`Judged`]). [`judge_other`] does so with NULL of any type, and with an ASCII string that was sent as a difference, and
+//! says how it is best spelled ([`Best`]; [`best_of`] is the same of what was judged). [`read_short_length`] reads a length
+//! in one byte that no entry keeps. Where nothing has changed the field goes the general way of `fast_field`: `find_field`
+//! and `write_found`.
 //!
-//! For those who make messages or tell them [`take_number`] reads an integer and writes nothing, [`take_kept`] a value that
-//! its entry keeps, and [`take_aside`] an ASCII string that it does not keep.
+//! For those who make messages or tell them [`take_number`] reads an integer, [`take_kept`] a value that its entry keeps,
+//! and [`take_aside`] an ASCII string that it does not keep.
 //!
-//! What a field's forms are is defined in `fast_field`; `specs/Relayed` says what it is to have relayed one, `specs/Judged` to
-//! have judged one.
+//! What a field's forms are is defined in `fast_field`; `specs/Relayed` says what it is to have read one, and what its best
+//! form is, `specs/Judged` to have judged one as it stands, `specs/Best` otherwise.
 #![tactic(auto)]
 
 mod best;
