@@ -96,8 +96,8 @@ pub record Break (makes : Making) (mode : Mode) (set : List Resolved) (taken_old
   pub written : Appends taken_old taken_new more
 
 -- and from a machine that goes on, wherever its stream is
-abbrev pub Breaks : {O E : Type 0} {receiver : Receiving O} {entries : Ghosts E} → (O → List ℕ) → Making → Machine O E receiver entries → Machine O E receiver entries → Option (List ℕ) → Option (List ℕ) → Option (List ℕ) → List ℕ → Type 0
-Breaks waiting makes old new left taken_old taken_new got =
+abbrev pub BreaksOff : {O E : Type 0} {receiver : Receiving O} {entries : Ghosts E} → (O → List ℕ) → Making → Machine O E receiver entries → Machine O E receiver entries → Option (List ℕ) → Option (List ℕ) → Option (List ℕ) → List ℕ → Type 0
+BreaksOff waiting makes old new left taken_old taken_new got =
     (turns : ℕ) (way : Way) → Relays waiting makes reached.Open old turns left way → Break makes (mode_of new) (templates_in new.traversal.set.now) taken_old taken_new way got
 
 -- ---- what is handed on

@@ -8,7 +8,7 @@ ghost use Rattle.fast_walk.specs.Received.{handed_on};
 ghost use Rattle.fast_decoder.specs.Inputs.{IsCaused, Reads, reader_by};
 ghost use Rattle.fast_decoder.specs.declared.input.Reached.TheVariants as reached;
 ghost use Rattle.fast_pass.specs.Passed.{FlushesOnce, PassesBy, errors_after};
-ghost use Rattle.fast_pass.specs.Relays.{Breaks, Hands, IsOfBytes, Relayed, Relays, StandsStill, Steps, errors_behind, outset};
+ghost use Rattle.fast_pass.specs.Relays.{BreaksOff, Hands, IsOfBytes, Relayed, Relays, StandsStill, Steps, errors_behind, outset};
 ghost use Rattle.fast_machine.specs.Following.{mode_of};
 
 use crate::fault::CanonFault;
@@ -93,7 +93,7 @@ fn take_in<O: Output, W: ByteOutput, E: Entries>(
     ensures takes { (left : Option (List ℕ)) → MatchResult result
         (λ x. Steps O.waiting O.makes x.0 machine.old machine.new left left (W.taken writer.old)
         (W.taken writer.new) x.1 bytes.now (IsOfBytes x.0))
-        (λ s. Breaks O.waiting O.makes machine.old machine.new left (W.taken writer.old) (W.taken writer.new)
+        (λ s. BreaksOff O.waiting O.makes machine.old machine.new left (W.taken writer.old) (W.taken writer.new)
         bytes.now) }
     ensures open { IfOk result (λ x. x.0 ≡ reached.Open → machine.new.fault ≡ None) }
     ensures failed { W.errors writer.new ≡ errors_behind result (W.errors writer.old) }
@@ -133,7 +133,7 @@ fn read_on<O: Output, R: ByteInput, W: ByteOutput, E: Entries>(
         (W.taken writer.old) (W.taken writer.new) x.1 got
         (IsCaused x.0 ⊥ (reader_by R.left R.calls R.errors R.ends reader.old)
         (reader_by R.left R.calls R.errors R.ends reader.new)))
-        (λ s. Breaks O.waiting O.makes machine.old machine.new (R.left reader.old) (W.taken writer.old)
+        (λ s. BreaksOff O.waiting O.makes machine.old machine.new (R.left reader.old) (W.taken writer.old)
         (W.taken writer.new) got) }
     ensures open { IfOk result (λ x. x.0 ≡ reached.Open → machine.new.fault ≡ None) }
     ensures failed { W.errors writer.new ≡ errors_behind result (W.errors writer.old) }
