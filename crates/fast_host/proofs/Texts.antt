@@ -1,6 +1,5 @@
 -- A text that is read, of which only a front is kept.
 use Rattle.std.proofs.Common.{◌≡◌, ◌≤◌, ◌+◌, ◌-◌, ◌∙◌, ℕ, List, [], ◌∷◌, ◌++◌, length, take, min, ap, sym, arith, length-take, append-nil, subst, refl, zero, suc}
-use Rattle.fast_io.specs.Counts.{counted}
 use Rattle.fast_io.specs.declared.input.ByteInput.{Ghosts}
 use Rattle.fast_decoder.specs.Inputs.{Reader, Reads, reader_by}
 use Rattle.fast_decoder.proofs.Inputs.{more_read}
