@@ -1,5 +1,5 @@
 -- What a machine follows behind a chunk more, behind a fault that it keeps, and behind a read of a message.
-use Rattle.std.proofs.Common.{◌≡◌, ◌≢◌, ◌≤◌, ◌<◌, ◌^◌, ◌+◌, ℕ, List, [], ◌++◌, Option, Some, None, Result, Ok, Err, IfOk, IfSome, length, length-append, arith, refl, sym, subst, inl, inr}
+use Rattle.std.proofs.Common.{◌≡◌, ◌≢◌, ◌≤◌, ◌<◌, ◌^◌, ◌+◌, ℕ, List, [], ◌++◌, Option, Some, None, Result, Ok, Err, length, length-append, arith, refl, sym, subst, inl, inr}
 use Rattle.std.specs.FinMap as finite
 use Rattle.fast_wire.specs.Reader.{IsBytes}
 use Rattle.fast_template.specs.TemplateSets.{IsSound, templates_in}
@@ -124,10 +124,6 @@ pub reads_none : {R E : Type 0} {receiver : Receiving R} {entries : Ghosts E} {f
     → AnswersNone result new.fault → FollowsBehind framing old bytes new → ReadsNext framing old bytes result new
 reads_none old bytes (Ok place) answer follows = rw (answer.0) (tt, (answer.1, follows))
 reads_none old bytes (Err f) answer follows = (answer.0, answer.1, follows)
-
-pub place_none : (P : ℕ → Type 0) (fault : Option Fault) (result : Result (Option ℕ) Fault) → AnswersNone result fault → IfOk result (λ o. IfSome o P)
-place_none P fault (Ok place) answer = rw (answer.0) tt
-place_none P fault (Err f) answer = tt
 
 -- where bytes are wanted, those unread are held
 pub finds_waiting : {R E : Type 0} {receiver : Receiving R} {entries : Ghosts E} {framing : Framing} {old new : Machine R E receiver entries} {bytes : List ℕ} {number count : ℕ} {h : Halt} {left : ℕ} {u : Traversal} {s : R} {e : Dictionary} {unread rest : List ℕ} (result : Result (Option ℕ) Fault)
