@@ -1,7 +1,6 @@
-use Rattle.std.proofs.Common.{rules, ◌≡◌, ◌∙◌, Some, true, refl, sym, subst}
+use Rattle.std.proofs.Common.{rules, ◌∙◌, Some, true, refl, sym, subst}
 use Rattle.fast_template.specs.Resolved.{list_of}
 use Rattle.fast_stream.specs.Nodes.{content_of}
-use Rattle.fast_nodes.specs.Added.{Changed, GoesOn, books_of}
 use Rattle.fast_walk.specs.Told.{HoldScalars}
 use Rattle.fast_writer.specs.Levels.{level_of}
 use Rattle.fast_writer.specs.Written.{IsEmpty}
