@@ -1,7 +1,7 @@
 -- What is too short to be read stays so until what it lacks has come.
-use Rattle.std.proofs.Common.{◌≡◌, ℕ, zero, suc, ◌+◌, ◌<◌, ◌≤◌, Bool, true, false, List, [], ◌∷◌, ◌++◌, length, Option, Some, None, Result, Ok, Err, refl, sym, ap, subst, ◌∙◌, arith, length-append, inl, inr, ◌-◌, append-nil}
+use Rattle.std.proofs.Common.{◌≡◌, ℕ, zero, suc, ◌<◌, ◌≤◌, Bool, true, false, List, [], ◌∷◌, ◌++◌, length, Option, Some, None, Result, Ok, Err, refl, sym, ap, subst, ◌∙◌, arith, length-append, inl, inr, ◌-◌, append-nil}
 use Rattle.std.specs.Prelude.{nat_le, IfSome, pos}
-use Rattle.fast_template.specs.Resolved.{Instruction, Resolved, Instructions, no_instructions, then_instruction, whole_field, field_in_parts, group_of, sequence_of, list_of, part_needs_bit}
+use Rattle.fast_template.specs.Resolved.{Instruction, Resolved, Instructions, then_instruction, whole_field, field_in_parts, sequence_of, list_of, part_needs_bit}
 use Rattle.fast_dictionary.specs.Dictionary.{entry_at}
 use Rattle.fast_stream.specs.Bits.{bit_for}
 use Rattle.fast_stream.specs.Nodes.{Content, Items}
@@ -15,7 +15,6 @@ use Rattle.fast_walk.specs.Received.{Received}
 use Rattle.fast_walk.specs.Traversals.{Continues, ContinuesAt, IsOpen, stop_of}
 use Rattle.fast_walk.specs.declared.halt.HaltedBy.TheVariants as halted
 use Rattle.fast_walk.specs.declared.traversal.Stage.{Stage}
-use Rattle.fast_walk.specs.declared.traversal.Stage.TheVariants as stage
 use Rattle.fast_walk.specs.declared.traversal.Traversal.{Traversal}
 use Rattle.fast_walk.proofs.Heads.{content_fails}
 use Rattle.fast_walk.specs.Walks.{next_of, reads_on}
@@ -45,9 +44,9 @@ use Rattle.fast_template.specs.declared.resolved.FieldPart.{FieldPart}
 use Rattle.fast_dictionary.specs.declared.entry.Entry.{Entry}
 use Rattle.fast_field.specs.declared.fault.FieldFault.TheVariants as fault
 use Rattle.fast_field.specs.Faults.{field_fault}
-use Rattle.fast_field.specs.FieldReading.{part_at, units_at, units_usually_at, integer_at, integer_spelled_at, decimal_spelled_at, units_spelled_at, spelled_at, integer_delta_at, decimal_delta_at, unit_delta_at, delta_at, tail_at, whole_at, row_at, field_at}
+use Rattle.fast_field.specs.FieldReading.{part_at, units_at, integer_at, integer_spelled_at, decimal_spelled_at, units_spelled_at, spelled_at, integer_delta_at, decimal_delta_at, unit_delta_at, delta_at, tail_at, whole_at, row_at, field_at}
 use Rattle.fast_walk.specs.declared.lack.Lack.{Lack}
-use Rattle.fast_walk.specs.Lacks.{AreUnstopped, IsFirst, IsLacking, IsNextPart, IsVectorKind, Lacks, StopsShort, WalkLacks, Wants, WantsByte, count_at, first_limit, sends, sends_units, whole_limit}
+use Rattle.fast_walk.specs.Lacks.{AreUnstopped, EntityLacks, FieldLacks, IsFirst, IsLacking, IsNextPart, IsVectorKind, Lacks, StopsShort, VectorLacks, WalkLacks, Wants, WantsByte, count_at, first_limit, sends, whole_limit}
 use Rattle.fast_field.specs.Values.{is_unsigned}
 use Rattle.fast_value.specs.declared.kind.Part.{Part}
 
@@ -72,41 +71,21 @@ entity_waits (suc limit) (b ∷ bs) h short =
     let t : nat_le 128 b ≡ false = grind arith in
     rw (t, entity_waits limit bs h.1 (omega (arith, short))) refl
 
-pub ascii_waits : (bytes : List ℕ) → entity_at 65540 bytes ≡ Err wire.NeedMore → ascii_at bytes ≡ Err wire.NeedMore
-unfolding ascii_at
-ascii_waits bytes h = rw h refl
-
-ascii_nullable_waits : (bytes : List ℕ) → entity_at 65540 bytes ≡ Err wire.NeedMore → ascii_nullable_at bytes ≡ Err wire.NeedMore
-unfolding ascii_nullable_at
-ascii_nullable_waits bytes h = rw h refl
-
 -- ---- what begins with an entity
 
 integer_waits : (level : Level) (u : Bool) (p : Presence) (bytes : List ℕ) → entity_at 10 bytes ≡ Err wire.NeedMore → integer_at level u p bytes ≡ Err fault.NeedMore
 unfolding integer_at unsigned_at signed_at unsigned_nullable_at signed_nullable_at
 integer_waits Usual true Mandatory bytes h = rw h refl
-integer_waits Usual true Optional bytes h = rw h refl
 integer_waits Usual false Mandatory bytes h = rw h refl
-integer_waits Usual false Optional bytes h = rw h refl
-integer_waits Strict u p bytes h = rw h refl
+integer_waits level u p bytes h = rw h refl
 
-text_waits : (level : Level) (p : Presence) (bytes : List ℕ) → entity_at 65540 bytes ≡ Err wire.NeedMore → units_at level kind.Ascii p bytes ≡ Err fault.NeedMore
-unfolding units_at part_at
-text_waits Usual Mandatory bytes h = rw (ascii_waits bytes h) refl
-text_waits Usual Optional bytes h = rw (ascii_nullable_waits bytes h) refl
-text_waits Strict p bytes h = rw h refl
-
-pub unicode_begins : (level : Level) (p : Presence) (bytes : List ℕ) → entity_at 10 bytes ≡ Err wire.NeedMore → units_at level kind.Unicode p bytes ≡ Err fault.NeedMore
-unfolding units_at part_at vector_at vector_nullable_at unsigned_at unsigned_nullable_at
-unicode_begins Usual Mandatory bytes h = rw h refl
-unicode_begins Usual Optional bytes h = rw h refl
-unicode_begins Strict p bytes h = rw h refl
-
-pub bytes_begin : (level : Level) (p : Presence) (bytes : List ℕ) → entity_at 10 bytes ≡ Err wire.NeedMore → units_at level kind.Bytes p bytes ≡ Err fault.NeedMore
-unfolding units_at part_at vector_at vector_nullable_at unsigned_at unsigned_nullable_at
-bytes_begin Usual Mandatory bytes h = rw h refl
-bytes_begin Usual Optional bytes h = rw h refl
-bytes_begin Strict p bytes h = rw h refl
+-- characters, or the length of a vector
+pub units_wait : (level : Level) (k : Kind) (p : Presence) (bytes : List ℕ) → entity_at (whole_limit k) bytes ≡ Err wire.NeedMore → units_at level k p bytes ≡ Err fault.NeedMore
+unfolding units_at part_at ascii_at ascii_nullable_at vector_at vector_nullable_at unsigned_at unsigned_nullable_at
+units_wait Usual kind.Ascii Mandatory bytes h = rw h refl
+units_wait Usual k Mandatory bytes h = rw h refl
+units_wait Strict kind.Ascii p bytes h = rw h refl
+units_wait level k p bytes h = rw h refl
 
 -- ---- vectors
 
@@ -134,185 +113,118 @@ vector_nullable_waits : (bytes more rest : List ℕ) (n : ℕ) → n ≤ 65535 �
 unfolding vector_nullable_at behind_length
 vector_nullable_waits bytes more rest n few short h = rw (unsigned_nullable_goes bytes (Value n) rest more h, bytes_wait n (rest ++ more) few short) refl
 
-unicode_waits : (p : Presence) (bytes more rest : List ℕ) (n : ℕ) → n ≤ 65535 → length (rest ++ more) < n → count_at p bytes ≡ Ok (Value n, rest) → units_usually_at kind.Unicode p (bytes ++ more) ≡ Err fault.NeedMore
-unfolding part_at
-unicode_waits Mandatory bytes more rest n few short h = rw (vector_waits bytes more rest n few short h) refl
-unicode_waits Optional bytes more rest n few short h = rw (vector_nullable_waits bytes more rest n few short h) refl
-
-bytes_waits : (p : Presence) (bytes more rest : List ℕ) (n : ℕ) → n ≤ 65535 → length (rest ++ more) < n → count_at p bytes ≡ Ok (Value n, rest) → units_usually_at kind.Bytes p (bytes ++ more) ≡ Err fault.NeedMore
-unfolding part_at
-bytes_waits Mandatory bytes more rest n few short h = rw (vector_waits bytes more rest n few short h) refl
-bytes_waits Optional bytes more rest n few short h = rw (vector_nullable_waits bytes more rest n few short h) refl
-
 pub counted_waits : (level : Level) (k : Kind) (p : Presence) (bytes more rest : List ℕ) (n : ℕ) → IsVectorKind k → judge level 10 overlong_unsigned field_fault fault.R6 (bytes ++ more) ≡ Ok tt → n ≤ 65535 → length (rest ++ more) < n
     → count_at p bytes ≡ Ok (Value n, rest) → units_at level k p (bytes ++ more) ≡ Err fault.NeedMore
-unfolding units_at
-counted_waits level k p bytes more rest n (inl is) fit few short h = rw (is, fit, unicode_waits p bytes more rest n few short h) refl
-counted_waits level k p bytes more rest n (inr is) fit few short h = rw (is, fit, bytes_waits p bytes more rest n few short h) refl
-
--- ---- what is lacking of them
-
-pub vector_lacks : (level : Level) (k : Kind) (p : Presence) (bytes rest : List ℕ) (n have : ℕ) (o : Option Lack) → IsVectorKind k → ((more : List ℕ) → judge level 10 overlong_unsigned field_fault fault.R6 (bytes ++ more) ≡ Ok tt)
-    → count_at p bytes ≡ Ok (Value n, rest) → have ≡ length rest → IfSome o (λ l. (n ≤ 65535) × (have + l.most < n))
-    → IfSome o (λ l. IsVectorKind k × ((more : List ℕ) → IsLacking l more → units_at level k p (bytes ++ more) ≡ Err fault.NeedMore))
-vector_lacks level k p bytes rest n have None v fit h is few = tt
-vector_lacks level k p bytes rest n have (Some l) v fit h is few = (
-  v,
-  λ more lacking.
-      let size = length-append rest more in
-      let short = lacking.few in
-      let within = few.1 in
-      counted_waits level k p bytes more rest n v (fit more) few.0 (omega (arith, size, is, within, short)) h,
-)
+unfolding units_at part_at
+counted_waits level k Mandatory bytes more rest n (inl is) fit few short h = rw (is, fit, vector_waits bytes more rest n few short h) refl
+counted_waits level k Optional bytes more rest n (inl is) fit few short h = rw (is, fit, vector_nullable_waits bytes more rest n few short h) refl
+counted_waits level k Mandatory bytes more rest n (inr is) fit few short h = rw (is, fit, vector_waits bytes more rest n few short h) refl
+counted_waits level k Optional bytes more rest n (inr is) fit few short h = rw (is, fit, vector_nullable_waits bytes more rest n few short h) refl
 
 -- ---- fields
 
-number_begins : (level : Level) (pt : Part) (k : Kind) (p : Presence) (bytes : List ℕ) → entity_at 10 bytes ≡ Err wire.NeedMore → integer_spelled_at level pt k p bytes ≡ Err fault.NeedMore
-unfolding integer_spelled_at
-number_begins level pt k p bytes h = rw (integer_waits level (is_unsigned k) p bytes h) refl
-
-decimal_begins : (level : Level) (p : Presence) (bytes : List ℕ) → entity_at 10 bytes ≡ Err wire.NeedMore → decimal_spelled_at level p bytes ≡ Err fault.NeedMore
-unfolding decimal_spelled_at
-decimal_begins level p bytes h = rw (integer_waits level false p bytes h) refl
-
-units_begin : (level : Level) (k : Kind) (p : Presence) (bytes : List ℕ) → units_at level k p bytes ≡ Err fault.NeedMore → units_spelled_at level k p bytes ≡ Err fault.NeedMore
-unfolding units_spelled_at
-units_begin level k p bytes h = rw h refl
-
 whole_begins : (level : Level) (pt : Part) (k : Kind) (p : Presence) (bytes : List ℕ) → entity_at (whole_limit k) bytes ≡ Err wire.NeedMore → spelled_at level pt k p bytes ≡ Err fault.NeedMore
-unfolding spelled_at
-whole_begins level pt kind.Ascii p bytes h = units_begin level kind.Ascii p bytes (text_waits level p bytes h)
-whole_begins level pt kind.Unicode p bytes h = units_begin level kind.Unicode p bytes (unicode_begins level p bytes h)
-whole_begins level pt kind.Bytes p bytes h = units_begin level kind.Bytes p bytes (bytes_begin level p bytes h)
-whole_begins level pt kind.Decimal p bytes h = decimal_begins level p bytes h
-whole_begins level pt kind.Int32 p bytes h = number_begins level pt kind.Int32 p bytes h
-whole_begins level pt kind.UInt32 p bytes h = number_begins level pt kind.UInt32 p bytes h
-whole_begins level pt kind.Int64 p bytes h = number_begins level pt kind.Int64 p bytes h
-whole_begins level pt kind.UInt64 p bytes h = number_begins level pt kind.UInt64 p bytes h
+unfolding spelled_at units_spelled_at decimal_spelled_at integer_spelled_at
+whole_begins level pt kind.Ascii p bytes h = rw (units_wait level kind.Ascii p bytes h) refl
+whole_begins level pt kind.Unicode p bytes h = rw (units_wait level kind.Unicode p bytes h) refl
+whole_begins level pt kind.Bytes p bytes h = rw (units_wait level kind.Bytes p bytes h) refl
+whole_begins level pt kind.Decimal p bytes h = rw (integer_waits level false p bytes h) refl
+whole_begins level pt k p bytes h = rw (integer_waits level (is_unsigned k) p bytes h) refl
 
 delta_begins : (level : Level) (k : Kind) (i : FieldPart) (e : Entry) (bytes : List ℕ) → entity_at 10 bytes ≡ Err wire.NeedMore → delta_at level k i e bytes ≡ Err fault.NeedMore
 unfolding delta_at decimal_delta_at unit_delta_at integer_delta_at
 delta_begins level kind.Ascii i e bytes h = rw (integer_waits level false i.presence bytes h) refl
-delta_begins level kind.Unicode i e bytes h = rw (integer_waits level false i.presence bytes h) refl
-delta_begins level kind.Bytes i e bytes h = rw (integer_waits level false i.presence bytes h) refl
-delta_begins level kind.Decimal i e bytes h = rw (integer_waits level false i.presence bytes h) refl
-delta_begins level kind.Int32 i e bytes h = rw (integer_waits level false i.presence bytes h) refl
-delta_begins level kind.UInt32 i e bytes h = rw (integer_waits level false i.presence bytes h) refl
-delta_begins level kind.Int64 i e bytes h = rw (integer_waits level false i.presence bytes h) refl
-delta_begins level kind.UInt64 i e bytes h = rw (integer_waits level false i.presence bytes h) refl
+delta_begins level k i e bytes h = rw (integer_waits level false i.presence bytes h) refl
 
 tail_waits : (level : Level) (i : FieldPart) (e : Entry) (bytes : List ℕ) → units_at level i.kind i.presence bytes ≡ Err fault.NeedMore → tail_at level i e bytes ≡ Err fault.NeedMore
 unfolding tail_at
 tail_waits level i e bytes h = rw h refl
 
--- a tail is characters or bytes
-units_wait : (level : Level) (k : Kind) (p : Presence) (bytes : List ℕ) → entity_at (whole_limit k) bytes ≡ Err wire.NeedMore → units_at level k p bytes ≡ Err fault.NeedMore
-unfolding units_at part_at vector_at vector_nullable_at unsigned_at unsigned_nullable_at
-units_wait level kind.Ascii p bytes h = text_waits level p bytes h
-units_wait Usual k Mandatory bytes h = rw h refl
-units_wait Usual k Optional bytes h = rw h refl
-units_wait Strict k p bytes h = rw h refl
-
 row_begins : (level : Level) (o : Operator) (i : FieldPart) (e : Entry) (bit : Bool) (bytes : List ℕ) → sends o bit ≡ true → entity_at (first_limit o i.kind) bytes ≡ Err wire.NeedMore → row_at level o i e bit bytes ≡ Err fault.NeedMore
 unfolding row_at whole_at
 row_begins level operator.Plain i e bit bytes s h = whole_begins level i.part i.kind i.presence bytes h
-row_begins level operator.Default i e true bytes s h = whole_begins level i.part i.kind i.presence bytes h
-row_begins level operator.Copy i e true bytes s h = whole_begins level i.part i.kind i.presence bytes h
-row_begins level operator.Increment i e true bytes s h = whole_begins level i.part i.kind i.presence bytes h
-row_begins level operator.Tail i e true bytes s h = tail_waits level i e bytes (units_wait level i.kind i.presence bytes h)
 row_begins level operator.Delta i e bit bytes s h = delta_begins level i.kind i e bytes h
-row_begins level operator.Default i e false bytes s h = absurd cc
-row_begins level operator.Copy i e false bytes s h = absurd cc
-row_begins level operator.Increment i e false bytes s h = absurd cc
-row_begins level operator.Tail i e false bytes s h = absurd cc
+row_begins level operator.Tail i e true bytes s h = tail_waits level i e bytes (units_wait level i.kind i.presence bytes h)
 row_begins level operator.Constant i e bit bytes s h = absurd cc
+row_begins level o i e true bytes s h = whole_begins level i.part i.kind i.presence bytes h
+row_begins level o i e false bytes s h = absurd cc
 
 field_begins : (level : Level) (i : FieldPart) (e : Entry) (bit : Bool) (bytes : List ℕ) → sends i.operator bit ≡ true → entity_at (first_limit i.operator i.kind) bytes ≡ Err wire.NeedMore → field_at level i e bit bytes ≡ Err fault.NeedMore
 unfolding field_at
 field_begins level i e bit bytes s h = rw (row_begins level i.operator i e bit bytes s h) refl
 
--- a field whose first entity has not ended
-pub entity_lacks : (level : Level) (i : FieldPart) (e : Entry) (bit : Bool) (bytes more : List ℕ) (l : Lack) → sends i.operator bit ≡ true → length bytes + l.most < first_limit i.operator i.kind → (l.until_stop ≡ true) × AreUnstopped bytes
-    → IsLacking l more → field_at level i e bit (bytes ++ more) ≡ Err fault.NeedMore
-entity_lacks level i e bit bytes more l s few h lacking =
+-- an entity that has not ended
+pub entity_wants : {of limit : ℕ} {bytes : List ℕ} {l : Lack} → EntityLacks of limit bytes l → Wants (entity_at limit) wire.NeedMore bytes l
+entity_wants {limit = limit} {bytes = bytes} lacks more lacking =
     let size = length-append bytes more in
-    let short = lacking.few in
-    field_begins level i e bit (bytes ++ more) s
-    (entity_waits (first_limit i.operator i.kind) (bytes ++ more) (both_unstopped bytes more h.1 (lacking.unstopped h.0)) (omega (arith, size, few, short)))
+    entity_waits limit (bytes ++ more) (both_unstopped bytes more lacks.begun (lacking.unstopped lacks.until)) (omega (arith, size, lacks.few, lacking.few))
+
+-- a field whose first entity has not ended
+pub entity_lacks : {level : Level} {i : FieldPart} {e : Entry} {bit : Bool} {bytes : List ℕ} {l : Lack} → sends i.operator bit ≡ true → EntityLacks i.number (first_limit i.operator i.kind) bytes l → FieldLacks level i e bit bytes l
+entity_lacks {level} {i} {e} {bit} s lacks = record { lacks = λ more lacking. field_begins level i e bit _ s (entity_wants lacks more lacking); number = lacks.number }
 
 spelled_waits : (level : Level) (i : FieldPart) (k : Kind) (bytes : List ℕ) → IsVectorKind k → units_at level k i.presence bytes ≡ Err fault.NeedMore → spelled_at level i.part k i.presence bytes ≡ Err fault.NeedMore
-unfolding spelled_at
-spelled_waits level i k bytes (inl is) h = rw is (units_begin level kind.Unicode i.presence bytes (rw is at h))
-spelled_waits level i k bytes (inr is) h = rw is (units_begin level kind.Bytes i.presence bytes (rw is at h))
+unfolding spelled_at units_spelled_at
+spelled_waits level i k bytes (inl is) h = rw (is, rw is at h) refl
+spelled_waits level i k bytes (inr is) h = rw (is, rw is at h) refl
 
-vector_row : (level : Level) (o : Operator) (i : FieldPart) (e : Entry) (bit : Bool) (bytes : List ℕ) → sends_units o bit ≡ true → IsVectorKind i.kind → units_at level i.kind i.presence bytes ≡ Err fault.NeedMore → row_at level o i e bit bytes ≡ Err fault.NeedMore
+vector_row : (level : Level) (o : Operator) (i : FieldPart) (e : Entry) (bit : Bool) (bytes : List ℕ) → sends o bit ≡ true → (o ≡ operator.Delta → ⊥) → IsVectorKind i.kind → units_at level i.kind i.presence bytes ≡ Err fault.NeedMore → row_at level o i e bit bytes ≡ Err fault.NeedMore
 unfolding row_at whole_at
-vector_row level operator.Plain i e bit bytes s v h = spelled_waits level i i.kind bytes v h
-vector_row level operator.Default i e true bytes s v h = spelled_waits level i i.kind bytes v h
-vector_row level operator.Copy i e true bytes s v h = spelled_waits level i i.kind bytes v h
-vector_row level operator.Tail i e true bytes s v h = tail_waits level i e bytes h
-vector_row level operator.Default i e false bytes s v h = absurd cc
-vector_row level operator.Copy i e false bytes s v h = absurd cc
-vector_row level operator.Tail i e false bytes s v h = absurd cc
-vector_row level operator.Constant i e bit bytes s v h = absurd cc
-vector_row level operator.Increment i e bit bytes s v h = absurd cc
-vector_row level operator.Delta i e bit bytes s v h = absurd cc
+vector_row level operator.Delta i e bit bytes s d v h = absurd (d refl)
+vector_row level operator.Constant i e bit bytes s d v h = absurd cc
+vector_row level operator.Plain i e bit bytes s d v h = spelled_waits level i i.kind bytes v h
+vector_row level operator.Tail i e true bytes s d v h = tail_waits level i e bytes h
+vector_row level o i e true bytes s d v h = spelled_waits level i i.kind bytes v h
+vector_row level o i e false bytes s d v h = absurd cc
 
-pub field_waits : (level : Level) (i : FieldPart) (e : Entry) (bit : Bool) (bytes : List ℕ) → sends_units i.operator bit ≡ true → IsVectorKind i.kind → units_at level i.kind i.presence bytes ≡ Err fault.NeedMore → field_at level i e bit bytes ≡ Err fault.NeedMore
+-- a vector whose length has come
+pub vector_lacks : {level : Level} {i : FieldPart} {e : Entry} {bit : Bool} {bytes : List ℕ} {l : Lack} → sends i.operator bit ≡ true → (i.operator ≡ operator.Delta → ⊥) → VectorLacks level i.kind i.presence i.number bytes l → FieldLacks level i e bit bytes l
 unfolding field_at
-field_waits level i e bit bytes s v h = rw (vector_row level i.operator i e bit bytes s v h) refl
+vector_lacks {level} {i} {e} {bit} s d h = record { lacks = λ more lacking. rw (vector_row level i.operator i e bit _ s d h.vector (h.lacks more lacking)) refl; number = h.number }
 
 -- ---- walks
 
 -- where the part that is next waits, all that is left to be read does
 instruction_lacks : (level : Level) (w : Walk) (d : Dictionary) (i : Instruction) (number : ℕ) (part : FieldPart) (others : Instructions) (bytes : List ℕ) (l : Lack) → 0 < w.spare → w.next ≡ next.Instruction → list_of w.rest.now ≡ then_instruction i others
     → ((c k : Cursor) (s : Stop) → node_at number c ≡ Ok k → field_part_at level part k ≡ Err s → piece_at level i c ≡ Err s)
-    → ((more : List ℕ) → IsLacking l more → field_at level part (entry_at d part.key) (bit_for (part_needs_bit part) w.bits) (bytes ++ more) ≡ Err fault.NeedMore) → l.number ≡ part.number
-    → WalkLacks level w d bytes l
-instruction_lacks level w d i number part others bytes l some is first begins h same = λ o more lacking at.
+    → FieldLacks level part (entry_at d part.key) (bit_for (part_needs_bit part) w.bits) bytes l → WalkLacks level w d bytes l
+instruction_lacks level w d i number part others bytes l some is first begins h = λ o more lacking at.
     let xs = bytes ++ more in
-    let waits = part_stops level part d w.bits (w.spare - 1) xs fault.NeedMore (h more lacking) in
+    let waits = part_stops level part d w.bits (w.spare - 1) xs fault.NeedMore (h.lacks more lacking) in
     let piece : piece_at level i (cursor d w.bits w.spare xs) ≡ stopped part.number xs Truncated = begins (cursor d w.bits w.spare xs) (cursor d w.bits (w.spare - 1) xs) _ (count_goes number w.spare d w.bits xs some) waits in
     let stops = piece_stops_on level o.around o.next o.body i others (cursor d w.bits w.spare xs) _ (is_instruction o.next (at.next ∙ ap next_of is)) (at.rest ∙ first) piece in
-    subst (λ (r : Reads Items). StopsShort l.number (length xs) r) (sym stops) (refl, (sym same, refl))
+    subst (λ (r : Reads Items). StopsShort l.number (length xs) r) (sym stops) (refl, (sym h.number, refl))
 
 first_lacks : (level : Level) (w : Walk) (d : Dictionary) (part : FieldPart) (is : Instructions) (bytes : List ℕ) (l : Lack) → 0 < w.spare → w.next ≡ next.Instruction → list_of w.rest.now ≡ is → IsFirst part is
-    → ((more : List ℕ) → IsLacking l more → field_at level part (entry_at d part.key) (bit_for (part_needs_bit part) w.bits) (bytes ++ more) ≡ Err fault.NeedMore) → l.number ≡ part.number
-    → WalkLacks level w d bytes l
-first_lacks level w d part (then_instruction (whole_field name number presence whole) others) bytes l some is rest first h same =
-    instruction_lacks level w d (whole_field name number presence part) number part others bytes l some is (rest ∙ ap (λ (p : FieldPart). then_instruction (whole_field name number presence p) others) first) (λ c k s n m. rw (n, m) refl) h same
-first_lacks level w d part (then_instruction (field_in_parts name number presence exponent mantissa) others) bytes l some is rest first h same =
-    instruction_lacks level w d (field_in_parts name number presence part mantissa) number part others bytes l some is (rest ∙ ap (λ (p : FieldPart). then_instruction (field_in_parts name number presence p mantissa) others) first) (λ c k s n m. rw (n, m) refl) h same
-first_lacks level w d part (then_instruction (sequence_of name number presence count members) others) bytes l some is rest first h same =
-    instruction_lacks level w d (sequence_of name number presence part members) number part others bytes l some is (rest ∙ ap (λ (p : FieldPart). then_instruction (sequence_of name number presence p members) others) first) (λ c k s n m. rw (n, m) refl) h same
-first_lacks level w d part (then_instruction (group_of name number presence members) others) bytes l some is rest first h same = absurd first
-first_lacks level w d part no_instructions bytes l some is rest first h same = absurd first
+    → FieldLacks level part (entry_at d part.key) (bit_for (part_needs_bit part) w.bits) bytes l → WalkLacks level w d bytes l
+first_lacks level w d part (then_instruction (whole_field name number presence whole) others) bytes l some is rest first h =
+    instruction_lacks level w d (whole_field name number presence part) number part others bytes l some is (rest ∙ ap (λ (p : FieldPart). then_instruction (whole_field name number presence p) others) first) (λ c k s n m. rw (n, m) refl) h
+first_lacks level w d part (then_instruction (field_in_parts name number presence exponent mantissa) others) bytes l some is rest first h =
+    instruction_lacks level w d (field_in_parts name number presence part mantissa) number part others bytes l some is (rest ∙ ap (λ (p : FieldPart). then_instruction (field_in_parts name number presence p mantissa) others) first) (λ c k s n m. rw (n, m) refl) h
+first_lacks level w d part (then_instruction (sequence_of name number presence count members) others) bytes l some is rest first h =
+    instruction_lacks level w d (sequence_of name number presence part members) number part others bytes l some is (rest ∙ ap (λ (p : FieldPart). then_instruction (sequence_of name number presence p members) others) first) (λ c k s n m. rw (n, m) refl) h
+first_lacks level w d part others bytes l some is rest first h = absurd first
 
 -- where the mantissa that is next waits, all that is left to be read does
 mantissa_lacks : (level : Level) (w : Walk) (d : Dictionary) (mantissa : FieldPart) (bytes : List ℕ) (l : Lack) → next_of w.next ≡ at_mantissa (pos 0) mantissa
-    → Wants (field_at level mantissa (entry_at d mantissa.key) (bit_for (part_needs_bit mantissa) w.bits)) fault.NeedMore bytes l → l.number ≡ mantissa.number → WalkLacks level w d bytes l
-mantissa_lacks level w d mantissa bytes l is h same = λ o more lacking here.
+    → FieldLacks level mantissa (entry_at d mantissa.key) (bit_for (part_needs_bit mantissa) w.bits) bytes l → WalkLacks level w d bytes l
+mantissa_lacks level w d mantissa bytes l is h = λ o more lacking here.
     let xs = bytes ++ more in
     let next = is_mantissa o.next _ mantissa (here.next ∙ is) in
-    let stops = mantissa_on_stops level o.around o.next next.exponent mantissa o.body (cursor d w.bits w.spare xs) _ next.is (part_stops level mantissa d w.bits w.spare xs fault.NeedMore (h more lacking)) in
-    subst (λ (r : Reads Items). StopsShort l.number (length xs) r) (sym stops) (refl, (sym same, refl))
+    let stops = mantissa_on_stops level o.around o.next next.exponent mantissa o.body (cursor d w.bits w.spare xs) _ next.is (part_stops level mantissa d w.bits w.spare xs fault.NeedMore (h.lacks more lacking)) in
+    subst (λ (r : Reads Items). StopsShort l.number (length xs) r) (sym stops) (refl, (sym h.number, refl))
 
 pub next_lacks : (level : Level) (w : Walk) (d : Dictionary) (part : FieldPart) (bytes : List ℕ) (o : Option Lack) → IsNextPart w part
-    → IfSome o (Wants (field_at level part (entry_at d part.key) (bit_for (part_needs_bit part) w.bits)) fault.NeedMore bytes) → IfSome o (λ l. l.number ≡ part.number) → IfSome o (WalkLacks level w d bytes)
-next_lacks level w d part bytes None first h same = tt
-next_lacks level w d part bytes (Some l) (inl first) h same = first_lacks level w d part (list_of w.rest.now) bytes l first.0 first.1 refl first.2 h same
-next_lacks level w d part bytes (Some l) (inr first) h same = mantissa_lacks level w d part bytes l first h same
+    → IfSome o (FieldLacks level part (entry_at d part.key) (bit_for (part_needs_bit part) w.bits) bytes) → IfSome o (WalkLacks level w d bytes)
+next_lacks level w d part bytes None first h = tt
+next_lacks level w d part bytes (Some l) (inl first) h = first_lacks level w d part (list_of w.rest.now) bytes l first.0 first.1 refl first.2 h
+next_lacks level w d part bytes (Some l) (inr first) h = mantissa_lacks level w d part bytes l first h
 
 -- a part that is sent lacks the stop bit of its first entity
-pub part_opens : (t : Traversal) (part : FieldPart) (bit : Bool) (l : Lack) → t.stage ≡ stage.Body → IsNextPart t.walk part → bit ≡ bit_for (part_needs_bit part) t.walk.bits → sends part.operator bit ≡ true
-    → l.most < first_limit part.operator part.kind → l.until_stop ≡ true → l.number ≡ part.number → (d : Dictionary) → Lacks t d [] l
-part_opens t part bit l body first at s few until same d = (body, next_lacks t.level t.walk d part [] (Some l) first (waits (entry_at d part.key)) same)
-  where
-    sent : sends part.operator (bit_for (part_needs_bit part) t.walk.bits) ≡ true
-    sent = subst (λ (b : Bool). sends part.operator b ≡ true) at s
-
-    waits : (e : Entry) (more : List ℕ) → IsLacking l more → field_at t.level part e (bit_for (part_needs_bit part) t.walk.bits) more ≡ Err fault.NeedMore
-    waits e more lacking = entity_lacks t.level part e (bit_for (part_needs_bit part) t.walk.bits) [] more l sent (omega (arith, few)) (until, tt) lacking
+pub part_opens : (level : Level) (w : Walk) (d : Dictionary) (part : FieldPart) (l : Lack) → IsNextPart w part → sends part.operator (bit_for (part_needs_bit part) w.bits) ≡ true
+    → l.most < first_limit part.operator part.kind → l.until_stop ≡ true → l.number ≡ part.number → WalkLacks level w d [] l
+part_opens level w d part l first s few until same =
+    next_lacks level w d part [] (Some l) first (entity_lacks s (record { few = omega (arith, few); begun = tt; until = until; number = same }))
 
 -- ---- walks that have no byte left
 
@@ -326,7 +238,7 @@ short_stops number (Err s) h = ap Err (stop_same s.cause Truncated s.instruction
 pub next_wants : (w : Walk) (part : FieldPart) → IsNextPart w part → sends part.operator (bit_for (part_needs_bit part) w.bits) ≡ true → WantsByte w part.number
 next_wants w part first s = λ level d o here.
     let none : Lack = record { number = part.number; most = 0; until_stop = true } in
-    let lacks = next_lacks level w d part [] (Some none) first (λ more lacking. entity_lacks level part (entry_at d part.key) _ [] more none s (omega arith) (refl, tt) lacking) refl in
+    let lacks = part_opens level w d part none first s (omega arith) refl refl in
     short_stops part.number (reads_on level w d o []) (lacks o [] (record { few = omega arith; unstopped = λ _. tt }) here)
 
 -- ---- messages

@@ -1,5 +1,4 @@
 mod SetBits
-pub mod Results
 pub mod ShortWalks
 pub mod Steps
 pub mod Walking

@@ -1,8 +1,8 @@
 -- What stands behind the first number of a delta: where that has come, and the field waits, it waits until what is lacking of the rest has come.
-use Rattle.std.proofs.Common.{inl, inr, ap, ◌≡◌, ℕ, ℤ, Bool, true, false, List, ◌++◌, length, Option, Some, None, Result, Ok, Err, refl, sym, ◌∙◌, ◌+◌, ◌<◌, ◌-◌, arith, length-append, length-drop, take, drop}
+use Rattle.std.proofs.Common.{inl, inr, ap, ◌≡◌, ℕ, ℤ, Bool, true, false, List, ◌++◌, length, Option, Some, None, Result, Ok, Err, refl, sym, ◌∙◌, ◌-◌, arith, length-drop, take, drop}
 use Rattle.std.proofs.lemmas.List.{take_all}
-use Rattle.std.specs.Prelude.{◌+ℤ◌, nat_le, IfSome, if◌then◌else◌}
-use Rattle.fast_wire.specs.Reading.{◌>>=◌, entity_at, signed_at, signed_nullable_at}
+use Rattle.std.specs.Prelude.{◌+ℤ◌, nat_le, if◌then◌else◌}
+use Rattle.fast_wire.specs.Reading.{◌>>=◌, ascii_at, entity_at, signed_at, signed_nullable_at, unsigned_at, vector_at}
 use Rattle.fast_wire.specs.Nullable.{received_signed}
 use Rattle.fast_wire.specs.Integer.{signed_of}
 use Rattle.fast_wire.specs.declared.fault.WireFault.TheVariants as wire
@@ -34,17 +34,18 @@ use Rattle.fast_value.specs.declared.kind.Part.{Part}
 use Rattle.fast_value.specs.declared.kind.Part.TheVariants as part
 use Rattle.fast_field.specs.FieldReading.{as_value, entity_limit, overlong_fault, part_usually_at, units_at, check, decimal_delta_at, decimal_spelled_at, decimal_value, delta_at, field_at, integer_at, limited_value, mantissa_behind, mantissa_delta_behind, mantissa_entity_at, new_part_behind, part_at, part_checked, row_at, spelled_at, unit_delta_at, unless_null, whole_at}
 use Rattle.fast_walk.specs.declared.lack.Lack.{Lack}
-use Rattle.fast_walk.specs.Lacks.{AreUnstopped, IsUnitKind, IsVectorKind, LacksWaiting, Wants, WantsBehind, sends_two}
-use Rattle.fast_walk.proofs.Lacking.{ascii_waits, both_unstopped, bytes_begin, entity_waits, unicode_begins}
+use Rattle.fast_walk.specs.Lacks.{EntityLacks, FieldLacks, HasSecond, IsUnitKind, IsVectorKind, SecondLacks, SecondWaits, VectorLacks, sends, whole_limit}
+use Rattle.fast_walk.proofs.Lacking.{entity_wants}
 
 abbrev as_units : List ℕ → List ℕ → Result (Nullable (List ℕ) × List ℕ) FieldFault
 as_units s rest = Ok (Value s, rest)
 
--- characters whose stop bit has not come
-new_text_waits : (level : Level) (bytes : List ℕ) → entity_at 65540 bytes ≡ Err wire.NeedMore → part_at level kind.Ascii bytes ≡ Err fault.NeedMore
-unfolding part_at
-new_text_waits Usual bytes h = rw (ascii_waits bytes h) refl
-new_text_waits Strict bytes h = rw h refl
+-- characters, or a vector's length, whose stop bit has not come
+part_waits : (level : Level) (k : Kind) (bytes : List ℕ) → entity_at (whole_limit k) bytes ≡ Err wire.NeedMore → part_at level k bytes ≡ Err fault.NeedMore
+unfolding part_at ascii_at vector_at unsigned_at
+part_waits Usual kind.Ascii bytes h = rw h refl
+part_waits Strict kind.Ascii bytes h = rw h refl
+part_waits level k bytes h = rw h refl
 
 -- a vector that waits in the form of a presence
 same_fault : {A B : Type 0} (f g : FieldFault) → ◌≡◌ {A = Result A FieldFault} (Err f) (Err g) → ◌≡◌ {A = Result B FieldFault} (Err f) (Err g)
@@ -120,27 +121,27 @@ delta_row level i e bit bytes is of = ap (λ (o : Operator). row_at level o i e 
 
 -- ---- the number behind the first of a decimal
 
-second_waits : (level : Level) (bytes : List ℕ) → entity_at 10 bytes ≡ Err wire.NeedMore → mantissa_entity_at level bytes ≡ Err fault.NeedMore
+mantissa_waits : (level : Level) (bytes : List ℕ) → entity_at 10 bytes ≡ Err wire.NeedMore → mantissa_entity_at level bytes ≡ Err fault.NeedMore
 unfolding signed_at
-second_waits Usual bytes h = rw h refl
-second_waits Strict bytes h = rw h refl
+mantissa_waits Usual bytes h = rw h refl
+mantissa_waits Strict bytes h = rw h refl
 
-exponent_waits : (level : Level) (z : ℤ) (rest more : List ℕ) → entity_at 10 (rest ++ more) ≡ Err wire.NeedMore → mantissa_behind level z rest ≡ Err fault.NeedMore → mantissa_behind level z (rest ++ more) ≡ Err fault.NeedMore
+exponent_waits : (level : Level) (z : ℤ) (rest more : List ℕ) → mantissa_entity_at level (rest ++ more) ≡ Err fault.NeedMore → mantissa_behind level z rest ≡ Err fault.NeedMore → mantissa_behind level z (rest ++ more) ≡ Err fault.NeedMore
 unfolding mantissa_behind
 exponent_waits level z rest more lacks h =
-    check_waits (check (exponent_in_range z) fault.R1) (mantissa_entity_at level rest) (mantissa_entity_at level (rest ++ more)) (λ m. as_value (decimal_value z m.0) m.1) (λ m. as_value (decimal_value z m.0) m.1) h (second_waits level (rest ++ more) lacks)
+    check_waits (check (exponent_in_range z) fault.R1) (mantissa_entity_at level rest) (mantissa_entity_at level (rest ++ more)) (λ m. as_value (decimal_value z m.0) m.1) (λ m. as_value (decimal_value z m.0) m.1) h lacks
 
 -- what is read behind the difference of an exponent
 abbrev behind_difference : Level → FieldPart → Entry → ℤ → List ℕ → Result (Option Scalar × List ℕ) FieldFault
 behind_difference level i e z rest = delta_base i e >>= λ base. mantissa_delta_behind level (exponent_of base +ℤ z) (mantissa_of base) rest
 
-difference_waits : (level : Level) (i : FieldPart) (e : Entry) (z : ℤ) (rest more : List ℕ) → entity_at 10 (rest ++ more) ≡ Err wire.NeedMore → behind_difference level i e z rest ≡ Err fault.NeedMore → behind_difference level i e z (rest ++ more) ≡ Err fault.NeedMore
+difference_waits : (level : Level) (i : FieldPart) (e : Entry) (z : ℤ) (rest more : List ℕ) → mantissa_entity_at level (rest ++ more) ≡ Err fault.NeedMore → behind_difference level i e z rest ≡ Err fault.NeedMore → behind_difference level i e z (rest ++ more) ≡ Err fault.NeedMore
 unfolding mantissa_delta_behind
 difference_waits level i e z rest more lacks h =
     chain_waits (fit false) (delta_base i e) (λ base. check (exponent_in_range (exponent_of base +ℤ z)) fault.R1) (mantissa_entity_at level rest) (mantissa_entity_at level (rest ++ more))
-    (λ base d. as_value (decimal_value (exponent_of base +ℤ z) (mantissa_of base +ℤ d.0)) d.1) (λ base d. as_value (decimal_value (exponent_of base +ℤ z) (mantissa_of base +ℤ d.0)) d.1) h (second_waits level (rest ++ more) lacks)
+    (λ base d. as_value (decimal_value (exponent_of base +ℤ z) (mantissa_of base +ℤ d.0)) d.1) (λ base d. as_value (decimal_value (exponent_of base +ℤ z) (mantissa_of base +ℤ d.0)) d.1) h lacks
 
-whole_two : (level : Level) (i : FieldPart) (bytes more entity rest : List ℕ) → i.kind ≡ kind.Decimal → entity_at 10 bytes ≡ Ok (entity, rest) → entity_at 10 (rest ++ more) ≡ Err wire.NeedMore
+whole_two : (level : Level) (i : FieldPart) (bytes more entity rest : List ℕ) → i.kind ≡ kind.Decimal → entity_at 10 bytes ≡ Ok (entity, rest) → mantissa_entity_at level (rest ++ more) ≡ Err fault.NeedMore
     → whole_at level i bytes ≡ Err fault.NeedMore → whole_at level i (bytes ++ more) ≡ Err fault.NeedMore
 unfolding whole_at spelled_at decimal_spelled_at
 whole_two level i bytes more entity rest of h lacks w =
@@ -150,23 +151,20 @@ delta_decimal : (level : Level) (k : Kind) (i : FieldPart) (e : Entry) (bytes : 
 unfolding delta_at decimal_delta_at
 delta_decimal level k i e bytes is = ap (λ (k : Kind). delta_at level k i e bytes) is
 
-delta_two : (level : Level) (i : FieldPart) (e : Entry) (bytes more entity rest : List ℕ) → i.kind ≡ kind.Decimal → entity_at 10 bytes ≡ Ok (entity, rest) → entity_at 10 (rest ++ more) ≡ Err wire.NeedMore
+delta_two : (level : Level) (i : FieldPart) (e : Entry) (bytes more entity rest : List ℕ) → i.kind ≡ kind.Decimal → entity_at 10 bytes ≡ Ok (entity, rest) → mantissa_entity_at level (rest ++ more) ≡ Err fault.NeedMore
     → delta_at level i.kind i e bytes ≡ Err fault.NeedMore → delta_at level i.kind i e (bytes ++ more) ≡ Err fault.NeedMore
 delta_two level i e bytes more entity rest of h lacks w =
     delta_decimal level i.kind i e (bytes ++ more) of ∙ number_waits level i.presence bytes more entity rest (behind_difference level i e) h (λ z. difference_waits level i e z rest more lacks) (sym (delta_decimal level i.kind i e bytes of) ∙ w)
 
-row_two : (level : Level) (o : Operator) (i : FieldPart) (e : Entry) (bit : Bool) (bytes more entity rest : List ℕ) → sends_two o bit ≡ true → i.kind ≡ kind.Decimal → entity_at 10 bytes ≡ Ok (entity, rest) → entity_at 10 (rest ++ more) ≡ Err wire.NeedMore
+row_two : (level : Level) (o : Operator) (i : FieldPart) (e : Entry) (bit : Bool) (bytes more entity rest : List ℕ) → sends o bit ≡ true → (o ≡ operator.Tail → ⊥) → i.kind ≡ kind.Decimal → entity_at 10 bytes ≡ Ok (entity, rest) → mantissa_entity_at level (rest ++ more) ≡ Err fault.NeedMore
     → row_at level o i e bit bytes ≡ Err fault.NeedMore → row_at level o i e bit (bytes ++ more) ≡ Err fault.NeedMore
 unfolding row_at
-row_two level operator.Plain i e bit bytes more entity rest s of h lacks w = whole_two level i bytes more entity rest of h lacks w
-row_two level operator.Default i e true bytes more entity rest s of h lacks w = whole_two level i bytes more entity rest of h lacks w
-row_two level operator.Copy i e true bytes more entity rest s of h lacks w = whole_two level i bytes more entity rest of h lacks w
-row_two level operator.Delta i e bit bytes more entity rest s of h lacks w = delta_two level i e bytes more entity rest of h lacks w
-row_two level operator.Default i e false bytes more entity rest s of h lacks w = absurd cc
-row_two level operator.Copy i e false bytes more entity rest s of h lacks w = absurd cc
-row_two level operator.Increment i e bit bytes more entity rest s of h lacks w = absurd cc
-row_two level operator.Tail i e bit bytes more entity rest s of h lacks w = absurd cc
-row_two level operator.Constant i e bit bytes more entity rest s of h lacks w = absurd cc
+row_two level operator.Plain i e bit bytes more entity rest s other of h lacks w = whole_two level i bytes more entity rest of h lacks w
+row_two level operator.Delta i e bit bytes more entity rest s other of h lacks w = delta_two level i e bytes more entity rest of h lacks w
+row_two level operator.Tail i e bit bytes more entity rest s other of h lacks w = absurd (other refl)
+row_two level operator.Constant i e bit bytes more entity rest s other of h lacks w = absurd cc
+row_two level o i e true bytes more entity rest s other of h lacks w = whole_two level i bytes more entity rest of h lacks w
+row_two level o i e false bytes more entity rest s other of h lacks w = absurd cc
 
 -- no check of a part is for want of bytes
 abbrev with_rest : List ℕ → Option Scalar → Result (Option Scalar × List ℕ) FieldFault
@@ -175,78 +173,54 @@ with_rest rest v = Ok (v, rest)
 abbrev if_within : Bool → FieldFault → Scalar → Result (Option Scalar) FieldFault
 if_within within f v = if within then Ok (Some v) else Err f
 
-range_no_want : (within : Bool) (v : Scalar) (rest : List ℕ) → (if_within within fault.R1 v >>= with_rest rest) ≡ Err fault.NeedMore → ⊥
-range_no_want true v rest h = cc
-range_no_want false v rest h = cc
-
-limit_no_want : (within : Bool) (v : Scalar) (rest : List ℕ) → (if_within within fault.Limit v >>= with_rest rest) ≡ Err fault.NeedMore → ⊥
-limit_no_want true v rest h = cc
-limit_no_want false v rest h = cc
+if_no_want : (within : Bool) (f : FieldFault) (v : Scalar) (rest : List ℕ) → (f ≡ fault.NeedMore → ⊥) → (if_within within f v >>= with_rest rest) ≡ Err fault.NeedMore → ⊥
+if_no_want true f v rest other h = cc
+if_no_want false f v rest other h = other cc
 
 checked_no_want : (p : Part) (o : Option Scalar) (rest : List ℕ) → (part_checked p o >>= with_rest rest) ≡ Err fault.NeedMore → ⊥
 unfolding part_checked
 checked_no_want p None rest h = cc
-checked_no_want part.Exponent (Some v) rest h = range_no_want (within_part part.Exponent v) v rest h
-checked_no_want part.Length (Some v) rest h = limit_no_want (within_part part.Length v) v rest h
-checked_no_want part.Whole (Some v) rest h = cc
-checked_no_want part.Mantissa (Some v) rest h = cc
+checked_no_want part.Exponent (Some v) rest h = if_no_want (within_part part.Exponent v) fault.R1 v rest (λ e. cc) h
+checked_no_want part.Length (Some v) rest h = if_no_want (within_part part.Length v) fault.Limit v rest (λ e. cc) h
+checked_no_want p (Some v) rest h = cc
 
 checked_waits : (p : Part) (r : Result (Option Scalar × List ℕ) FieldFault) → (r >>= λ x. part_checked p x.0 >>= with_rest x.1) ≡ Err fault.NeedMore → r ≡ Err fault.NeedMore
 checked_waits p (Ok x) h = absurd (checked_no_want p x.0 x.1 h)
 checked_waits p (Err f) h = h
 
--- the field waits on
-pub unit_delta_waits : (level : Level) (i : FieldPart) (e : Entry) (bit : Bool) (bytes more entity rest : List ℕ) → i.operator ≡ operator.Delta → IsUnitKind i.kind → entity_at 10 bytes ≡ Ok (entity, rest) → part_at level i.kind (rest ++ more) ≡ Err fault.NeedMore
-    → field_at level i e bit bytes ≡ Err fault.NeedMore → field_at level i e bit (bytes ++ more) ≡ Err fault.NeedMore
-unfolding field_at
-unit_delta_waits level i e bit bytes more entity rest is of h lacks w =
-    let row = checked_waits i.part (row_at level i.operator i e bit bytes) w in
-    rw (delta_row level i e bit (bytes ++ more) is of ∙ number_waits level i.presence bytes more entity rest (behind_removal level i e) h (λ z. removal_waits level i e z rest more lacks) (sym (delta_row level i e bit bytes is of) ∙ row)) refl
-
-pub decimal_waits : (level : Level) (i : FieldPart) (e : Entry) (bit : Bool) (bytes more entity rest : List ℕ) → sends_two i.operator bit ≡ true → i.kind ≡ kind.Decimal → entity_at 10 bytes ≡ Ok (entity, rest) → entity_at 10 (rest ++ more) ≡ Err wire.NeedMore
-    → field_at level i e bit bytes ≡ Err fault.NeedMore → field_at level i e bit (bytes ++ more) ≡ Err fault.NeedMore
-unfolding field_at
-decimal_waits level i e bit bytes more entity rest s of h lacks w =
-    rw (row_two level i.operator i e bit bytes more entity rest s of h lacks (checked_waits i.part (row_at level i.operator i e bit bytes) w)) refl
+row_waits : (level : Level) (i : FieldPart) (e : Entry) (bit : Bool) (bytes more entity rest : List ℕ) → HasSecond i bit → entity_at 10 bytes ≡ Ok (entity, rest) → SecondWaits level i.kind (rest ++ more)
+    → row_at level i.operator i e bit bytes ≡ Err fault.NeedMore → row_at level i.operator i e bit (bytes ++ more) ≡ Err fault.NeedMore
+row_waits level i e bit bytes more entity rest (inl two) h lacks w = row_two level i.operator i e bit bytes more entity rest two.2 two.1 two.0 h (lacks.mantissa two.0) w
+row_waits level i e bit bytes more entity rest (inr two) h lacks w =
+    delta_row level i e bit (bytes ++ more) two.1 two.0
+    ∙ number_waits level i.presence bytes more entity rest (behind_removal level i e) h (λ z. removal_waits level i e z rest more lacks.units) (sym (delta_row level i e bit bytes two.1 two.0) ∙ w)
 
 -- a slice up to the end
 slice_end : (xs : List ℕ) (n : ℕ) → take (length xs - n) (drop n xs) ≡ drop n xs
 slice_end xs n = take_all (length xs - n) (drop n xs) (let size = length-drop n xs in omega (arith, size))
 
--- what is lacking of the entity behind the first
-pub new_part_lacks : (limit : ℕ) (bytes entity : List ℕ) (n : ℕ) (l : Lack) → entity_at 10 bytes ≡ Ok (entity, drop n bytes) → length (take (length bytes - n) (drop n bytes)) + l.most < limit
-    → (l.until_stop ≡ true) × AreUnstopped (take (length bytes - n) (drop n bytes)) → Wants (entity_at limit) wire.NeedMore (drop n bytes) l
-new_part_lacks limit bytes entity n l h few stop = λ more lacking.
-    let unstopped = (rw (slice_end bytes n) at stop).1 in
-    let size = length-append (drop n bytes) more in
-    let most = rw (slice_end bytes n) at few in
-    let short = lacking.few in
-    entity_waits limit (drop n bytes ++ more) (both_unstopped (drop n bytes) more unstopped (lacking.unstopped stop.0)) (omega (arith, size, most, short))
+-- the entity behind the first, or the vector there
+pub entity_behind : (level : Level) (p : FieldPart) {bytes : List ℕ} {l : Lack} → EntityLacks p.number (whole_limit p.kind) bytes l → SecondLacks level p bytes l
+entity_behind level p lacks = record {
+  lacks = λ more lacking. let h = entity_wants lacks more lacking in record { units = part_waits level p.kind _ h; mantissa = λ is. mantissa_waits level _ (rw is at h) };
+  number = lacks.number;
+}
 
--- of characters, of a vector's length, and of a vector
-module _ (level : Level) (bytes entity : List ℕ) (n : ℕ) where
-  pub new_text_lacks : (o : Option Lack) → entity_at 10 bytes ≡ Ok (entity, drop n bytes) → IfSome o (λ l. length (take (length bytes - n) (drop n bytes)) + l.most < 65540)
-      → IfSome o (λ l. (l.until_stop ≡ true) × AreUnstopped (take (length bytes - n) (drop n bytes))) → IfSome o (WantsBehind (part_at level kind.Ascii) fault.NeedMore bytes)
-  new_text_lacks None h few stop = tt
-  new_text_lacks (Some l) h few stop = (entity, drop n bytes, h, λ more lacking. new_text_waits level (drop n bytes ++ more) (new_part_lacks 65540 bytes entity n l h few stop more lacking))
+pub vector_behind : (level : Level) (p : FieldPart) (bytes : List ℕ) (l : Lack) → VectorLacks level p.kind Mandatory p.number bytes l → SecondLacks level p bytes l
+vector_behind level p bytes l h = record {
+  lacks = λ more lacking. record { units = new_vector_waits level p.kind (bytes ++ more) (h.lacks more lacking); mantissa = λ is. absurd (none is h.vector) };
+  number = h.number;
+}
+  where
+    none : p.kind ≡ kind.Decimal → IsVectorKind p.kind → ⊥
+    none is (inl of) = let k : kind.Decimal ≡ kind.Unicode = sym is ∙ of in cc
+    none is (inr of) = let k : kind.Decimal ≡ kind.Bytes = sym is ∙ of in cc
 
-  pub new_length_lacks : (k : Kind) (l : Lack) → IsVectorKind k → entity_at 10 bytes ≡ Ok (entity, drop n bytes) → length (take (length bytes - n) (drop n bytes)) + l.most < 10
-      → (l.until_stop ≡ true) × AreUnstopped (take (length bytes - n) (drop n bytes)) → WantsBehind (part_at level k) fault.NeedMore bytes l
-  new_length_lacks k l (inl is) h few stop = (entity, drop n bytes, h, λ more lacking. new_vector_waits level k (drop n bytes ++ more) (rw is (unicode_begins level Mandatory _ (new_part_lacks 10 bytes entity n l h few stop more lacking))))
-  new_length_lacks k l (inr is) h few stop = (entity, drop n bytes, h, λ more lacking. new_vector_waits level k (drop n bytes ++ more) (rw is (bytes_begin level Mandatory _ (new_part_lacks 10 bytes entity n l h few stop more lacking))))
-
-  pub new_vector_lacks : (k : Kind) (o : Option Lack) → entity_at 10 bytes ≡ Ok (entity, drop n bytes) → IfSome o (λ l. IsVectorKind k × Wants (units_at level k Mandatory) fault.NeedMore (take (length bytes - n) (drop n bytes)) l)
-      → IfSome o (WantsBehind (part_at level k) fault.NeedMore bytes)
-  new_vector_lacks k None h lacks = tt
-  new_vector_lacks k (Some l) h lacks = (entity, drop n bytes, h, λ more lacking. new_vector_waits level k (drop n bytes ++ more) ((rw (slice_end bytes n) at lacks.1) more lacking))
-
--- of the whole field
-pub unit_lacks : (level : Level) (i : FieldPart) (k : Kind) (bit : Bool) (bytes : List ℕ) (o : Option Lack) → i.operator ≡ operator.Delta → i.kind ≡ k → IsUnitKind k → IfSome o (WantsBehind (part_at level k) fault.NeedMore bytes)
-    → IfSome o (LacksWaiting level i bit bytes)
-unit_lacks level i k bit bytes None is of u h = tt
-unit_lacks level i k bit bytes (Some l) is of u h = λ e waits more lacking. unit_delta_waits level i e bit bytes more h.0 h.1 is (rw of u) h.2 (rw of (h.3 more lacking)) waits
-
-pub decimal_lacks : (level : Level) (i : FieldPart) (bit : Bool) (bytes entity : List ℕ) (n : ℕ) (o : Option Lack) → sends_two i.operator bit ≡ true → i.kind ≡ kind.Decimal → entity_at 10 bytes ≡ Ok (entity, drop n bytes)
-    → IfSome o (λ l. length (take (length bytes - n) (drop n bytes)) + l.most < 10) → IfSome o (λ l. (l.until_stop ≡ true) × AreUnstopped (take (length bytes - n) (drop n bytes))) → IfSome o (LacksWaiting level i bit bytes)
-decimal_lacks level i bit bytes entity n None s of h few stop = tt
-decimal_lacks level i bit bytes entity n (Some l) s of h few stop = λ e waits more lacking. decimal_waits level i e bit bytes more entity (drop n bytes) s of h (new_part_lacks 10 bytes entity n l h few stop more lacking) waits
+-- the field waits on
+pub second_lacks : {level : Level} {p : FieldPart} {e : Entry} {bit : Bool} {bytes : List ℕ} {l : Lack} (entity : List ℕ) (n : ℕ) → HasSecond p bit → entity_at 10 bytes ≡ Ok (entity, drop n bytes) → SecondLacks level p (take (length bytes - n) (drop n bytes)) l
+    → field_at level p e bit bytes ≡ Err fault.NeedMore → FieldLacks level p e bit bytes l
+unfolding field_at
+second_lacks {level} {p} {e} {bit} {bytes} entity n two h behind w = record {
+  lacks = λ more lacking. rw (row_waits level p e bit bytes more entity (drop n bytes) two h ((rw (slice_end bytes n) at behind).lacks more lacking) (checked_waits p.part (row_at level p.operator p e bit bytes) w)) refl;
+  number = behind.number;
+}

@@ -1,5 +1,5 @@
 -- What a receiver is told is true of the parts of a set and of the entries along a stream, and what it says of values.
-use Rattle.std.proofs.Common.{◌≡◌, ℕ, Bool, true, false, List, [], Option, Some, None, Ok, refl, sym, ap, subst, ◌∙◌, append-nil, drop, get_or, ◌<◌}
+use Rattle.std.proofs.Common.{◌≡◌, ℕ, Bool, true, false, List, [], Option, Some, None, Ok, refl, sym, ap, subst, subst₂, ◌∙◌, append-nil, drop, get_or, ◌<◌}
 use Rattle.std.specs.Prelude.{IfSome, IsTrue, cond}
 use Rattle.std.specs.FinMap as map
 use Rattle.std.specs.Ordering.{is_eq}
@@ -17,13 +17,13 @@ use Rattle.fast_value.specs.declared.kind.Part.TheVariants as part
 use Rattle.fast_value.specs.declared.kind.Presence.{Presence}
 use Rattle.fast_value.specs.declared.kind.Presence.TheVariants.{Mandatory}
 use Rattle.fast_value.specs.declared.scalar.Scalar.{Scalar}
-use Rattle.fast_value.specs.declared.scalar.Scalar.TheVariants.{U32, I32, U64, I64, Decimal, Ascii, Unicode, Bytes}
+use Rattle.fast_value.specs.declared.scalar.Scalar.TheVariants.{Unicode}
 use Rattle.fast_value.specs.Scalar.{is_of, IsScalar}
 use Rattle.fast_template.specs.declared.resolved.FieldPart.{FieldPart}
 use Rattle.fast_template.specs.Resolved.{part_needs_bit}
 use Rattle.fast_template.specs.TemplateSets.{IsInitial, IsPartOf}
 use Rattle.fast_dictionary.specs.declared.entry.Entry.{Entry}
-use Rattle.fast_dictionary.specs.declared.entry.Entry.TheVariants.{Undefined, Empty, Assigned}
+use Rattle.fast_dictionary.specs.declared.entry.Entry.TheVariants.{Undefined, Assigned}
 use Rattle.fast_dictionary.specs.Dictionary.{Dictionary, entry_at, entry_at-empty, entry_at-set_entry}
 use Rattle.fast_field.specs.declared.fault.FieldFault.{FieldFault}
 use Rattle.fast_field.specs.Bases.{next}
@@ -45,34 +45,20 @@ use Rattle.fast_walk.specs.Told.{HoldScalars, IsKeptScalar, KeepsScalar, KeepSca
 -- ---- entries within their types
 
 scalar_kept : (v : Scalar) → IsScalar v → IsKeptScalar v
-scalar_kept (U32 n) h = h
-scalar_kept (I32 z) h = h
-scalar_kept (U64 n) h = h
-scalar_kept (I64 z) h = h
-scalar_kept (Decimal exponent mantissa) h = h
-scalar_kept (Ascii s) h = h
 scalar_kept (Unicode s) h = (h.0, (h.1, is_utf8-from_IsUtf8 s h.2))
-scalar_kept (Bytes s) h = h
+scalar_kept v h = h
 
 kept_scalar : (v : Scalar) → IsKeptScalar v → IsScalar v
-kept_scalar (U32 n) h = h
-kept_scalar (I32 z) h = h
-kept_scalar (U64 n) h = h
-kept_scalar (I64 z) h = h
-kept_scalar (Decimal exponent mantissa) h = h
-kept_scalar (Ascii s) h = h
 kept_scalar (Unicode s) h = (h.0, h.1.0, IsUtf8-from_is_utf8 s h.1.1)
-kept_scalar (Bytes s) h = h
+kept_scalar v h = h
 
 entry_kept : (e : Entry) → HoldsScalar e → KeepsScalar e
-entry_kept Undefined h = tt
-entry_kept Empty h = tt
 entry_kept (Assigned v) h = scalar_kept v h
+entry_kept e h = h
 
 pub kept_entry : (e : Entry) → KeepsScalar e → HoldsScalar e
-kept_entry Undefined h = tt
-kept_entry Empty h = tt
 kept_entry (Assigned v) h = kept_scalar v h
+kept_entry e h = h
 
 pub are_kept : (d : Dictionary) → HoldScalars d → KeepScalars d
 are_kept d h k = entry_kept (entry_at d k) (h k)
@@ -92,8 +78,7 @@ either_holds false e f h k = k
 
 with_entry_holds : (d : Dictionary) (k : Key) (e : Entry) → HoldScalars d → HoldsScalar e → HoldScalars (with_entry d k e)
 with_entry_holds d k Undefined all one = all
-with_entry_holds d k Empty all one = λ q. subst HoldsScalar (sym (entry_at-set_entry d k Empty q)) (either_holds (is_eq (key_cmp q k)) Empty (entry_at d q) one (all q))
-with_entry_holds d k (Assigned v) all one = λ q. subst HoldsScalar (sym (entry_at-set_entry d k (Assigned v) q)) (either_holds (is_eq (key_cmp q k)) (Assigned v) (entry_at d q) one (all q))
+with_entry_holds d k e all one = λ q. subst HoldsScalar (sym (entry_at-set_entry d k e q)) (either_holds (is_eq (key_cmp q k)) e (entry_at d q) one (all q))
 
 -- what has a form is written as a value of its type
 pub form_holds : (p : FieldPart) (d : Dictionary) (bit : Bool) (b : List ℕ) (v : Option Scalar) → IsFieldPart p → HoldScalars d → Form Usual p (entry_at d p.key) bit b v → HoldScalars (written p d v)
@@ -112,31 +97,16 @@ kept_initial p None h = tt
 kept_initial p (Some v) h = (h.0, h.1.0, kept_scalar v h.1.1)
 
 pub part_told : (part : Part) (kind : Kind) (presence : Presence) (p : FieldPart) → IsPartOf part kind presence p → IsTold part kind p
-part_told part kind presence p h = record {
-  part_is = h.part_is;
-  kind_is = h.kind_is;
-  operator_applies = h.typed.operator_applies;
-  initial_fits = initial_kept p p.initial h.typed.initial_fits;
-  constant_has_value = h.typed.constant_has_value;
-  default_has_value = h.typed.default_has_value;
-}
+part_told part kind presence p h = assumption (initial_kept p p.initial h.typed.initial_fits)
 
 pub told_part : (part : Part) (kind : Kind) (p : FieldPart) → IsKindOfPart part kind → IsTold part kind p → IsFieldPart p
-told_part part kind p k h = record {
-  typed = record {
-    operator_applies = h.operator_applies;
-    initial_fits = kept_initial p p.initial h.initial_fits;
-    constant_has_value = h.constant_has_value;
-    default_has_value = h.default_has_value;
-  };
-  kind_of_part = rw (h.part_is, h.kind_is) k;
-}
-
-pub identifier_is : IsFieldPart identifier
-identifier_is = record { typed = record { operator_applies = refl; initial_fits = tt; constant_has_value = λ e. absurd cc; default_has_value = λ e m. absurd cc }; kind_of_part = tt }
+told_part part kind p k h = assumption (kept_initial p p.initial h.initial_fits, subst₂ IsKindOfPart (sym h.part_is) (sym h.kind_is) k)
 
 pub identifier_told : IsTold part.Whole kind.UInt32 identifier
 identifier_told = record { part_is = refl; kind_is = refl; operator_applies = refl; initial_fits = tt; constant_has_value = λ e. absurd cc; default_has_value = λ e m. absurd cc }
+
+pub identifier_is : IsFieldPart identifier
+identifier_is = told_part part.Whole kind.UInt32 identifier tt identifier_told
 
 -- ---- what was taken
 
@@ -165,20 +135,6 @@ taken_keeps level p bit d e v bytes rest fits is asked took kept =
     let f = taken_form level p bit d e v bytes rest fits is asked took in
     are_kept e (subst HoldScalars (sym took.entry) (form_holds p d bit f.bytes v is (kept_hold d kept) f.form))
 
--- a value is of its part's type
-pub taken_kind : (level : Level) (p : FieldPart) (bit : Bool) (d e : Dictionary) (v : Scalar) (bytes rest : List ℕ) → IsBytes bytes → IsFieldPart p → IsBitOf p bit
-    → Took level p bit d e (Some v) bytes rest → IsTrue (is_of p.kind v)
-taken_kind level p bit d e v bytes rest fits is asked took =
-    let f = taken_form level p bit d e (Some v) bytes rest fits is asked took in
-    value_kind p is.typed (entry_at d p.key) bit f.bytes v f.form
-
--- a mandatory part has a value
-pub taken_there : (level : Level) (p : FieldPart) (bit : Bool) (d e : Dictionary) (bytes rest : List ℕ) → IsBytes bytes → IsFieldPart p → IsBitOf p bit
-    → p.presence ≡ Mandatory → Took level p bit d e None bytes rest → ⊥
-taken_there level p bit d e bytes rest fits is asked mandatory took =
-    let f = taken_form level p bit d e None bytes rest fits is asked took in
-    value_there p is.typed mandatory (entry_at d p.key) bit f.bytes f.form
-
 -- ---- the same at a place in a slice
 
 -- the bit of a part that needs one, or else 1
@@ -190,11 +146,18 @@ module _ (level : Level) (p : FieldPart) (bit : Bool) (d e : Dictionary) (bytes 
       → Took level p bit d e v (drop at bytes) (drop next bytes) → KeepScalars d → KeepScalars e
   told_keeps part kind v k told took = taken_keeps level p bit d e v (drop at bytes) (drop next bytes) (bytes_from bytes at fits) (told_part part kind p k told) asked took
 
+  -- a value is of its part's type
   pub told_kind : (part : Part) (kind : Kind) (v : Scalar) → IsKindOfPart part kind → IsTold part kind p
       → Took level p bit d e (Some v) (drop at bytes) (drop next bytes) → IsTrue (is_of kind v)
   told_kind part kind v k told took =
-      subst (λ (k : Kind). IsTrue (is_of k v)) told.kind_is (taken_kind level p bit d e v (drop at bytes) (drop next bytes) (bytes_from bytes at fits) (told_part part kind p k told) asked took)
+      let is = told_part part kind p k told in
+      let f = taken_form level p bit d e (Some v) (drop at bytes) (drop next bytes) (bytes_from bytes at fits) is asked took in
+      subst (λ (k : Kind). IsTrue (is_of k v)) told.kind_is (value_kind p is.typed (entry_at d p.key) bit f.bytes v f.form)
 
+  -- a mandatory part has a value
   pub told_there : (part : Part) (kind : Kind) → IsKindOfPart part kind → IsTold part kind p → p.presence ≡ Mandatory
       → Took level p bit d e None (drop at bytes) (drop next bytes) → ⊥
-  told_there part kind k told mandatory took = taken_there level p bit d e (drop at bytes) (drop next bytes) (bytes_from bytes at fits) (told_part part kind p k told) asked mandatory took
+  told_there part kind k told mandatory took =
+      let is = told_part part kind p k told in
+      let f = taken_form level p bit d e None (drop at bytes) (drop next bytes) (bytes_from bytes at fits) is asked took in
+      value_there p is.typed mandatory (entry_at d p.key) bit f.bytes f.form

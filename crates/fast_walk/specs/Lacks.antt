@@ -1,7 +1,7 @@
 -- How many bytes more a piece lacks at least that has begun.
-use Rattle.std.specs.Prelude.{◌≡◌, ◌≤◌, ◌<◌, ◌+◌, ℕ, Bool, true, false, List, [], ◌++◌, length, Result, Ok, Err, ◌⊎◌, pos}
+use Rattle.std.specs.Prelude.{◌≡◌, ◌≢◌, ◌≤◌, ◌<◌, ◌+◌, ℕ, Bool, true, false, List, [], ◌++◌, length, Result, Ok, Err, ◌⊎◌, pos}
 use Rattle.std.specs.List.{AllByRecursion}
-use Rattle.fast_wire.specs.Reading.{◌>>=◌, entity_at, unsigned_at, unsigned_nullable_at}
+use Rattle.fast_wire.specs.Reading.{◌>>=◌, unsigned_at, unsigned_nullable_at}
 use Rattle.fast_wire.specs.declared.fault.WireFault.{WireFault}
 use Rattle.fast_wire.specs.declared.nullable.Nullable.{Nullable}
 use Rattle.fast_wire.specs.declared.nullable.Nullable.TheVariants.{Value}
@@ -15,7 +15,7 @@ use Rattle.fast_template.specs.declared.resolved.FieldPart.{FieldPart}
 use Rattle.fast_template.specs.Resolved.{Instructions, list_of, then_instruction, whole_field, field_in_parts, sequence_of}
 use Rattle.fast_dictionary.specs.declared.entry.Entry.{Entry}
 use Rattle.fast_dictionary.specs.Dictionary.{Dictionary}
-use Rattle.fast_field.specs.FieldReading.{field_at}
+use Rattle.fast_field.specs.FieldReading.{field_at, mantissa_entity_at, part_at, units_at}
 use Rattle.fast_field.specs.declared.fault.FieldFault.TheVariants.{NeedMore}
 use Rattle.fast_stream.specs.declared.fault.Cause.TheVariants.{Truncated}
 use Rattle.fast_stream.specs.Reading.{Reads, stopped}
@@ -42,14 +42,6 @@ pub record IsLacking (l : Lack) (more : List ℕ) : Type 0 where
 abbrev pub Wants : {A E : Type 0} → (List ℕ → Result A E) → E → List ℕ → Lack → Type 0
 Wants read want bytes l = (more : List ℕ) → IsLacking l more → read (bytes ++ more) ≡ Err want
 
--- the same behind the entity that comes first
-abbrev pub WantsBehind : {A E : Type 0} → (List ℕ → Result A E) → E → List ℕ → Lack → Type 0
-WantsBehind read want bytes l = (entity rest : List ℕ) × (entity_at 10 bytes ≡ Ok (entity, rest)) × Wants read want rest l
-
--- the same of a field that waits, whatever its entry is
-abbrev pub LacksWaiting : Level → FieldPart → Bool → List ℕ → Lack → Type 0
-LacksWaiting level p bit bytes l = (e : Entry) → field_at level p e bit bytes ≡ Err NeedMore → Wants (field_at level p e bit) NeedMore bytes l
-
 -- whether something of a field stands in the stream under this bit
 abbrev pub sends : Operator → Bool → Bool
 sends operator.Plain bit = true
@@ -59,18 +51,6 @@ sends operator.Increment bit = bit
 sends operator.Tail bit = bit
 sends operator.Delta bit = true
 sends operator.Constant bit = false
-
--- whether what stands there is a string, a vector or a tail
-abbrev pub sends_units : Operator → Bool → Bool
-sends_units operator.Delta bit = false
-sends_units operator.Increment bit = false
-sends_units o bit = sends o bit
-
--- whether a decimal in one piece stands there, with a number behind its first
-abbrev pub sends_two : Operator → Bool → Bool
-sends_two operator.Increment bit = false
-sends_two operator.Tail bit = false
-sends_two o bit = sends o bit
 
 -- the most bytes of the entity that what stands in the stream begins with, in front of its last
 abbrev pub whole_most : Kind → ℕ
@@ -99,6 +79,36 @@ IsUnitKind k = (k ≡ kind.Ascii) ⊎ IsVectorKind k
 abbrev pub count_at : Presence → List ℕ → Result (Nullable ℕ × List ℕ) WireFault
 count_at Mandatory bytes = unsigned_at bytes >>= λ n. Ok (Value n.0, n.1)
 count_at Optional bytes = unsigned_nullable_at bytes
+
+-- another entity stands behind the first: in a decimal in one piece, and behind a removal
+abbrev pub HasSecond : FieldPart → Bool → Type 0
+HasSecond p bit = ((p.kind ≡ kind.Decimal) × (p.operator ≢ operator.Tail) × (sends p.operator bit ≡ true)) ⊎ (IsUnitKind p.kind × (p.operator ≡ operator.Delta))
+
+-- so it waits
+pub record SecondWaits (level : Level) (k : Kind) (bytes : List ℕ) : Type 0 where
+  pub units : part_at level k bytes ≡ Err NeedMore
+  pub mantissa : k ≡ kind.Decimal → mantissa_entity_at level bytes ≡ Err NeedMore
+
+-- ---- what is lacking of an entity of at most so many bytes, of a vector, of a field, and behind its first entity
+
+pub record EntityLacks (of limit : ℕ) (bytes : List ℕ) (l : Lack) : Type 0 where
+  pub few : length bytes + l.most < limit
+  pub begun : AreUnstopped bytes
+  pub until : l.until_stop ≡ true
+  pub number : l.number ≡ of
+
+pub record VectorLacks (level : Level) (k : Kind) (p : Presence) (of : ℕ) (bytes : List ℕ) (l : Lack) : Type 0 where
+  pub vector : IsVectorKind k
+  pub lacks : Wants (units_at level k p) NeedMore bytes l
+  pub number : l.number ≡ of
+
+pub record FieldLacks (level : Level) (p : FieldPart) (e : Entry) (bit : Bool) (bytes : List ℕ) (l : Lack) : Type 0 where
+  pub lacks : Wants (field_at level p e bit) NeedMore bytes l
+  pub number : l.number ≡ p.number
+
+pub record SecondLacks (level : Level) (p : FieldPart) (bytes : List ℕ) (l : Lack) : Type 0 where
+  pub lacks : (more : List ℕ) → IsLacking l more → SecondWaits level p.kind (bytes ++ more)
+  pub number : l.number ≡ p.number
 
 -- a reading stops at the first of so many bytes, for want of more
 abbrev pub StopsShort : {A : Type 0} → ℕ → ℕ → Reads A → Type 0

@@ -6,15 +6,13 @@
 
 ghost use Rattle.std.specs.Prelude.{◌≡◌, ◌≤◌, ◌<◌, ◌+◌, ◌++◌, [], ℕ, Bool, true, false, List, IfSome, IsTrue, Err, Ok, length, drop};
 ghost use Rattle.fast_wire.specs.Level.{judge, overlong_unsigned as overlong_unsigned_of};
-ghost use Rattle.fast_wire.specs.declared.level.Level.{Level as LevelOf};
 ghost use Rattle.fast_wire.specs.declared.nullable.Nullable.TheVariants.{Value};
 ghost use Rattle.fast_template.specs.Resolved.{part_needs_bit as part_needs_bit_of};
 ghost use Rattle.fast_stream.specs.Bits.{bit_for};
 ghost use Rattle.fast_dictionary.specs.declared.entry.Entry.{Entry};
 ghost use Rattle.fast_dictionary.specs.Dictionary.{Dictionary, entry_of};
 ghost use Rattle.fast_field.specs.Faults.{field_fault};
-ghost use Rattle.fast_field.specs.FieldReading.{field_at, part_at, units_at};
-ghost use Rattle.fast_walk.specs.Lacks.{AreUnstopped, IsNextPart, IsVectorKind, Lacks, LacksWaiting, WalkLacks, Wants, WantsBehind, WantsByte, count_at, first_limit as first_limit_of, sends, sends_two as sends_two_of, sends_units as sends_units_of};
+ghost use Rattle.fast_walk.specs.Lacks.{AreUnstopped, EntityLacks, FieldLacks, HasSecond, IsNextPart, Lacks, SecondLacks, VectorLacks, WalkLacks, WantsByte, count_at, first_limit as first_limit_of, sends};
 
 use crate::bits::first_for;
 use crate::traversal::{Stage, Traversal};
@@ -106,9 +104,7 @@ fn first_limit(operator: Operator, kind: Kind) -> usize
 // What an entity of at most so many bytes lacks: its stop bit.
 #[inline(always)]
 fn entity_lack(number: u32, limit: usize, bytes: &[u8]) -> Option<Lack>
-    ensures few { IfSome result (λ l. length bytes.now + l.most < limit) }
-    ensures unstopped { IfSome result (λ l. (l.until_stop ≡ true) × AreUnstopped bytes.now) }
-    ensures number { IfSome result (λ l. l.number ≡ number) }
+    ensures { IfSome result (EntityLacks number limit bytes.now) }
 {
     if bytes.len() >= limit || has_stop(bytes) {
         return None;
@@ -151,22 +147,7 @@ fn length_of(presence: Presence, bytes: &[u8]) -> Option<(u128, usize)>
     }
 }
 
-// What a vector lacks whose length has come: the rest of so many bytes.
-fn vector_lack(number: u32, count: u128, have: usize) -> Option<Lack>
-    ensures short { IfSome result (λ l. (count ≤ 65535) × (have + l.most < count)) }
-    ensures number { IfSome result (λ l. l.number ≡ number) }
-{
-    if count > VECTOR_LIMIT || count <= have as u128 {
-        return None;
-    }
-    Some(Lack {
-        number,
-        most: count as usize - have - 1,
-        until_stop: false,
-    })
-}
-
-// What a vector lacks whose length may have come.
+// What a vector lacks whose length may have come: the rest of so many bytes.
 fn units_lack(
     level: Level,
     number: u32,
@@ -174,121 +155,76 @@ fn units_lack(
     presence: Presence,
     bytes: &[u8],
 ) -> Option<Lack>
-    ensures lacks { IfSome result (λ l. IsVectorKind kind × Wants (units_at level kind presence) FieldFault.NeedMore bytes.now l) }
-    ensures number { IfSome result (λ l. l.number ≡ number) }
+    ensures { IfSome result (VectorLacks level kind presence number bytes.now) }
 {
     match kind {
         Kind::Unicode | Kind::Bytes if is_fit_length(level, bytes) => {
             match length_of(presence, bytes) {
                 None => None,
-                Some((count, next)) => vector_lack(number, count, bytes.len() - next),
+                Some((count, next)) => {
+                    let have = bytes.len() - next;
+                    if count > VECTOR_LIMIT || count <= have as u128 {
+                        return None;
+                    }
+                    Some(Lack {
+                        number,
+                        most: count as usize - have - 1,
+                        until_stop: false,
+                    })
+                }
             }
         }
         _ => None,
     }
 }
 
-// Whether a string, a vector or a tail stands in the stream under this bit.
-fn sends_units(operator: Operator, bit: bool) -> bool
-    ensures { result ≡ sends_units_of operator bit }
+/// What a field lacks, of which these bytes have come.
+pub(crate) fn field_lack(level: Level, part: &FieldPart, bit: bool, bytes: &[u8]) -> Option<Lack>
+    ensures { IfSome result (λ l. (e : Entry) → FieldLacks level part.now e bit bytes.now l) }
 {
-    match operator {
-        Operator::Delta | Operator::Increment => false,
-        _ => is_sent(operator, bit),
+    if !is_sent(part.operator, bit) {
+        return None;
     }
-}
-
-// What a field lacks whose first entity has come.
-#[tactic(auto, using(crate::proofs::Lacking::field_waits))]
-fn rest_lack(level: Level, part: &FieldPart, bit: bool, bytes: &[u8]) -> Option<Lack>
-    ensures lacks { IfSome result (λ l. (e : Entry) → Wants (field_at level part.now e bit) FieldFault.NeedMore bytes.now l) }
-    ensures number { IfSome result (λ l. l.number ≡ part.now.number) }
-{
-    if sends_units(part.operator, bit) {
-        units_lack(level, part.number, part.kind, part.presence, bytes)
-    } else {
-        None
-    }
-}
-
-// What characters lack that stand behind a removal.
-#[inline(always)]
-fn new_text_lack(number: u32, bytes: &[u8]) -> Option<Lack>
-    ensures lacks { (level : LevelOf) → IfSome result (WantsBehind (part_at level Kind.Ascii) FieldFault.NeedMore bytes.now) }
-    ensures number { IfSome result (λ l. l.number ≡ number) }
-{
-    match entity_end(bytes, 0, NUMBER_LIMIT) {
-        Err(_) => None,
-        Ok(next) => entity_lack(number, TEXT_LIMIT, &bytes[next..]),
-    }
-}
-
-// What a vector lacks that stands behind a removal.
-fn new_vector_lack(level: Level, number: u32, kind: Kind, bytes: &[u8]) -> Option<Lack>
-    requires vector { IsVectorKind kind }
-    ensures lacks { IfSome result (WantsBehind (part_at level kind) FieldFault.NeedMore bytes.now) }
-    ensures number { IfSome result (λ l. l.number ≡ number) }
-{
-    match entity_end(bytes, 0, NUMBER_LIMIT) {
-        Err(_) => None,
-        Ok(next) => {
-            let behind = &bytes[next..];
-            if let Some(lack) = entity_lack(number, NUMBER_LIMIT, behind) {
-                return Some(lack);
-            }
-            units_lack(level, number, kind, Presence::Mandatory, behind)
-        }
-    }
-}
-
-// What the new part of a string or a vector lacks of which the removal has come.
-#[inline(always)]
-fn new_part_lack(level: Level, part: &FieldPart, bytes: &[u8]) -> Option<Lack>
-    ensures lacks { (bit : Bool) → IfSome result (LacksWaiting level part.now bit bytes.now) }
-    ensures number { IfSome result (λ l. l.number ≡ part.now.number) }
-{
-    match part.operator {
-        Operator::Delta => match part.kind {
-            Kind::Ascii => new_text_lack(part.number, bytes),
-            Kind::Unicode => new_vector_lack(level, part.number, Kind::Unicode, bytes),
-            Kind::Bytes => new_vector_lack(level, part.number, Kind::Bytes, bytes),
-            _ => None,
+    match entity_lack(part.number, first_limit(part.operator, part.kind), bytes) {
+        Some(lack) => Some(lack),
+        None => match part.operator {
+            Operator::Delta => None,
+            _ => units_lack(level, part.number, part.kind, part.presence, bytes),
         },
-        _ => None,
     }
 }
 
-// Whether a decimal in one piece would stand in the stream under this bit, with a number behind its first.
-fn sends_two(operator: Operator, bit: bool) -> bool
-    ensures { result ≡ sends_two_of operator bit }
-{
-    match operator {
-        Operator::Increment | Operator::Tail => false,
-        _ => is_sent(operator, bit),
-    }
-}
-
-// What the mantissa of a decimal in one piece lacks, of which the exponent has come, or their differences.
+// Whether another entity stands behind the first of a field: in a decimal in one piece, and behind a removal.
 #[inline(always)]
-fn mantissa_lack(part: &FieldPart, bit: bool, bytes: &[u8]) -> Option<Lack>
-    ensures lacks { (level : LevelOf) → IfSome result (LacksWaiting level part.now bit bytes.now) }
-    ensures number { IfSome result (λ l. l.number ≡ part.now.number) }
+fn has_second(part: &FieldPart, bit: bool) -> bool
+    ensures { result ≡ true → HasSecond part.now bit }
 {
     match part.kind {
-        Kind::Decimal if sends_two(part.operator, bit) => {
-            match entity_end(bytes, 0, NUMBER_LIMIT) {
-                Err(_) => None,
-                Ok(next) => entity_lack(part.number, NUMBER_LIMIT, &bytes[next..]),
-            }
-        }
-        _ => None,
+        Kind::Decimal => match part.operator {
+            Operator::Tail => false,
+            _ => is_sent(part.operator, bit),
+        },
+        Kind::Ascii | Kind::Unicode | Kind::Bytes => match part.operator {
+            Operator::Delta => true,
+            _ => false,
+        },
+        _ => false,
     }
 }
 
-// What is lacking where the field waits, and not at a fault in front of it.
+// What that entity lacks, or the vector that begins with it.
+fn second_lack(level: Level, part: &FieldPart, bytes: &[u8]) -> Option<Lack>
+    ensures { IfSome result (SecondLacks level part.now bytes.now) }
+{
+    match entity_lack(part.number, first_limit(Operator::Plain, part.kind), bytes) {
+        Some(lack) => Some(lack),
+        None => units_lack(level, part.number, part.kind, Presence::Mandatory, bytes),
+    }
+}
+
+// What a field lacks behind its first entity, where it waits, and not at a fault in front of that.
 #[inline(always)]
-fn if_waiting(
-    lack: Option<Lack>,
+fn rest_lack(
     alloc: Global,
     level: Level,
     part: &FieldPart,
@@ -296,24 +232,28 @@ fn if_waiting(
     bit: bool,
     bytes: &[u8],
 ) -> Option<Lack>
-    requires lacks { IfSome lack (LacksWaiting level part.now bit bytes.now) }
-    requires number { IfSome lack (λ l. l.number ≡ part.now.number) }
-    ensures lacks { IfSome result (Wants (field_at level part.now (entry_of kept.entry) bit) FieldFault.NeedMore bytes.now) }
-    ensures number { IfSome result (λ l. l.number ≡ part.now.number) }
+    ensures { IfSome result (FieldLacks level part.now (entry_of kept.entry) bit bytes.now) }
 {
-    let Some(lack) = lack else {
+    if !has_second(part, bit) {
         return None;
-    };
-    match find_field(alloc, part, kept, bit, level, bytes, 0) {
-        Ok(_) => None,
-        Err(fault) => match fault {
-            FieldFault::NeedMore => Some(lack),
-            _ => None,
+    }
+    match entity_end(bytes, 0, NUMBER_LIMIT) {
+        Err(_) => None,
+        Ok(next) => match second_lack(level, part, &bytes[next..]) {
+            None => None,
+            Some(lack) => {
+                if let Err(FieldFault::NeedMore) = find_field(
+                    alloc, part, kept, bit, level, bytes, 0,
+                ) {
+                    return Some(lack);
+                }
+                None
+            }
         },
     }
 }
 
-// What the rest of a delta or of a decimal lacks, where the field waits.
+// The same, of an operator that is met less often.
 #[inline(never)]
 fn delta_lack(
     alloc: Global,
@@ -323,82 +263,9 @@ fn delta_lack(
     bit: bool,
     bytes: &[u8],
 ) -> Option<Lack>
-    ensures lacks { IfSome result (Wants (field_at level part.now (entry_of kept.entry) bit) FieldFault.NeedMore bytes.now) }
-    ensures number { IfSome result (λ l. l.number ≡ part.now.number) }
+    ensures { IfSome result (FieldLacks level part.now (entry_of kept.entry) bit bytes.now) }
 {
-    match part.kind {
-        Kind::Decimal => if_waiting(
-            mantissa_lack(part, bit, bytes),
-            alloc,
-            level,
-            part,
-            kept,
-            bit,
-            bytes,
-        ),
-        _ => if_waiting(
-            new_part_lack(level, part, bytes),
-            alloc,
-            level,
-            part,
-            kept,
-            bit,
-            bytes,
-        ),
-    }
-}
-
-// What characters lack behind their removal, or a decimal behind its exponent.
-fn second_lack(
-    alloc: Global,
-    level: Level,
-    part: &FieldPart,
-    kept: EntryRef,
-    bit: bool,
-    bytes: &[u8],
-) -> Option<Lack>
-    ensures lacks { IfSome result (Wants (field_at level part.now (entry_of kept.entry) bit) FieldFault.NeedMore bytes.now) }
-    ensures number { IfSome result (λ l. l.number ≡ part.now.number) }
-{
-    // (the operators that are met most often are looked at one by one)
-    match part.operator {
-        Operator::Delta => match part.kind {
-            Kind::Ascii => if_waiting(
-                new_part_lack(level, part, bytes),
-                alloc,
-                level,
-                part,
-                kept,
-                bit,
-                bytes,
-            ),
-            Kind::Decimal => if_waiting(
-                mantissa_lack(part, bit, bytes),
-                alloc,
-                level,
-                part,
-                kept,
-                bit,
-                bytes,
-            ),
-            _ => None,
-        },
-        _ => delta_lack(alloc, level, part, kept, bit, bytes),
-    }
-}
-
-/// What a field lacks, of which these bytes have come.
-pub(crate) fn field_lack(level: Level, part: &FieldPart, bit: bool, bytes: &[u8]) -> Option<Lack>
-    ensures lacks { IfSome result (λ l. (e : Entry) → Wants (field_at level part.now e bit) FieldFault.NeedMore bytes.now l) }
-    ensures number { IfSome result (λ l. l.number ≡ part.now.number) }
-{
-    if !is_sent(part.operator, bit) {
-        return None;
-    }
-    if let Some(lack) = entity_lack(part.number, first_limit(part.operator, part.kind), bytes) {
-        return Some(lack);
-    }
-    rest_lack(level, part, bit, bytes)
+    rest_lack(alloc, level, part, kept, bit, bytes)
 }
 
 // Whether a field may go on behind the entity that it begins with. (No promise: where it says no, such a field is read
@@ -413,8 +280,6 @@ fn is_of_two(operator: Operator, kind: Kind) -> bool {
 }
 
 impl<'a> Walk<'a> {
-    ghost use Rattle.fast_walk.specs.Walks.{IsReady};
-
     // What the part lacks that is next.
     fn first_lack<E: Entries>(
         &self,
@@ -452,45 +317,13 @@ impl<'a> Walk<'a> {
             Kind::Unicode | Kind::Bytes => self.first_lack(alloc, level, entries, part, bytes),
             _ => {
                 let bit = first_for(&self.bits, part_needs_bit(part));
-                second_lack(alloc, level, part, entries.get(&part.key), bit, bytes)
+                let kept = entries.get(&part.key);
+                // (the operators that are met most often are looked at one by one)
+                match part.operator {
+                    Operator::Delta => rest_lack(alloc, level, part, kept, bit, bytes),
+                    _ => delta_lack(alloc, level, part, kept, bit, bytes),
+                }
             }
-        }
-    }
-
-    // What the piece that is next lacks, where its first entity has come.
-    #[inline(always)]
-    fn lack_of_rest<E: Entries>(
-        &self,
-        alloc: Global,
-        level: Level,
-        entries: &E,
-        bytes: &[u8],
-    ) -> Option<Lack>
-        requires ready { IsReady (E.serves entries.now) self.now }
-        ensures { IfSome result (WalkLacks level self.now (E.contents entries.now) bytes.now) }
-    {
-        match self.next_part() {
-            Some(part) if is_of_two(part.operator, part.kind) => {
-                self.lack_behind_first(alloc, level, entries, part, bytes)
-            }
-            _ => None,
-        }
-    }
-
-    // What the piece that is next lacks, of which these bytes have come.
-    fn lack<E: Entries>(
-        &self,
-        alloc: Global,
-        level: Level,
-        entries: &E,
-        bytes: &[u8],
-    ) -> Option<Lack>
-        requires ready { IsReady (E.serves entries.now) self.now }
-        ensures { IfSome result (WalkLacks level self.now (E.contents entries.now) bytes.now) }
-    {
-        match self.next_part() {
-            None => None,
-            Some(part) => self.first_lack(alloc, level, entries, part, bytes),
         }
     }
 
@@ -565,7 +398,12 @@ impl<'a> Traversal<'a> {
     {
         match self.stage {
             Stage::Map | Stage::Identifier => None,
-            Stage::Body => self.walk.lack(self.alloc, self.level, entries, bytes),
+            Stage::Body => match self.walk.next_part() {
+                None => None,
+                Some(part) => self
+                    .walk
+                    .first_lack(self.alloc, self.level, entries, part, bytes),
+            },
         }
     }
 
@@ -578,9 +416,12 @@ impl<'a> Traversal<'a> {
     {
         match self.stage {
             Stage::Map | Stage::Identifier => None,
-            Stage::Body => self
-                .walk
-                .lack_of_rest(self.alloc, self.level, entries, bytes),
+            Stage::Body => match self.walk.next_part() {
+                Some(part) if is_of_two(part.operator, part.kind) => self
+                    .walk
+                    .lack_behind_first(self.alloc, self.level, entries, part, bytes),
+                _ => None,
+            },
         }
     }
 }

@@ -1,9 +1,10 @@
-use Rattle.std.proofs.Common.{◌≡◌, true, rules}
-use Rattle.fast_walk.specs.Lacks.{sends}
-use Rattle.fast_walk.proofs.Lacking.{entity_lacks}
+use Rattle.std.proofs.Common.{rules}
+use Rattle.std.proofs.lemmas.Option.{IfSome_then}
+use Rattle.fast_walk.proofs.Lacking.{entity_lacks, vector_lacks}
 use Rattle.fast_walk.proofs.lack.field_lack.Goals as goal
 
-pub returns-in-Some-clause-lacks : goal.returns-in-Some-clause-lacks
-returns-in-Some-clause-lacks c = λ e more lacking.
-    let sent : sends c.args.part.now.operator c.args.bit ≡ true = search rules in
-    entity_lacks c.args.level c.args.part.now e c.args.bit c.args.bytes.now more c.in-Some.lack sent (rw (c.first_limit.ensures.limit) at c.in-Some.ensures.few) c.in-Some.ensures.unstopped lacking
+pub returns-in-Some : goal.returns-in-Some
+returns-in-Some c = λ e. entity_lacks (search rules) (rw (c.first_limit.ensures.limit) at c.in-Some.ensures)
+
+pub returns-in_default : goal.returns-in_default
+returns-in_default c = IfSome_then c.units_lack.result c.units_lack.ensures (λ l h e. vector_lacks (search rules) c.in_default.not-Delta h)
