@@ -1,12 +1,16 @@
 -- How a walk takes a piece, and where it stops at one.
 use Rattle.std.proofs.Common.{◌≡◌, ◌≢◌, ◌≤◌, ◌<◌, ◌-◌, ◌++◌, ◌+◌, ◌*◌, ◌∷◌, [], ℕ, Bool, List, Option, Ok, Err, drop, length, get_or, map, refl, sym, ap, ◌∙◌, arith}
+use Rattle.std.specs.Global.{Vec}
 use Rattle.std.specs.Prelude.{IsTrue}
 use Rattle.fast_value.specs.declared.key.Key.{Key}
 use Rattle.fast_value.specs.declared.kind.Kind.{Kind}
 use Rattle.fast_value.specs.declared.kind.Part.{Part}
+use Rattle.fast_value.specs.declared.kind.Presence.{Presence}
 use Rattle.fast_value.specs.declared.scalar.Scalar.{Scalar}
 use Rattle.fast_template.specs.declared.resolved.FieldPart.{FieldPart}
-use Rattle.fast_template.specs.Resolved.{Instruction, Instructions, whole_field, field_in_parts, group_of, sequence_of, then_instruction, list_of, part_needs_bit}
+use Rattle.fast_template.specs.declared.resolved.Flat.{Flat, fold_out-Flat}
+use Rattle.fast_template.specs.declared.resolved.Flat.TheVariants.{Field, Parts, Group, Sequence, outs-Field, outs-Parts, outs-Group, outs-Sequence}
+use Rattle.fast_template.specs.Resolved.{Instruction, Instructions, flat_step, instruction_of, whole_field, field_in_parts, group_of, sequence_of, then_instruction, list_of, part_needs_bit}
 use Rattle.fast_dictionary.specs.Dictionary.{Dictionary}
 use Rattle.fast_field.specs.Parts.{IsKindOfPart}
 use Rattle.fast_field.specs.declared.fault.FieldFault.{FieldFault}
@@ -33,6 +37,20 @@ use Rattle.fast_field.proofs.ReadFields.{bytes_from}
 use Rattle.fast_wire.specs.Reader.{IsBytes}
 use Rattle.fast_walk.proofs.Telling.{asked_for, taken_keeps, told_part}
 use Rattle.fast_walk.proofs.Walking.{goes_kept, goes_on, is_instruction, left_last, piece_on, piece_stops_on, served_push}
+
+-- ---- the instruction that is next
+
+pub is_field : {flat : Flat} {name : List ℕ} {number : ℕ} {presence : Presence} {whole : FieldPart} → flat ≡ Field name number presence whole → instruction_of flat ≡ whole_field name number presence whole
+is_field {name = name} {number} {presence} {whole} is = ap instruction_of is ∙ fold_out-Flat Instruction flat_step (Field name number presence whole) ∙ rw (outs-Field name number presence whole) refl
+
+pub is_parts : {flat : Flat} {name : List ℕ} {number : ℕ} {presence : Presence} {exponent mantissa : FieldPart} → flat ≡ Parts name number presence exponent mantissa → instruction_of flat ≡ field_in_parts name number presence exponent mantissa
+is_parts {name = name} {number} {presence} {exponent} {mantissa} is = ap instruction_of is ∙ fold_out-Flat Instruction flat_step (Parts name number presence exponent mantissa) ∙ rw (outs-Parts name number presence exponent mantissa) refl
+
+pub is_group : {flat : Flat} {name : List ℕ} {number : ℕ} {presence : Presence} (members : Vec Flat) → flat ≡ Group name number presence members → instruction_of flat ≡ group_of name number presence (list_of members.items)
+is_group {name = name} {number} {presence} members is = ap instruction_of is ∙ fold_out-Flat Instruction flat_step (Group name number presence members) ∙ rw (outs-Group name number presence members) refl
+
+pub is_sequence : {flat : Flat} {name : List ℕ} {number : ℕ} {presence : Presence} {part : FieldPart} (members : Vec Flat) → flat ≡ Sequence name number presence part members → instruction_of flat ≡ sequence_of name number presence part (list_of members.items)
+is_sequence {name = name} {number} {presence} {part} members is = ap instruction_of is ∙ fold_out-Flat Instruction flat_step (Sequence name number presence part members) ∙ rw (outs-Sequence name number presence part members) refl
 
 abbrev pub number_in : Instruction → ℕ
 number_in (whole_field name number presence whole) = number

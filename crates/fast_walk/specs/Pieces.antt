@@ -2,13 +2,15 @@
 use Rattle.std.specs.Prelude.{◌≡◌, ◌≢◌, ◌≤◌, ◌<◌, ℕ, Bool, List, Result, Ok, Err, drop, length}
 use Rattle.fast_value.specs.declared.key.Key.{Key}
 use Rattle.fast_dictionary.specs.Dictionary.{Dictionary}
+use Rattle.fast_dictionary.specs.declared.entries.Entries.{Ghosts}
 use Rattle.fast_wire.specs.declared.level.Level.{Level}
 use Rattle.fast_stream.specs.declared.fault.Cause.TheVariants.{Memory}
 use Rattle.fast_walk.specs.Received.{CarriesOpen, Having}
 use Rattle.fast_walk.specs.Room.{HasRoom}
 use Rattle.fast_walk.specs.Told.{KeepScalars}
-use Rattle.fast_walk.specs.Walks.{HaltsAs, IsReady, Moves, rank_of}
+use Rattle.fast_walk.specs.Walks.{HaltsAs, IsReady, IsWhole, Moves, rank_of}
 use Rattle.fast_walk.specs.declared.halt.Halt.{Halt}
+use Rattle.fast_walk.specs.declared.receiver.Receiver.{Ghosts as Receiving}
 use Rattle.fast_walk.specs.declared.walk.Walk.{Walk as WalkNow}
 
 -- The walk can go on: what it may come to is served, each entry is within its type, and its receiver has room.
@@ -35,13 +37,9 @@ pub record Reaches {R : Type 0} (level : Level) (Has : Having R) (Room : R → L
   pub on : CanWalk serves e (Room s) v
 
 -- what a call for a piece answers: the place behind it, or where reading stops
-abbrev pub IsTaken : {R : Type 0} → Level → Having R → (R → List (List Bool) → List Bool → Bool) → (Key → Bool) → WalkNow → R → Dictionary → WalkNow → R → Dictionary → List ℕ → ℕ → Result ℕ Halt → Type 0
-IsTaken level Has Room serves w r d v s e bytes at (Ok n) = Reaches level Has Room serves w r d v s e bytes at n × (rank_of v < rank_of w)
-IsTaken level Has Room serves w r d v s e bytes at (Err h) = h.cause ≢ Memory → Stops level Has Room w r d v s e (drop at bytes) h
-
--- the same of a call that puts no entry
-abbrev pub IsTakenWith : {R : Type 0} → Level → Having R → (R → List (List Bool) → List Bool → Bool) → WalkNow → R → WalkNow → R → List ℕ → ℕ → Result ℕ Halt → Type 0
-IsTakenWith level Has Room w r v s bytes at result = (serves : Key → Bool) (d : Dictionary) → CanWalk serves d (Room r) w → IsTaken level Has Room serves w r d v s d bytes at result
+abbrev pub IsTaken : {R E : Type 0} → Level → Receiving R → Ghosts E → WalkNow → R → E → WalkNow → R → E → List ℕ → ℕ → Result ℕ Halt → Type 0
+IsTaken level receiver entries w r d v s e bytes at (Ok n) = Reaches level receiver.has receiver.room (entries.serves d) w r (entries.contents d) v s (entries.contents e) bytes at n × (rank_of v < rank_of w)
+IsTaken level receiver entries w r d v s e bytes at (Err h) = h.cause ≢ Memory → Stops level receiver.has receiver.room w r (entries.contents d) v s (entries.contents e) (drop at bytes) h
 
 -- Reading has gone on from these bytes to the rest, stops there, and can go on from there.
 pub record Holds {R : Type 0} (level : Level) (Has : Having R) (Room : R → List (List Bool) → List Bool → Bool) (serves : Key → Bool)
@@ -49,3 +47,9 @@ pub record Holds {R : Type 0} (level : Level) (Has : Having R) (Room : R → Lis
   pub goes : Moves level Has w r d v s e bytes rest
   pub halts : HaltsAs level v e rest h
   pub on : CanWalk serves e (Room s) v
+
+-- what a call for all that is left of a body answers: the place behind it, or the one at which reading stops
+abbrev pub Runs : {R E : Type 0} → Level → Receiving R → Ghosts E → WalkNow → R → E → WalkNow → R → E → List ℕ → ℕ → Result ℕ (ℕ × Halt) → Type 0
+Runs level receiver entries w r d v s e bytes at (Ok n) = Reaches level receiver.has receiver.room (entries.serves d) w r (entries.contents d) v s (entries.contents e) bytes at n × IsWhole v
+Runs level receiver entries w r d v s e bytes at (Err x) = ((at ≤ x.0) × (x.0 ≤ length bytes))
+    × ((x.1).cause ≢ Memory → Holds level receiver.has receiver.room (entries.serves e) w r (entries.contents d) v s (entries.contents e) (drop at bytes) (drop x.0 bytes) x.1)

@@ -1,8 +1,8 @@
 //! A walk through the open segments of a message, without its items.
 
-ghost use Rattle.std.specs.Prelude.{◌≡◌, ◌≢◌, ◌≤◌, ◌<◌, ◌++◌, ◌∷◌, ◌-◌, ◌+◌, [], ℕ, Bool, true, false, List, Option, IsSome, ◌⊎◌, IfOk, IfErr, IfSome, MatchResult, OnOk, length, drop, map};
+ghost use Rattle.std.specs.Prelude.{◌≡◌, ◌≢◌, ◌≤◌, ◌<◌, ◌++◌, ◌∷◌, ◌-◌, ◌+◌, [], ℕ, Bool, true, false, List, Option, IsSome, ◌⊎◌, IfOk, IfErr, IfSome, MatchResult, OnOk, length, map};
 ghost use Rattle.fast_value.specs.declared.key.Key as key_type;
-ghost use Rattle.fast_template.specs.Resolved.{list_of, no_instructions, whole_field, field_in_parts, group_of, sequence_of, is_optional as is_optional_of};
+ghost use Rattle.fast_template.specs.Resolved.{instruction_of, list_of, no_instructions, is_optional as is_optional_of};
 ghost use Rattle.fast_dictionary.specs.Dictionary.{Dictionary};
 ghost use Rattle.fast_stream.specs.Bits.{after_bit};
 ghost use Rattle.fast_wire.specs.Level.{IsLeftClear, some_set};
@@ -12,9 +12,8 @@ ghost use Rattle.fast_walk.specs.OpenSegments.{Waiting, at_instruction, cursor, 
 ghost use Rattle.fast_walk.specs.Received.{Received, Carries, closed_in};
 ghost use Rattle.fast_walk.specs.Passing.{next_behind};
 ghost use Rattle.fast_walk.specs.Walks.{next_of, weight_of};
-ghost use Rattle.fast_walk.specs.Told.{KeepScalars};
 ghost use Rattle.fast_walk.specs.Room.{HasRoom, HasRoomInside, HasRoomOutside};
-ghost use Rattle.fast_walk.specs.Pieces.{CanWalk, Holds, IsTaken, IsTakenWith, Reaches};
+ghost use Rattle.fast_walk.specs.Pieces.{CanWalk, IsTaken, Reaches, Runs};
 
 use crate::bits::{first_for, read_own_map, take_for};
 use crate::halt::{Halt, HaltedBy, field_cause};
@@ -118,7 +117,7 @@ fn go_behind<'a>(next: &mut Next<'a>, mantissa: Option<&'a FieldPart>)
 
 impl<'a> Walk<'a> {
     ghost use Rattle.fast_walk.specs.declared.walk.Frame.{Frame as FrameOf};
-    ghost use Rattle.fast_walk.specs.Walks.{Begins, IsBehind, IsElement, IsInside, IsInsideServed, IsLast, IsNextServed, IsOpened, IsWhole, Moves, bare_inside, bare_next, frame_of, inside_of, next_of, number_of, rank_of, sequel_of, weight_of};
+    ghost use Rattle.fast_walk.specs.Walks.{Begins, IsBehind, IsInside, IsInsideServed, IsLast, IsNextServed, IsOpened, IsWhole, bare_inside, bare_next, frame_of, inside_of, next_of, number_of, rank_of, sequel_of, weight_of};
 
     /// At the beginning of a list of instructions.
     pub(crate) fn new(alloc: Global, members: &'a [Flat], bits: Bits, spare: u32) -> Walk<'a>
@@ -217,271 +216,132 @@ impl<'a> Walk<'a> {
         }
     }
 
-    // Takes a field.
-    #[inline(always)]
-    fn field<L: Leveled, R: Receiver, E: Entries>(
+    // Takes the next instruction, or the first part of it: the rest is a piece of its own.
+    fn instruction<L: Leveled, R: Receiver, E: Entries>(
         &mut self,
         level: L,
         alloc: Global,
         receiver: &mut R,
         entries: &mut E,
-        name: &Name,
-        presence: Presence,
-        number: u32,
-        whole: &FieldPart,
+        flat: &'a Flat,
         others: &'a [Flat],
         bytes: &[u8],
         at: usize,
     ) -> Result<usize, Halt>
         requires place { at ≤ length bytes.now }
-        requires first { Begins self.now (whole_field name.now number presence whole.now) (list_of others.now) }
+        requires first { Begins self.now (instruction_of flat.now) (list_of others.now) }
         requires walk { CanWalk (E.serves entries.now) (E.contents entries.now) (R.room receiver.now) self.now }
-        ensures piece { IsTaken L.at R.has R.room (E.serves entries.old) self.old receiver.old (E.contents entries.old)
-            self.new receiver.new (E.contents entries.new) bytes.now at result }
+        ensures piece { IsTaken L.at R.Receiver E.Entries self.old receiver.old entries.old self.new receiver.new entries.new bytes.now at result }
         ensures keeps { Carries (R.keeps receiver.old) (R.keeps receiver.new) }
         ensures same_keys { E.serves entries.new ≡ E.serves entries.old }
     {
-        self.count(number)?;
-        let needs = part_needs_bit(whole);
-        let bit = first_for(&self.bits, needs);
-        match receiver.field(
-            alloc,
-            name,
-            presence,
-            entries,
-            whole,
-            bit,
-            level.level(),
-            bytes,
-            at,
-        ) {
-            Err(fault) => Err(part_halt(whole, fault)),
-            Ok(next) => {
-                self.pass_field(needs, others);
-                Ok(next)
+        let level = level.level();
+        match flat {
+            Flat::Field {
+                name,
+                number,
+                presence,
+                whole,
+            } => {
+                self.count(*number)?;
+                let needs = part_needs_bit(whole);
+                let bit = first_for(&self.bits, needs);
+                match receiver.field(
+                    alloc, name, *presence, entries, whole, bit, level, bytes, at,
+                ) {
+                    Err(fault) => Err(part_halt(whole, fault)),
+                    Ok(next) => {
+                        self.pass_field(needs, others);
+                        Ok(next)
+                    }
+                }
             }
-        }
-    }
-
-    // Takes the exponent of a decimal in parts.
-    #[inline(always)]
-    fn exponent<L: Leveled, R: Receiver, E: Entries>(
-        &mut self,
-        level: L,
-        alloc: Global,
-        receiver: &mut R,
-        entries: &mut E,
-        name: &Name,
-        presence: Presence,
-        number: u32,
-        exponent: &FieldPart,
-        mantissa: &'a FieldPart,
-        others: &'a [Flat],
-        bytes: &[u8],
-        at: usize,
-    ) -> Result<usize, Halt>
-        requires place { at ≤ length bytes.now }
-        requires first { Begins self.now (field_in_parts name.now number presence exponent.now mantissa.now) (list_of others.now) }
-        requires walk { CanWalk (E.serves entries.now) (E.contents entries.now) (R.room receiver.now) self.now }
-        ensures piece { IsTaken L.at R.has R.room (E.serves entries.old) self.old receiver.old (E.contents entries.old)
-            self.new receiver.new (E.contents entries.new) bytes.now at result }
-        ensures keeps { Carries (R.keeps receiver.old) (R.keeps receiver.new) }
-        ensures same_keys { E.serves entries.new ≡ E.serves entries.old }
-    {
-        self.count(number)?;
-        let needs = part_needs_bit(exponent);
-        let bit = first_for(&self.bits, needs);
-        match receiver.exponent(
-            alloc,
-            name,
-            presence,
-            entries,
-            exponent,
-            bit,
-            level.level(),
-            bytes,
-            at,
-        ) {
-            Err(fault) => Err(part_halt(exponent, fault)),
-            Ok((present, next)) => {
+            Flat::Parts {
+                name,
+                number,
+                presence,
+                exponent,
+                mantissa,
+            } => {
+                self.count(*number)?;
+                let needs = part_needs_bit(exponent);
+                let bit = first_for(&self.bits, needs);
+                match receiver.exponent(
+                    alloc, name, *presence, entries, exponent, bit, level, bytes, at,
+                ) {
+                    Err(fault) => Err(part_halt(exponent, fault)),
+                    Ok((present, next)) => {
+                        if present {
+                            self.pass(needs, others, Next::Mantissa(mantissa));
+                            Ok(next)
+                        } else {
+                            self.pass(needs, others, Next::Instruction);
+                            Ok(next)
+                        }
+                    }
+                }
+            }
+            Flat::Group {
+                name,
+                number,
+                presence,
+                members,
+            } => {
+                self.count(*number)?;
+                let optional = is_optional(*presence);
+                let present = first_for(&self.bits, optional);
                 if present {
-                    self.pass(needs, others, Next::Mantissa(mantissa));
+                    let own_map = has_map(members);
+                    let (bits, next) = read_own_map(alloc, *number, own_map, level, bytes, at)?;
+                    receiver.enter(alloc, name, optional, own_map, members.len())?;
+                    take_for(&mut self.bits, optional);
+                    self.open(members, others, bits, Inside::Group(*number))?;
                     Ok(next)
                 } else {
-                    self.pass(needs, others, Next::Instruction);
-                    Ok(next)
+                    receiver.left_out(name)?;
+                    self.pass_field(optional, others);
+                    Ok(at)
+                }
+            }
+            Flat::Sequence {
+                name,
+                number,
+                presence,
+                length,
+                members,
+            } => {
+                self.count(*number)?;
+                let needs = part_needs_bit(length);
+                let bit = first_for(&self.bits, needs);
+                match receiver.begin_sequence(
+                    alloc, name, *presence, entries, length, bit, level, bytes, at,
+                ) {
+                    Err(fault) => Err(part_halt(length, fault)),
+                    Ok((count, next)) => match count {
+                        None => {
+                            self.pass_field(needs, others);
+                            Ok(next)
+                        }
+                        Some(left) => {
+                            if left == 0 {
+                                receiver.end_sequence(alloc)?;
+                                self.pass_field(needs, others);
+                                return Ok(next);
+                            }
+                            let own_map = has_map(members);
+                            let elements = Sequel {
+                                number: *number,
+                                own_map,
+                                members,
+                                left,
+                            };
+                            self.pass(needs, others, Next::Element(elements));
+                            Ok(next)
+                        }
+                    },
                 }
             }
         }
-    }
-
-    // Takes the mantissa of a decimal whose exponent is there.
-    #[inline(always)]
-    fn mantissa<L: Leveled, R: Receiver, E: Entries>(
-        &mut self,
-        level: L,
-        alloc: Global,
-        receiver: &mut R,
-        entries: &mut E,
-        mantissa: &'a FieldPart,
-        bytes: &[u8],
-        at: usize,
-    ) -> Result<usize, Halt>
-        requires place { at ≤ length bytes.now }
-        requires next { self.now.next ≡ Next.Mantissa mantissa }
-        requires walk { CanWalk (E.serves entries.now) (E.contents entries.now) (R.room receiver.now) self.now }
-        ensures piece { IsTaken L.at R.has R.room (E.serves entries.old) self.old receiver.old (E.contents entries.old)
-            self.new receiver.new (E.contents entries.new) bytes.now at result }
-        ensures keeps { Carries (R.keeps receiver.old) (R.keeps receiver.new) }
-        ensures same_keys { E.serves entries.new ≡ E.serves entries.old }
-    {
-        let needs = part_needs_bit(mantissa);
-        let bit = first_for(&self.bits, needs);
-        match receiver.mantissa(alloc, entries, mantissa, bit, level.level(), bytes, at) {
-            Err(fault) => Err(part_halt(mantissa, fault)),
-            Ok(next) => {
-                take_for(&mut self.bits, needs);
-                self.next = Next::Instruction;
-                Ok(next)
-            }
-        }
-    }
-
-    // Takes the length of a sequence.
-    fn sequence<L: Leveled, R: Receiver, E: Entries>(
-        &mut self,
-        level: L,
-        alloc: Global,
-        receiver: &mut R,
-        entries: &mut E,
-        name: &Name,
-        presence: Presence,
-        number: u32,
-        part: &FieldPart,
-        members: &'a [Flat],
-        others: &'a [Flat],
-        bytes: &[u8],
-        at: usize,
-    ) -> Result<usize, Halt>
-        requires place { at ≤ length bytes.now }
-        requires first { Begins self.now (sequence_of name.now number presence part.now (list_of members.now)) (list_of others.now) }
-        requires walk { CanWalk (E.serves entries.now) (E.contents entries.now) (R.room receiver.now) self.now }
-        ensures piece { IsTaken L.at R.has R.room (E.serves entries.old) self.old receiver.old (E.contents entries.old)
-            self.new receiver.new (E.contents entries.new) bytes.now at result }
-        ensures keeps { Carries (R.keeps receiver.old) (R.keeps receiver.new) }
-        ensures same_keys { E.serves entries.new ≡ E.serves entries.old }
-    {
-        self.count(number)?;
-        let needs = part_needs_bit(part);
-        let bit = first_for(&self.bits, needs);
-        match receiver.begin_sequence(
-            alloc,
-            name,
-            presence,
-            entries,
-            part,
-            bit,
-            level.level(),
-            bytes,
-            at,
-        ) {
-            Err(fault) => Err(part_halt(part, fault)),
-            Ok((length, next)) => match length {
-                None => {
-                    self.pass_field(needs, others);
-                    Ok(next)
-                }
-                Some(left) => {
-                    if left == 0 {
-                        receiver.end_sequence(alloc)?;
-                        self.pass_field(needs, others);
-                        return Ok(next);
-                    }
-                    let own_map = has_map(members);
-                    let elements = Sequel {
-                        number,
-                        own_map,
-                        members,
-                        left,
-                    };
-                    self.pass(needs, others, Next::Element(elements));
-                    Ok(next)
-                }
-            },
-        }
-    }
-
-    // Enters a group, or passes it where it is left out.
-    fn group<L: Leveled, R: Receiver>(
-        &mut self,
-        level: L,
-        alloc: Global,
-        receiver: &mut R,
-        name: &Name,
-        number: u32,
-        presence: Presence,
-        members: &'a [Flat],
-        others: &'a [Flat],
-        bytes: &[u8],
-        at: usize,
-    ) -> Result<usize, Halt>
-        requires place { at ≤ length bytes.now }
-        requires first { Begins self.now (group_of name.now number presence (list_of members.now)) (list_of others.now) }
-        requires room { HasRoom (R.room receiver.now) self.now }
-        ensures piece { IsTakenWith L.at R.has R.room self.old receiver.old self.new receiver.new bytes.now at result }
-        ensures keeps { Carries (R.keeps receiver.old) (R.keeps receiver.new) }
-    {
-        self.count(number)?;
-        let optional = is_optional(presence);
-        let present = first_for(&self.bits, optional);
-        if present {
-            let own_map = has_map(members);
-            let (bits, next) = read_own_map(alloc, number, own_map, level.level(), bytes, at)?;
-            receiver.enter(alloc, name, optional, own_map, members.len())?;
-            take_for(&mut self.bits, optional);
-            self.open(members, others, bits, Inside::Group(number))?;
-            Ok(next)
-        } else {
-            receiver.left_out(name)?;
-            self.pass_field(optional, others);
-            Ok(at)
-        }
-    }
-
-    // Enters the next element of a sequence, or ends the sequence.
-    fn element<L: Leveled, R: Receiver>(
-        &mut self,
-        level: L,
-        alloc: Global,
-        receiver: &mut R,
-        sequel: Sequel<'a>,
-        bytes: &[u8],
-        at: usize,
-    ) -> Result<usize, Halt>
-        requires place { at ≤ length bytes.now }
-        requires next { IsElement self.now.next sequel }
-        requires room { HasRoom (R.room receiver.now) self.now }
-        ensures piece { IsTakenWith L.at R.has R.room self.old receiver.old self.new receiver.new bytes.now at result }
-        ensures keeps { Carries (R.keeps receiver.old) (R.keeps receiver.new) }
-    {
-        if sequel.left == 0 {
-            receiver.end_sequence(alloc)?;
-            self.next = Next::Instruction;
-            return Ok(at);
-        }
-        let own_map = sequel.own_map;
-        self.count(sequel.number)?;
-        let (bits, next) = read_own_map(alloc, sequel.number, own_map, level.level(), bytes, at)?;
-        receiver.enter_element(alloc, sequel.own_map, sequel.members.len())?;
-        let others = Sequel {
-            number: sequel.number,
-            own_map: sequel.own_map,
-            members: sequel.members,
-            left: sequel.left - 1,
-        };
-        self.next = Next::Instruction;
-        self.open(sequel.members, self.rest, bits, Inside::Element(others))?;
-        Ok(next)
     }
 
     // The number of the segment that is open; 0 is the message.
@@ -534,36 +394,6 @@ impl<'a> Walk<'a> {
         }
     }
 
-    // Ends the element that is open, and enters the next one of its sequence, in the frame that waits for both.
-    #[inline(always)]
-    fn next_element<L: Leveled, R: Receiver>(
-        &mut self,
-        level: L,
-        alloc: Global,
-        receiver: &mut R,
-        sequel: Sequel<'a>,
-        bytes: &[u8],
-        at: usize,
-    ) -> Result<usize, Halt>
-        requires place { at ≤ length bytes.now }
-        requires next { self.now.next ≡ Next.Instruction }
-        requires rest { self.now.rest.now ≡ [] }
-        requires last { IsLast self.now sequel }
-        requires left { 0 < sequel.left }
-        requires room { HasRoom (R.room receiver.now) self.now }
-        ensures piece { IsTakenWith L.at R.has R.room self.old receiver.old self.new receiver.new bytes.now at result }
-        ensures keeps { Carries (R.keeps receiver.old) (R.keeps receiver.new) }
-    {
-        let own_map = sequel.own_map;
-        let strictness = level.level();
-        self.judge_end(strictness)?;
-        self.count(sequel.number)?;
-        let (bits, next) = read_own_map(alloc, sequel.number, own_map, strictness, bytes, at)?;
-        receiver.next_element(alloc, sequel.own_map, sequel.members.len())?;
-        self.go_on(sequel, bits);
-        Ok(next)
-    }
-
     // Goes on in the next element of a sequence, in place of the one that is open.
     #[inline(always)]
     fn go_on(&mut self, sequel: Sequel<'a>, fresh: Bits)
@@ -584,34 +414,6 @@ impl<'a> Walk<'a> {
                 Inside::Element(elements) => elements.left -= 1,
                 Inside::Group(_) => unreachable!(),
             },
-        }
-    }
-
-    // Ends the segment that is open, and with its last element a sequence, and goes on in the body around it.
-    #[inline(always)]
-    fn end<L: Leveled, R: Receiver>(
-        &mut self,
-        level: L,
-        alloc: Global,
-        receiver: &mut R,
-        at: usize,
-    ) -> Result<usize, Halt>
-        requires inside { IsInside self.now }
-        requires next { self.now.next ≡ Next.Instruction }
-        requires rest { self.now.rest.now ≡ [] }
-        requires room { HasRoom (R.room receiver.now) self.now }
-        ensures piece { (bytes : List ℕ) → at ≤ length bytes → IsTakenWith L.at R.has R.room self.old receiver.old self.new receiver.new bytes at result }
-        ensures keeps { Carries (R.keeps receiver.old) (R.keeps receiver.new) }
-    {
-        self.judge_end(level.level())?;
-        match self.around.pop() {
-            None => unreachable!(),
-            Some(Frame { bits, rest, inside }) => {
-                self.bits = bits;
-                self.rest = rest;
-                self.take_up(alloc, receiver, inside)?;
-                Ok(at)
-            }
         }
     }
 
@@ -669,7 +471,8 @@ impl<'a> Walk<'a> {
         }
     }
 
-    // Takes the next piece, or ends a segment.
+    // Takes the next piece, or ends a segment: behind an element the next one of its sequence is entered with that, and
+    // behind the last the sequence ends.
     fn step<L: Leveled, R: Receiver, E: Entries>(
         &mut self,
         level: L,
@@ -682,60 +485,75 @@ impl<'a> Walk<'a> {
         requires inside { IsInside self.now }
         requires place { at ≤ length bytes.now }
         requires walk { CanWalk (E.serves entries.now) (E.contents entries.now) (R.room receiver.now) self.now }
-        ensures piece { IsTaken L.at R.has R.room (E.serves entries.old) self.old receiver.old (E.contents entries.old)
-            self.new receiver.new (E.contents entries.new) bytes.now at result }
+        ensures piece { IsTaken L.at R.Receiver E.Entries self.old receiver.old entries.old self.new receiver.new entries.new bytes.now at result }
         ensures keeps { Carries (R.keeps receiver.old) (R.keeps receiver.new) }
         ensures same_keys { E.serves entries.new ≡ E.serves entries.old }
     {
         match self.next {
-            Next::Mantissa(mantissa) => self.mantissa(
-                level, alloc, receiver, entries, mantissa, bytes, at,
-            ),
-            Next::Element(sequel) => self.element(level, alloc, receiver, sequel, bytes, at),
+            Next::Mantissa(mantissa) => {
+                let needs = part_needs_bit(mantissa);
+                let bit = first_for(&self.bits, needs);
+                match receiver.mantissa(alloc, entries, mantissa, bit, level.level(), bytes, at) {
+                    Err(fault) => Err(part_halt(mantissa, fault)),
+                    Ok(next) => {
+                        take_for(&mut self.bits, needs);
+                        self.next = Next::Instruction;
+                        Ok(next)
+                    }
+                }
+            }
+            Next::Element(sequel) => {
+                if sequel.left == 0 {
+                    receiver.end_sequence(alloc)?;
+                    self.next = Next::Instruction;
+                    return Ok(at);
+                }
+                let level = level.level();
+                let number = sequel.number;
+                let own_map = sequel.own_map;
+                self.count(number)?;
+                let (bits, next) = read_own_map(alloc, number, own_map, level, bytes, at)?;
+                receiver.enter_element(alloc, own_map, sequel.members.len())?;
+                let others = Sequel {
+                    number,
+                    own_map,
+                    members: sequel.members,
+                    left: sequel.left - 1,
+                };
+                self.next = Next::Instruction;
+                self.open(sequel.members, self.rest, bits, Inside::Element(others))?;
+                Ok(next)
+            }
             Next::Instruction => match self.rest.split_first() {
+                Some((flat, others)) => self.instruction(
+                    level, alloc, receiver, entries, flat, others, bytes, at,
+                ),
                 None => match self.next_sequel() {
-                    Some(sequel) => self.next_element(level, alloc, receiver, sequel, bytes, at),
-                    None => self.end(level, alloc, receiver, at),
-                },
-                Some((flat, others)) => match flat {
-                    Flat::Field {
-                        name,
-                        number,
-                        presence,
-                        whole,
-                    } => self.field(
-                        level, alloc, receiver, entries, name, *presence, *number, whole, others,
-                        bytes, at,
-                    ),
-                    Flat::Parts {
-                        name,
-                        number,
-                        presence,
-                        exponent,
-                        mantissa,
-                    } => self.exponent(
-                        level, alloc, receiver, entries, name, *presence, *number, exponent,
-                        mantissa, others, bytes, at,
-                    ),
-                    Flat::Group {
-                        name,
-                        number,
-                        presence,
-                        members,
-                    } => self.group(
-                        level, alloc, receiver, name, *number, *presence, members, others, bytes,
-                        at,
-                    ),
-                    Flat::Sequence {
-                        name,
-                        number,
-                        presence,
-                        length,
-                        members,
-                    } => self.sequence(
-                        level, alloc, receiver, entries, name, *presence, *number, length, members,
-                        others, bytes, at,
-                    ),
+                    Some(sequel) => {
+                        let strictness = level.level();
+                        let number = sequel.number;
+                        let own_map = sequel.own_map;
+                        self.judge_end(strictness)?;
+                        self.count(number)?;
+                        let (bits, next) = read_own_map(
+                            alloc, number, own_map, strictness, bytes, at,
+                        )?;
+                        receiver.next_element(alloc, own_map, sequel.members.len())?;
+                        self.go_on(sequel, bits);
+                        Ok(next)
+                    }
+                    None => {
+                        self.judge_end(level.level())?;
+                        match self.around.pop() {
+                            None => unreachable!(),
+                            Some(Frame { bits, rest, inside }) => {
+                                self.bits = bits;
+                                self.rest = rest;
+                                self.take_up(alloc, receiver, inside)?;
+                                Ok(at)
+                            }
+                        }
+                    }
                 },
             },
         }
@@ -794,8 +612,7 @@ impl<'a> Walk<'a> {
         requires inside { IsInside self.now }
         requires place { at ≤ length bytes.now }
         requires walk { CanWalk (E.serves entries.now) (E.contents entries.now) (R.room receiver.now) self.now }
-        ensures piece { IsTaken L.at R.has R.room (E.serves entries.old) self.old receiver.old (E.contents entries.old)
-            self.new receiver.new (E.contents entries.new) bytes.now at result }
+        ensures piece { IsTaken L.at R.Receiver E.Entries self.old receiver.old entries.old self.new receiver.new entries.new bytes.now at result }
         ensures keeps { Carries (R.keeps receiver.old) (R.keeps receiver.new) }
         ensures same_keys { E.serves entries.new ≡ E.serves entries.old }
     {
@@ -816,16 +633,7 @@ impl<'a> Walk<'a> {
     ) -> Result<usize, (usize, Halt)>
         requires place { at ≤ length bytes.now }
         requires walk { CanWalk (E.serves entries.now) (E.contents entries.now) (R.room receiver.now) self.now }
-        ensures place { IfOk result (λ n. (at ≤ n) × (n ≤ length bytes.now)) }
-        ensures goes { IfOk result (λ n. Moves L.at R.has self.old receiver.old (E.contents entries.old)
-            self.new receiver.new (E.contents entries.new) (drop at bytes.now) (drop n bytes.now)) }
-        ensures whole { OnOk result (IsWhole self.new) }
-        ensures held_place { IfErr result (λ x. (at ≤ x.0) × (x.0 ≤ length bytes.now)) }
-        ensures held { IfErr result (λ x. (x.1).cause ≢ Cause.Memory → Holds L.at R.has R.room (E.serves entries.new)
-            self.old receiver.old (E.contents entries.old) self.new receiver.new (E.contents entries.new)
-            (drop at bytes.now) (drop x.0 bytes.now) x.1) }
-        ensures kept { OnOk result (KeepScalars (E.contents entries.new)) }
-        ensures room { OnOk result (HasRoom (R.room receiver.new) self.new) }
+        ensures runs { Runs L.at R.Receiver E.Entries self.old receiver.old entries.old self.new receiver.new entries.new bytes.now at result }
         ensures keeps { Carries (R.keeps receiver.old) (R.keeps receiver.new) }
         ensures same_keys { E.serves entries.new ≡ E.serves entries.old }
     {
@@ -861,16 +669,7 @@ impl<'a> Walk<'a> {
     ) -> Result<usize, (usize, Halt)>
         requires place { at ≤ length bytes.now }
         requires walk { CanWalk (E.serves entries.now) (E.contents entries.now) (R.room receiver.now) self.now }
-        ensures place { IfOk result (λ n. (at ≤ n) × (n ≤ length bytes.now)) }
-        ensures goes { IfOk result (λ n. Moves level R.has self.old receiver.old (E.contents entries.old)
-            self.new receiver.new (E.contents entries.new) (drop at bytes.now) (drop n bytes.now)) }
-        ensures whole { OnOk result (IsWhole self.new) }
-        ensures held_place { IfErr result (λ x. (at ≤ x.0) × (x.0 ≤ length bytes.now)) }
-        ensures held { IfErr result (λ x. (x.1).cause ≢ Cause.Memory → Holds level R.has R.room (E.serves entries.new)
-            self.old receiver.old (E.contents entries.old) self.new receiver.new (E.contents entries.new)
-            (drop at bytes.now) (drop x.0 bytes.now) x.1) }
-        ensures kept { OnOk result (KeepScalars (E.contents entries.new)) }
-        ensures room { OnOk result (HasRoom (R.room receiver.new) self.new) }
+        ensures runs { Runs level R.Receiver E.Entries self.old receiver.old entries.old self.new receiver.new entries.new bytes.now at result }
         ensures keeps { Carries (R.keeps receiver.old) (R.keeps receiver.new) }
         ensures same_keys { E.serves entries.new ≡ E.serves entries.old }
     {

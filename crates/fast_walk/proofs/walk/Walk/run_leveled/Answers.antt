@@ -12,5 +12,8 @@ pieces-preserved g c = record {
   same_keys = c.turn.ensures.same_keys ∙ c.pieces.invariant.same_keys;
 }
 
-pub returns-in-Err-turn-clause-held : goal.returns-in-Err-turn-clause-held
-returns-in-Err-turn-clause-held g c = λ other. rw (c.turn.ensures.same_keys, c.pieces.invariant.same_keys) (holds_at c.pieces.invariant.reaches (c.in-Err-turn.ensures.piece other))
+pub returns-in-Err-turn-clause-runs : goal.returns-in-Err-turn-clause-runs
+returns-in-Err-turn-clause-runs g c = (
+  (c.pieces.invariant.reaches.from, c.pieces.invariant.reaches.within),
+  λ other. rw (c.turn.ensures.same_keys, c.pieces.invariant.same_keys) (holds_at c.pieces.invariant.reaches (c.in-Err-turn.ensures.piece other)),
+)

@@ -1,13 +1,255 @@
+use Rattle.std.proofs.Common.{◌≡◌, ◌<◌, ◌++◌, ◌-◌, ◌∷◌, [], List, Some, length, length-append, drop, map, refl, sym, ap, ◌∙◌, arith, rules}
+use Rattle.std.proofs.lemmas.List.{nil_from_length}
+use Rattle.std.proofs.lemmas.Result.{err_from_is_err_and}
+use Rattle.fast_value.specs.declared.scalar.Scalar.TheVariants.{Decimal}
+use Rattle.fast_template.specs.Resolved.{list_of}
+use Rattle.fast_field.proofs.ReadFields.{bytes_from}
+use Rattle.fast_stream.specs.Nodes.{items_of, single}
+use Rattle.fast_walk.specs.OpenSegments.{Sequel, at_element, cursor, with_element}
+use Rattle.fast_walk.specs.Received.{after_sequence, closed_in, in_element, in_next, passed}
+use Rattle.fast_walk.specs.Room.{left_around}
+use Rattle.fast_walk.specs.Walks.{frame_of, next_of, sequel_of, weight_of}
+use Rattle.fast_walk.specs.declared.walk.Frame.{Frame as FrameNow}
+use Rattle.fast_walk.proofs.Pieces.{fault_stops, less_opened, opened_on, part_on, part_took, stops_here}
+use Rattle.fast_walk.proofs.Steps.{count_goes}
+use Rattle.fast_walk.proofs.Walking.{around_element, closed_bare, closed_on, closed_rest, closed_same, element_on, end_on_stops, has_next, inside_of_last, is_instruction, is_mantissa, is_sequel, last_frames, last_inside, last_of, left_last, mantissa_on_goes, mantissa_on_stops, no_frame, no_map_on, no_more_on, no_node_on, popped, rest_of_last, sequel_on, served_pop, some_frames}
 use Rattle.fast_walk.proofs.walk.Walk.step.Goals as goal
 
-pub returns-in-Element-clause-piece : goal.returns-in-Element-clause-piece
-returns-in-Element-clause-piece g c = c.element.ensures.piece _ _ c.requires.walk
+pub returns-in-Err-clause-piece : goal.returns-in-Err-clause-piece
+returns-in-Err-clause-piece g c =
+    fault_stops c.in-Mantissa.mantissa.now c.requires.walk c.level.ensures c.part_needs_bit-needs.ensures c.first_for-bit.ensures c.part_halt.ensures.cause c.part_halt.ensures.number c.in-Err.ensures.stops c.in-Err.ensures.room_on (λ stops o at.
+    let next = is_mantissa o.next _ c.in-Mantissa.mantissa.now (at.next ∙ ap next_of c.in-Mantissa.is) in
+    mantissa_on_stops g.L.Leveled.at o.around o.next next.exponent c.in-Mantissa.mantissa.now o.body _ _ next.is (stops c.args.self.now.spare))
 
-pub returns-in-Some-next_sequel-clause-piece : goal.returns-in-Some-next_sequel-clause-piece
-returns-in-Some-next_sequel-clause-piece g c = c.next_element.ensures.piece _ _ c.requires.walk
+pub returns-in-Ok-clause-piece : goal.returns-in-Ok-clause-piece
+returns-in-Ok-clause-piece g c =
+    let old = c.args.self.now in
+    let took = c.in-Ok.ensures.goes in (
+      record {
+        from = c.in-Ok.ensures.place.0;
+        within = c.in-Ok.ensures.place.1;
+        goes = λ o at.
+            let next = is_mantissa o.next _ c.in-Mantissa.mantissa.now (at.0.next ∙ ap next_of c.in-Mantissa.is) in (
+              passed o o.body.rest (single (Some (Decimal next.exponent took.0))),
+              (record { next = refl; rest = at.0.rest; around = at.0.around }, took.2 next.exponent o next.is at.1),
+              record { set = refl; before = refl; template = refl; members = refl; start = refl },
+              λ more. rw (c.take_for.ensures) (mantissa_on_goes g.L.Leveled.at o.around o.next next.exponent took.0 c.in-Mantissa.mantissa.now o.body (cursor _ old.bits old.spare (drop c.args.at c.args.bytes.now ++ more)) _ next.is
+                  (part_took old.bits c.level.ensures c.part_needs_bit-needs.ensures c.first_for-bit.ensures took.1 old.spare more)),
+            );
+        on = part_on c.requires.walk c.level.ensures c.part_needs_bit-needs.ensures c.first_for-bit.ensures refl (rw (c.in-Mantissa.is) at c.requires.walk.ready.next).0.1
+            (bytes_from c.args.bytes.now c.args.at (λ k. omega (arith, c.type_inv.bytes k))) took.1 c.in-Ok.ensures.room c.take_for.ensures refl tt c.requires.walk.ready.rest;
+      },
+      omega (arith, ap weight_of c.in-Mantissa.is),
+    )
 
-pub returns-in-None-next_sequel-clause-piece : goal.returns-in-None-next_sequel-clause-piece
-returns-in-None-next_sequel-clause-piece g c = c.end.ensures.piece _ c.requires.place _ _ c.requires.walk
+pub returns-then-sequel-eq0-clause-piece : goal.returns-then-sequel-eq0-clause-piece
+returns-then-sequel-eq0-clause-piece g c =
+    let can = c.requires.walk in
+    let old = c.args.self.now in
+    let d = g.E.Entries.contents c.args.entries.now in (
+      record {
+        from = omega arith;
+        within = c.requires.place;
+        goes = λ o at.
+            let q = is_sequel o.next (sequel_of c.in-Element.sequel) (at.0.next ∙ ap next_of c.in-Element.is) in
+            let left = ap (λ (s : Sequel). s.left) q.same in
+            let none : q.sequel.left ≡ 0 = omega (arith, left, c.if-sequel-eq0.true) in (
+              after_sequence o q.sequel,
+              (record { next = refl; rest = at.0.rest; around = at.0.around }, c.in_ok-end_sequence-in-Element.ensures.has o d q.sequel q.is none at.1),
+              record { set = refl; before = refl; template = refl; members = refl; start = refl },
+              λ more. no_more_on g.L.Leveled.at o.around o.next o.body q.sequel (cursor d old.bits old.spare (drop c.args.at c.args.bytes.now ++ more)) q.is none,
+            );
+        on = record { ready = record { next = tt; rest = can.ready.rest; around = can.ready.around }; kept = can.kept; room = c.in_ok-end_sequence-in-Element.ensures.room _ _ can.room };
+      },
+      omega (arith, ap weight_of c.in-Element.is),
+    )
 
-pub returns-in-Group-clause-piece : goal.returns-in-Group-clause-piece
-returns-in-Group-clause-piece g c = c.group.ensures.piece _ _ c.requires.walk
+pub returns-in_err-count-in-Element-clause-piece : goal.returns-in_err-count-in-Element-clause-piece
+returns-in_err-count-in-Element-clause-piece g c =
+    let p = err_from_is_err_and c.from_residual-in_err-count-in-Element.result c.from_residual-in_err-count-in-Element.ensures.1 in
+    rw (p.1, p.2) (λ other. stops_here c.requires.walk (λ o at.
+    let old = c.args.self.now in
+    let d = g.E.Entries.contents c.args.entries.now in
+    let bytes = drop c.args.at c.args.bytes.now in
+    let q = is_sequel o.next (sequel_of c.in-Element.sequel) (at.next ∙ ap next_of c.in-Element.is) in
+    no_node_on g.L.Leveled.at o.around o.next o.body q.sequel (sequel_of c.in-Element.sequel) (cursor d old.bits old.spare bytes) _ q.is q.same (omega (arith, c.if-sequel-eq0.false)) (c.in_err-count-in-Element.ensures d old.bits bytes)))
+
+pub returns-in_err-bits-in-Element-clause-piece : goal.returns-in_err-bits-in-Element-clause-piece
+returns-in_err-bits-in-Element-clause-piece g c =
+    let p = err_from_is_err_and c.from_residual-in_err-bits-in-Element.result c.from_residual-in_err-bits-in-Element.ensures.1 in
+    rw (p.1, p.2) (λ other. stops_here c.requires.walk (λ o at.
+    let old = c.args.self.now in
+    let d = g.E.Entries.contents c.args.entries.now in
+    let bytes = drop c.args.at c.args.bytes.now in
+    let q = is_sequel o.next (sequel_of c.in-Element.sequel) (at.next ∙ ap next_of c.in-Element.is) in
+    no_map_on g.L.Leveled.at o.around o.next o.body q.sequel (sequel_of c.in-Element.sequel) (cursor d old.bits old.spare bytes) (cursor d old.bits (old.spare - 1) bytes) _ q.is q.same (omega (arith, c.if-sequel-eq0.false))
+    (count_goes c.in-Element.sequel.number old.spare d old.bits bytes c.in_ok-count-in-Element.ensures) (rw (c.level-level.ensures) at c.in_err-bits-in-Element.ensures.stops other d old.bits (old.spare - 1))))
+
+pub returns-in_ok-open-in-Element-clause-piece : goal.returns-in_ok-open-in-Element-clause-piece
+returns-in_ok-open-in-Element-clause-piece g c =
+    let can = c.requires.walk in
+    let old = c.args.self.now in
+    let d = g.E.Entries.contents c.args.entries.now in
+    let end = c.in_ok-open-in-Element.ensures in
+    let members = rw (c.in-Element.is) at can.ready.next in (
+      record {
+        from = c.in_ok-bits-in-Element.ensures.place.0;
+        within = c.in_ok-bits-in-Element.ensures.place.1;
+        goes = λ o at.
+            let q = is_sequel o.next (sequel_of c.in-Element.sequel) (at.0.next ∙ ap next_of c.in-Element.is) in
+            let left = ap (λ (s : Sequel). s.left) q.same in
+            let some : 0 < q.sequel.left = omega (arith, left, c.if-sequel-eq0.false) in (
+              in_element o old.bits q.sequel,
+              (
+                record {
+                  next = ap next_of (sym end.next);
+                  rest = ap (λ (s : Sequel). s.members) q.same ∙ sym end.rest;
+                  around = rw (end.around) (around_element o.around (map frame_of old.around.items) old.bits o.body (list_of old.rest.now) q.sequel (sequel_of c.in-Element.sequel) at.0.around at.0.rest q.same);
+                },
+                c.in_ok-enter_element-in-Element.ensures.has q.sequel old.bits o d q.is (sym (ap (λ (s : Sequel). s.own_map) q.same)) some at.1,
+              ),
+              record { set = refl; before = refl; template = refl; members = refl; start = refl },
+              λ more.
+                  let bytes = drop c.args.at c.args.bytes.now ++ more in
+                  rw (end.bits, end.spare)
+                  (element_on g.L.Leveled.at o.around o.next o.body q.sequel (sequel_of c.in-Element.sequel) (cursor d old.bits old.spare bytes) (cursor d old.bits (old.spare - 1) bytes) _ q.is q.same (omega (arith, c.if-sequel-eq0.false))
+                  (count_goes c.in-Element.sequel.number old.spare d old.bits bytes c.in_ok-count-in-Element.ensures) (rw (c.level-level.ensures) at c.in_ok-bits-in-Element.ensures.goes d old.bits (old.spare - 1) more)),
+            );
+        on = opened_on end members (can.ready.rest, members) can.ready.around can.kept (c.in_ok-enter_element-in-Element.ensures.room _ old.bits _ c.in_ok-bits-in-Element.ensures.room can.room);
+      },
+      less_opened old.next c.in_ok-count-in-Element.ensures end,
+    )
+
+pub returns-in_err-judge_end-in-Some-next_sequel-clause-piece : goal.returns-in_err-judge_end-in-Some-next_sequel-clause-piece
+returns-in_err-judge_end-in-Some-next_sequel-clause-piece g c =
+    let p = err_from_is_err_and c.from_residual-in_err-judge_end-in-Some-next_sequel.result c.from_residual-in_err-judge_end-in-Some-next_sequel.ensures.1 in
+    let empty = nil_from_length c.args.self.now.rest.now c.in-None.ensures.cases in
+    rw (p.1, p.2) (λ other. stops_here c.requires.walk (λ o at.
+    let old = c.args.self.now in
+    let h = c.in_err-judge_end-in-Some-next_sequel.ensures in
+    rw (h.refused.1)
+    (end_on_stops g.L.Leveled.at o (map frame_of old.around.items) c.in_err-judge_end-in-Some-next_sequel.field-0.0.number (cursor _ old.bits old.spare _) at.around (λ none. some_frames c.in-Some-next_sequel.ensures.1 none)
+    h.inside (is_instruction o.next (at.next ∙ ap next_of c.in-Instruction.is)) (at.rest ∙ ap list_of empty) (rw (c.level-strictness.ensures) at h.refused.0) h.refused.2)))
+
+pub returns-in_err-count-in-Some-next_sequel-clause-piece : goal.returns-in_err-count-in-Some-next_sequel-clause-piece
+returns-in_err-count-in-Some-next_sequel-clause-piece g c =
+    let p = err_from_is_err_and c.from_residual-in_err-count-in-Some-next_sequel.result c.from_residual-in_err-count-in-Some-next_sequel.ensures.1 in
+    let empty = nil_from_length c.args.self.now.rest.now c.in-None.ensures.cases in
+    rw (p.1, p.2) (λ other. stops_here c.requires.walk (λ o at.
+    let old = c.args.self.now in
+    let d = g.E.Entries.contents c.args.entries.now in
+    let bytes = drop c.args.at c.args.bytes.now in
+    let t = sequel_of c.in-Some-next_sequel.sequel in
+    let n = has_next o.around at.around c.in-Some-next_sequel.ensures.1 in
+    let s = with_element n.sequel (items_of o.body.done) in
+    sequel_on g.L.Leveled.at o _ t n (cursor d old.bits old.spare bytes) (rw (c.level-strictness.ensures) at c.in_ok-judge_end-in-Some-next_sequel.ensures.clear) (is_instruction o.next (at.next ∙ ap next_of c.in-Instruction.is)) (at.rest ∙ ap list_of empty)
+    ∙ no_node_on g.L.Leveled.at n.last.before (at_element s) n.last.last.body s t (cursor d n.frame.bits old.spare bytes) _ refl n.same c.in-Some-next_sequel.ensures.0 (c.in_err-count-in-Some-next_sequel.ensures d n.frame.bits bytes)))
+
+pub returns-in_err-bits-in-Some-next_sequel-clause-piece : goal.returns-in_err-bits-in-Some-next_sequel-clause-piece
+returns-in_err-bits-in-Some-next_sequel-clause-piece g c =
+    let p = err_from_is_err_and c.from_residual-in_err-bits-in-Some-next_sequel.result c.from_residual-in_err-bits-in-Some-next_sequel.ensures.1 in
+    let empty = nil_from_length c.args.self.now.rest.now c.in-None.ensures.cases in
+    rw (p.1, p.2) (λ other. stops_here c.requires.walk (λ o at.
+    let old = c.args.self.now in
+    let d = g.E.Entries.contents c.args.entries.now in
+    let bytes = drop c.args.at c.args.bytes.now in
+    let t = sequel_of c.in-Some-next_sequel.sequel in
+    let n = has_next o.around at.around c.in-Some-next_sequel.ensures.1 in
+    let s = with_element n.sequel (items_of o.body.done) in
+    sequel_on g.L.Leveled.at o _ t n (cursor d old.bits old.spare bytes) (rw (c.level-strictness.ensures) at c.in_ok-judge_end-in-Some-next_sequel.ensures.clear) (is_instruction o.next (at.next ∙ ap next_of c.in-Instruction.is)) (at.rest ∙ ap list_of empty)
+    ∙ no_map_on g.L.Leveled.at n.last.before (at_element s) n.last.last.body s t (cursor d n.frame.bits old.spare bytes) (cursor d n.frame.bits (old.spare - 1) bytes) _ refl n.same c.in-Some-next_sequel.ensures.0
+    (count_goes t.number old.spare d n.frame.bits bytes c.in_ok-count-in-Some-next_sequel.ensures) (rw (c.level-strictness.ensures) at c.in_err-bits-in-Some-next_sequel.ensures.stops other d n.frame.bits (old.spare - 1))))
+
+pub returns-in_ok-next_element-in-Some-next_sequel-clause-piece : goal.returns-in_ok-next_element-in-Some-next_sequel-clause-piece
+returns-in_ok-next_element-in-Some-next_sequel-clause-piece g c =
+    let can = c.requires.walk in
+    let old = c.args.self.now in
+    let d = g.E.Entries.contents c.args.entries.now in
+    let empty = nil_from_length c.args.self.now.rest.now c.in-None.ensures.cases in
+    let t = sequel_of c.in-Some-next_sequel.sequel in
+    let fs = map frame_of old.around.items in
+    let l = c.in-Some-next_sequel.ensures.1 in
+    let end = c.go_on.ensures l.fore l.frame l.frames in
+    let served = served_pop (g.E.Entries.serves c.args.entries.now) (map frame_of l.fore) (frame_of l.frame) (rw (last_frames l) at can.ready.around) in
+    let members = rw (last_inside l) at served.1.1 in
+    let longer = ap (λ (fs : List FrameNow). length fs) l.frames ∙ length-append l.fore (l.frame ∷ []) in
+    let less = less_opened old.next c.in_ok-count-in-Some-next_sequel.ensures end in (
+      record {
+        from = c.in_ok-bits-in-Some-next_sequel.ensures.place.0;
+        within = c.in_ok-bits-in-Some-next_sequel.ensures.place.1;
+        goes = λ o at.
+            let next = is_instruction o.next (at.0.next ∙ ap next_of c.in-Instruction.is) in
+            let rest = at.0.rest ∙ ap list_of empty in
+            let n = has_next o.around at.0.around l in
+            let left = ap (λ (s : Sequel). s.left) n.same in
+            let more_left : 0 < n.sequel.left = omega (arith, left, c.in-Some-next_sequel.ensures.0) in (
+              in_next o n.frame.bits n.last.before n.last.last.body n.sequel,
+              (
+                record {
+                  next = ap next_of (sym end.next);
+                  rest = ap (λ (s : Sequel). s.members) n.same ∙ sym end.rest;
+                  around = around_element n.last.before n.fore n.frame.bits n.last.last.body n.frame.body.rest (with_element n.sequel (items_of o.body.done)) t n.last.rests (rest_of_last o.around n.fore n.frame n.last) n.same
+                      ∙ sym end.around;
+                },
+                c.in_ok-next_element-in-Some-next_sequel.ensures.has o d n.last.before n.last.last n.sequel n.frame.bits next rest n.last.is n.is (sym (ap (λ (s : Sequel). s.own_map) n.same)) more_left at.1,
+              ),
+              record { set = refl; before = refl; template = refl; members = refl; start = refl },
+              λ more.
+                  let bytes = drop c.args.at c.args.bytes.now ++ more in
+                  rw (end.bits, end.spare)
+                  (sequel_on g.L.Leveled.at o fs t n (cursor d old.bits old.spare bytes) (rw (c.level-strictness.ensures) at c.in_ok-judge_end-in-Some-next_sequel.ensures.clear) next rest
+                  ∙ element_on g.L.Leveled.at n.last.before (at_element (with_element n.sequel (items_of o.body.done))) n.last.last.body (with_element n.sequel (items_of o.body.done)) t (cursor d n.frame.bits old.spare bytes) (cursor d n.frame.bits (old.spare - 1) bytes) _ refl n.same c.in-Some-next_sequel.ensures.0
+                  (count_goes t.number old.spare d n.frame.bits bytes c.in_ok-count-in-Some-next_sequel.ensures) (rw (c.level-strictness.ensures) at c.in_ok-bits-in-Some-next_sequel.ensures.goes d n.frame.bits (old.spare - 1) more)),
+            );
+        on = opened_on end members (served.1.0, members) served.0 can.kept
+            (c.in_ok-next_element-in-Some-next_sequel.ensures.room (left_around (map frame_of l.fore)) l.frame.bits old.bits c.in_ok-bits-in-Some-next_sequel.bits c.in_ok-bits-in-Some-next_sequel.ensures.room (rw (left_last _ _ _ (last_frames l)) at can.room));
+      },
+      omega (arith, less, longer),
+    )
+
+pub returns-in_err-judge_end-in-None-next_sequel-clause-piece : goal.returns-in_err-judge_end-in-None-next_sequel-clause-piece
+returns-in_err-judge_end-in-None-next_sequel-clause-piece g c =
+    let p = err_from_is_err_and c.from_residual-in_err-judge_end-in-None-next_sequel.result c.from_residual-in_err-judge_end-in-None-next_sequel.ensures.1 in
+    let empty = nil_from_length c.args.self.now.rest.now c.in-None.ensures.cases in
+    rw (p.1, p.2) (λ other. stops_here c.requires.walk (λ o at.
+    let old = c.args.self.now in
+    let h = c.in_err-judge_end-in-None-next_sequel.ensures in
+    rw (h.refused.1)
+    (end_on_stops g.L.Leveled.at o (map frame_of old.around.items) c.in_err-judge_end-in-None-next_sequel.field-0.0.number (cursor _ old.bits old.spare _) at.around
+    (λ none. c.requires.inside c.in-Instruction.is (no_frame old.around.items none) empty)
+    h.inside (is_instruction o.next (at.next ∙ ap next_of c.in-Instruction.is)) (at.rest ∙ ap list_of empty) (rw (c.level-in-None-next_sequel.ensures) at h.refused.0) h.refused.2)))
+
+pub returns-in_ok-take_up-in-Some-pop-clause-piece : goal.returns-in_ok-take_up-in-Some-pop-clause-piece
+returns-in_ok-take_up-in-Some-pop-clause-piece g c =
+    let can = c.requires.walk in
+    let old = c.args.self.now in
+    let d = g.E.Entries.contents c.args.entries.now in
+    let empty = nil_from_length c.args.self.now.rest.now c.in-None.ensures.cases in
+    let f = c.in-Some-pop.field-0 in
+    let fs = map frame_of c.pop.new.self.items in
+    let pop = popped old.around.items c.pop.new.self.items c.pop.result f c.pop.ensures.items c.in-Some-pop.is in
+    let end = c.in_ok-take_up-in-Some-pop.ensures in
+    let served = served_pop (g.E.Entries.serves c.args.entries.now) fs (frame_of f) (rw pop at can.ready.around) in (
+      record {
+        from = omega arith;
+        within = c.requires.place;
+        goes = λ o at.
+            let l = last_of o.around fs (frame_of f) (at.0.around ∙ pop) in
+            let next = is_instruction o.next (at.0.next ∙ ap next_of c.in-Instruction.is) in
+            let rest = at.0.rest ∙ ap list_of empty in
+            let b = l.last.body in
+            let i = l.last.inside in
+            let had = end.has o d l.before l.last next rest l.is (inside_of_last o.around fs (frame_of f) l) at.1 in (
+              closed_in o l.before b i,
+              (record { next = had.1; rest = rw (end.rest) (closed_rest o l.before b i ∙ rest_of_last o.around fs (frame_of f) l); around = rw (end.around) (closed_bare o l.before b i ∙ l.rests) }, had.0),
+              closed_same o l.before b i,
+              λ more. rw (end.bits, end.spare) (closed_on g.L.Leveled.at o l.before fs (frame_of f) l (cursor d old.bits old.spare _) (rw (c.level-in-None-next_sequel.ensures) at c.in_ok-judge_end-in-None-next_sequel.ensures.clear) next rest),
+            );
+        on = record {
+          ready = record { next = end.served (g.E.Entries.serves c.args.entries.now) served.1.1; rest = rw (end.rest) served.1.0; around = rw (end.around) served.0 };
+          kept = can.kept;
+          room = rw (end.around, end.bits) (end.room (left_around fs) f.bits old.bits (rw (left_last _ fs (frame_of f) pop) at can.room));
+        };
+      },
+      search rules,
+    )
