@@ -1,8 +1,7 @@
 -- How reading goes on from a message's map and identifier to its body.
-use Rattle.std.proofs.Common.{◌≡◌, ℕ, Bool, true, List, [], ◌++◌, length, Option, Some, None, Result, Ok, Err, refl, sym, ap, ◌∙◌, append-nil}
+use Rattle.std.proofs.Common.{◌≡◌, ℕ, Bool, true, List, [], ◌++◌, length, Option, Some, None, Result, Ok, Err, refl, sym, ap, ◌∙◌}
 use Rattle.fast_value.specs.declared.scalar.Scalar.{Scalar}
 use Rattle.fast_value.specs.declared.scalar.Scalar.TheVariants.{U32}
-use Rattle.fast_template.specs.declared.resolved.FieldPart.{FieldPart}
 use Rattle.fast_template.specs.Resolved.{Instructions, Resolved, part_needs_bit}
 use Rattle.fast_dictionary.specs.Dictionary.{Dictionary, entry_at}
 use Rattle.fast_wire.specs.Reading.{◌>>=◌}
@@ -20,7 +19,7 @@ use Rattle.fast_stream.specs.Reading.{Cursor, Reads, field_part_at, own_map_at, 
 use Rattle.fast_walk.specs.OpenSegments.{Reading, body_on, cursor, ended_on, message_of, named_on}
 use Rattle.fast_walk.specs.Received.{Took}
 use Rattle.fast_walk.specs.Traversals.{identifier_on}
-use Rattle.fast_walk.proofs.Steps.{part_goes, part_stops, closed_on, from_none, end_passes, clear_goes, set_stops}
+use Rattle.fast_walk.proofs.Steps.{part_goes, part_stops, closed_on, from_none, end_passes, clear_goes, set_stops, with_none}
 
 abbrev value_read : Option Scalar → List ℕ → Result (Option Scalar × List ℕ) FieldFault
 value_read v rest = Ok (v, rest)
@@ -48,38 +47,21 @@ module _ (level : Level) where
       ap (content_of id) (closed_on level 0 (λ j. body_at level members j) c)
       ∙ ap (λ (r : Reads Items). content_of id (ended_on level 0 r)) (sym (from_none (body_at level members c)))
 
-  identifier_read : (set : List Resolved) (c e : Cursor) (id : ℕ) (members : Instructions) → field_part_at level identifier c ≡ Ok (Some (U32 id), e) → members_of set id ≡ Some members
-      → named_on level (in_template 0 (field_part_at level identifier c >>= named_at set c.bytes)) ≡ message_of level id (body_on level (record { rest = members; done = [] }) e)
-  identifier_read set c e id members h k = rw (h, k) (begins id members e)
-
-  identifier_refused : (set : List Resolved) (c : Cursor) (s : Stop) → field_part_at level identifier c ≡ Err s
-      → named_on level (in_template 0 (field_part_at level identifier c >>= named_at set c.bytes)) ≡ Err (record { template = 0; stop = s })
-  identifier_refused set c s h = rw h refl
-
-  unknown : (set : List Resolved) (c e : Cursor) (id : ℕ) → field_part_at level identifier c ≡ Ok (Some (U32 id), e) → members_of set id ≡ None
-      → named_on level (in_template 0 (field_part_at level identifier c >>= named_at set c.bytes)) ≡ Err (record { template = 0; stop = record { cause = D9; instruction = 0; left = length c.bytes } })
-  unknown set c e id h k = rw (h, k) refl
-
-  -- with no byte more
-  pub took_now : (p : FieldPart) (bit : Bool) (d e : Dictionary) (v : Option Scalar) (bytes rest : List ℕ) → Took level p bit d e v bytes rest → field_at level p (entry_at d p.key) bit bytes ≡ Ok (v, rest)
-  took_now p bit d e v bytes rest took =
-      ap (field_at level p (entry_at d p.key) bit) (sym (append-nil bytes)) ∙ took.value [] ∙ ap (value_read v) (append-nil rest)
-
   pub identifier_goes : (set : List Resolved) (d e : Dictionary) (bits : List Bool) (bytes rest more : List ℕ) (id : ℕ) (members : Instructions)
       → Took level identifier (own_bit bits) d e (Some (U32 id)) bytes rest → members_of set id ≡ Some members
       → identifier_on level set d bits (bytes ++ more) ≡ message_of level id (body_on level (record { rest = members; done = [] }) (cursor e (after_bit (part_needs_bit identifier) bits) node_limit (rest ++ more)))
   identifier_goes set d e bits bytes rest more id members took named =
-      identifier_read set (cursor d bits node_limit (bytes ++ more)) _ id members (part_goes level identifier d bits node_limit (bytes ++ more) (rest ++ more) (Some (U32 id)) (took.value more)) named
-      ∙ ap (λ (x : Dictionary). message_of level id (body_on level (record { rest = members; done = [] }) (cursor x (after_bit (part_needs_bit identifier) bits) node_limit (rest ++ more)))) (sym took.entry)
+      rw (part_goes level identifier d bits node_limit (bytes ++ more) (rest ++ more) (Some (U32 id)) (took.value more), named, took.entry) (begins id members _)
 
   pub identifier_stops : (set : List Resolved) (d : Dictionary) (bits : List Bool) (bytes : List ℕ) (f : FieldFault) → field_at level identifier (entry_at d identifier.key) (own_bit bits) bytes ≡ Err f
       → identifier_on level set d bits bytes ≡ Err (record { template = 0; stop = record { cause = cause_of_field f; instruction = 0; left = length bytes } })
-  identifier_stops set d bits bytes f h = identifier_refused set (cursor d bits node_limit bytes) _ (part_stops level identifier d bits node_limit bytes f h)
+  identifier_stops set d bits bytes f h = rw (part_stops level identifier d bits node_limit bytes f h) refl
 
   pub unknown_stops : (set : List Resolved) (d e : Dictionary) (bits : List Bool) (bytes rest : List ℕ) (id : ℕ) → Took level identifier (own_bit bits) d e (Some (U32 id)) bytes rest → members_of set id ≡ None
       → identifier_on level set d bits bytes ≡ Err (record { template = 0; stop = record { cause = D9; instruction = 0; left = length bytes } })
   unknown_stops set d e bits bytes rest id took none =
-      unknown set (cursor d bits node_limit bytes) _ id (part_goes level identifier d bits node_limit bytes rest (Some (U32 id)) (took_now identifier (own_bit bits) d e (Some (U32 id)) bytes rest took)) none
+      let value = with_none (field_at level identifier (entry_at d identifier.key) (own_bit bits)) (value_read (Some (U32 id))) bytes rest took.value in
+      rw (part_goes level identifier d bits node_limit bytes rest (Some (U32 id)) value, none) refl
 
   -- the end of a message
   pub content_goes : (id : ℕ) (ns : Items) (c : Cursor) → IsLeftClear level c.bits → message_of level id (Ok (ns, c)) ≡ Ok (record { template = id; items = ns }, c.dictionary, c.bytes)

@@ -7,27 +7,29 @@ use Rattle.fast_value.specs.declared.scalar.Scalar.{Scalar}
 use Rattle.fast_value.specs.declared.scalar.Scalar.TheVariants.{I32, I64, Decimal}
 use Rattle.fast_value.specs.declared.kind.Presence.{Presence}
 use Rattle.fast_template.specs.declared.resolved.FieldPart.{FieldPart}
-use Rattle.fast_template.specs.Resolved.{Instruction, Instructions, whole_field, field_in_parts, group_of, no_instructions, then_instruction, is_optional, has_map, Resolved}
+use Rattle.fast_template.specs.Resolved.{Instruction, Instructions, whole_field, field_in_parts, group_of, no_instructions, then_instruction, is_optional, has_map, list_of, Resolved}
 use Rattle.fast_wire.specs.Level.{IsLeftClear, some_set}
 use Rattle.fast_wire.specs.declared.level.Level.{Level}
 use Rattle.fast_wire.specs.declared.level.Level.TheVariants.{Strict}
 use Rattle.fast_stream.specs.declared.fault.Cause.TheVariants.{R8}
+use Rattle.fast_dictionary.specs.Dictionary.{Dictionary}
 use Rattle.fast_stream.specs.Nodes.{single, Items, items_of, sequence_elements, elements_of}
 use Rattle.fast_stream.specs.Bits.{bit_for, after_bit}
 use Rattle.fast_stream.specs.Faults.{Stop}
 use Rattle.fast_stream.specs.Streams.{members_of}
 use Rattle.fast_stream.specs.Reading.{Cursor, Reads, node_at, field_part_at, own_map_at, behind_bit, piece_at, stopped}
-use Rattle.fast_walk.specs.OpenSegments.{Body, Sequel, Waiting, Inside, in_group, in_sequence, Next, at_instruction, at_mantissa, at_element, with_item, with_element, fewer, under_bits, body_on, mantissa_on, top_on, behind_inside, all_around}
-use Rattle.fast_walk.specs.Received.{Received, Same, Goes, IsExponent, after_sequence, behind_last, closed_in, ended_in}
+use Rattle.fast_walk.specs.OpenSegments.{Body, Sequel, Waiting, Inside, in_group, in_sequence, Next, at_instruction, at_mantissa, at_element, with_item, with_element, cursor, fewer, under_bits, body_on, mantissa_on, top_on, behind_inside, all_around}
+use Rattle.fast_walk.specs.Received.{Having, Received, Same, Goes, IsExponent, after_sequence, in_element, behind_last, closed_in, ended_in}
 use Rattle.fast_walk.specs.Room.{left_around}
-use Rattle.fast_walk.specs.Walks.{bare_inside, bare, bare_next, bare_sequel, frame_of, inside_of, sequel_of, AreAllServed, IsLast, IsWaitingServed}
+use Rattle.fast_walk.specs.Walks.{At, IsAt, IsOpened, bare_inside, bare, bare_next, bare_sequel, frame_of, inside_of, next_of, reads_on, sequel_of, AreAllServed, IsLast, IsWaitingServed}
 use Rattle.fast_walk.specs.declared.walk.Frame.{Frame as FrameNow}
 use Rattle.fast_walk.specs.declared.walk.Inside.TheVariants as inside
+use Rattle.fast_walk.specs.declared.walk.Next.TheVariants as next
 use Rattle.fast_walk.specs.declared.walk.Sequel.{Sequel as SequelNow}
 use Rattle.fast_walk.specs.declared.walk.Walk.{Walk as WalkNow}
 use Rattle.std.proofs.Math.Seq.{get_or-append_seam, set-append_seam}
-use Rattle.std.proofs.Common.{length-append, take}
-use Rattle.fast_walk.proofs.Steps.{all_around-more, all_around-stops, end_goes, end_stops, items_on, no_more_goes, set_stops, some_left, then_on, whole_goes}
+use Rattle.std.proofs.Common.{length-append}
+use Rattle.fast_walk.proofs.Steps.{all_around-more, all_around-stops, count_goes, end_goes, end_stops, items_on, no_more_goes, set_stops, some_left, then_on, whole_goes}
 use Rattle.fast_walk.proofs.Steps.{element_on as element_around_on, group_on as group_around_on}
 
 -- ---- what is next
@@ -58,6 +60,19 @@ is_sequel at_instruction t h = absurd cc
 is_sequel (at_mantissa e p) t h = absurd cc
 is_sequel (at_element s) t h = record { sequel = s; is = refl; same = cc }
 
+-- the sequence whose element is next in a body, and those around it
+pub record IsAtElement (q : Received) (t : Sequel) (is : Instructions) (fs : List Waiting) : Type 0 where
+  pub sequel : Sequel
+  pub next : q.next ≡ at_element sequel
+  pub same : bare_sequel sequel ≡ t
+  pub rest : q.body.rest ≡ is
+  pub around : map bare q.around ≡ fs
+
+abbrev pub at_element_of : (o : Received) {w : WalkNow} {s : SequelNow} → IsAt w o → w.next ≡ next.Element s → IsAtElement o (sequel_of s) (list_of w.rest.now) (map frame_of w.around.items)
+at_element_of o {s = s} at is =
+    let q = is_sequel o.next (sequel_of s) (at.next ∙ ap next_of is) in
+    record { sequel = q.sequel; next = q.is; same = q.same; rest = at.rest; around = at.around }
+
 pub record IsElementOf (i : Inside) (t : Sequel) : Type 0 where
   pub sequel : Sequel
   pub is : i ≡ in_sequence sequel
@@ -81,22 +96,22 @@ not_there false v h k = k
 
 -- ---- an element
 
-left_is : (s t : Sequel) → bare_sequel s ≡ t → t.left ≡ s.left
+pub left_is : (s t : Sequel) → bare_sequel s ≡ t → t.left ≡ s.left
 left_is s t same = sym (ap (λ (x : Sequel). x.left) same)
 
 node_is : (s t : Sequel) (c : Cursor) (r : Result Cursor Stop) → bare_sequel s ≡ t → node_at t.number c ≡ r → node_at s.number c ≡ r
 node_is s t c r same h = ap (λ (x : Sequel). node_at x.number c) same ∙ h
 
-some_is : (s t : Sequel) → bare_sequel s ≡ t → 0 < t.left → 0 < s.left
+pub some_is : (s t : Sequel) → bare_sequel s ≡ t → 0 < t.left → 0 < s.left
 some_is s t same some = let left = left_is s t same in omega (arith, left, some)
 
-pub around_element : (us fs : List Waiting) (bits : List Bool) (b : Body) (is : Instructions) (s t : Sequel) → map bare us ≡ fs → b.rest ≡ is → bare_sequel s ≡ t
-    → map bare (us ++ record { bits = bits; number = s.number; body = b; inside = in_sequence (fewer s) } ∷ []) ≡ fs ++ record { bits = bits; number = t.number; body = record { rest = is; done = [] }; inside = in_sequence (fewer t) } ∷ []
-around_element us fs bits b is s t h k same =
-    map_push bare us (record { bits = bits; number = s.number; body = b; inside = in_sequence (fewer s) })
-    ∙ ap (λ (ws : List Waiting). ws ++ record { bits = bits; number = s.number; body = record { rest = b.rest; done = [] }; inside = in_sequence (fewer (bare_sequel s)) } ∷ []) h
-    ∙ ap (λ (x : Instructions). fs ++ record { bits = bits; number = s.number; body = record { rest = x; done = [] }; inside = in_sequence (fewer (bare_sequel s)) } ∷ []) k
-    ∙ ap (λ (x : Sequel). fs ++ record { bits = bits; number = x.number; body = record { rest = is; done = [] }; inside = in_sequence (fewer x) } ∷ []) same
+around_element : (q : Received) {t : Sequel} {is : Instructions} {fs : List Waiting} (bits : List Bool) (a : IsAtElement q t is fs)
+    → map bare (in_element q bits a.sequel).around ≡ fs ++ record { bits = bits; number = t.number; body = record { rest = is; done = [] }; inside = in_sequence (fewer t) } ∷ []
+around_element q {is = is} {fs = fs} bits a =
+    map_push bare q.around (record { bits = bits; number = a.sequel.number; body = q.body; inside = in_sequence (fewer a.sequel) })
+    ∙ ap (λ (ws : List Waiting). ws ++ record { bits = bits; number = a.sequel.number; body = record { rest = q.body.rest; done = [] }; inside = in_sequence (fewer (bare_sequel a.sequel)) } ∷ []) a.around
+    ∙ ap (λ (x : Instructions). fs ++ record { bits = bits; number = a.sequel.number; body = record { rest = x; done = [] }; inside = in_sequence (fewer (bare_sequel a.sequel)) } ∷ []) a.rest
+    ∙ ap (λ (x : Sequel). fs ++ record { bits = bits; number = x.number; body = record { rest = is; done = [] }; inside = in_sequence (fewer x) } ∷ []) a.same
 
 -- ---- the end of a segment
 
@@ -174,13 +189,6 @@ at_last fs fore n f d long h =
     let many = length-append fore (f ∷ []) in
     let place : n - 1 ≡ length fore = omega (arith, many, long, ap (λ (xs : List FrameNow). length xs) h) in
     rw (place, h) (get_or-append_seam fore f [] d, λ g. set-append_seam fore f [] g)
-
--- the last of the frames, and those in front of it
-pub split_last : (fs : List FrameNow) (n : ℕ) (f : FrameNow) → length fs ≡ suc n → slice_index_or fs n f ≡ f → fs ≡ take n fs ++ f ∷ []
-split_last [] n f long h = absurd (omega (arith, long))
-split_last (g ∷ []) zero f long h = ap (λ (x : FrameNow). x ∷ []) h
-split_last (g ∷ e ∷ fs) zero f long h = absurd (omega (arith, long))
-split_last (g ∷ fs) (suc n) f long h = ap (λ (xs : List FrameNow). g ∷ xs) (split_last fs n f (omega (arith, long)) h)
 
 -- ---- keys
 
@@ -267,6 +275,10 @@ has_next us {w} {s} h last =
     let e = is_element_of l.last.inside (sequel_of s) (inside_of_last us fore (frame_of last.frame) l ∙ last_inside last) in
     record { fore = fore; frame = frame_of last.frame; frames = last_frames last; last = l; sequel = e.sequel; is = e.is; same = e.same }
 
+-- the next one is next in the body that waits
+abbrev pub ended_at : (o : Received) (fs : List Waiting) (t : Sequel) (n : HasNext o.around fs t) → IsAtElement (ended_in o n.last.before n.last.last.body (in_sequence n.sequel)) t n.frame.body.rest n.fore
+ended_at o fs t n = record { sequel = with_element n.sequel (items_of o.body.done); next = refl; same = n.same; rest = rest_of_last o.around n.fore n.frame n.last; around = n.last.rests }
+
 pub left_last : (fs fore : List Waiting) (f : Waiting) → fs ≡ fore ++ f ∷ [] → left_around fs ≡ left_around fore ++ f.bits ∷ []
 left_last fs fore f h = ap left_around h ∙ map_push (λ (w : Waiting). w.bits) fore f
 
@@ -323,19 +335,35 @@ module _ (level : Level) where
   map_is : (s t : Sequel) (c : Cursor) (r : Result Cursor Stop) → bare_sequel s ≡ t → own_map_at level t.number t.own_map c ≡ r → own_map_at level s.number s.own_map c ≡ r
   map_is s t c r same h = ap (λ (x : Sequel). own_map_at level x.number x.own_map c) same ∙ h
 
-  pub element_on : (ws : List Waiting) (n : Next) (b : Body) (s t : Sequel) (c d e : Cursor) → n ≡ at_element s → bare_sequel s ≡ t → 0 < t.left → node_at t.number c ≡ Ok d → own_map_at level t.number t.own_map d ≡ Ok e
-      → all_around level ws (top_on level n b c) ≡ all_around level (ws ++ record { bits = d.bits; number = s.number; body = b; inside = in_sequence (fewer s) } ∷ []) (body_on level (record { rest = s.members; done = [] }) e)
-  element_on ws n b s t c d e next same some h k =
-      ap (λ (n : Next). all_around level ws (top_on level n b c)) next
-      ∙ ap (all_around level ws) (some_left level s b c (some_is s t same some) ∙ element_around_on level s.number s.own_map s.members (s.left - 1) s.done b c d e (node_is s t c (Ok d) same h) (map_is s t d (Ok e) same k))
-      ∙ sym (all_around-more level ws _ _)
+  element_on : (q : Received) {t : Sequel} {is : Instructions} {fs : List Waiting} (a : IsAtElement q t is fs) (c d e : Cursor) → 0 < t.left → node_at t.number c ≡ Ok d → own_map_at level t.number t.own_map d ≡ Ok e
+      → all_around level q.around (top_on level q.next q.body c) ≡ all_around level (in_element q d.bits a.sequel).around (body_on level (record { rest = a.sequel.members; done = [] }) e)
+  element_on q a c d e some h k =
+      let s = a.sequel in
+      ap (λ (n : Next). all_around level q.around (top_on level n q.body c)) a.next
+      ∙ ap (all_around level q.around) (some_left level s q.body c (some_is s _ a.same some) ∙ element_around_on level s.number s.own_map s.members (s.left - 1) s.done q.body c d e (node_is s _ c (Ok d) a.same h) (map_is s _ d (Ok e) a.same k))
+      ∙ sym (all_around-more level q.around _ _)
 
-  pub no_node_on : (ws : List Waiting) (n : Next) (b : Body) (s t : Sequel) (c : Cursor) (f : Stop) → n ≡ at_element s → bare_sequel s ≡ t → 0 < t.left → node_at t.number c ≡ Err f → all_around level ws (top_on level n b c) ≡ Err f
-  no_node_on ws n b s t c f next same some h = rw (next, some_left level s b c (some_is s t same some), node_is s t c (Err f) same h) (all_around-stops level ws f)
+  pub no_node_on : (q : Received) {t : Sequel} {is : Instructions} {fs : List Waiting} (c : Cursor) {f : Stop} → IsAtElement q t is fs → 0 < t.left → node_at t.number c ≡ Err f → all_around level q.around (top_on level q.next q.body c) ≡ Err f
+  no_node_on q c {f} a some h = rw (a.next, some_left level a.sequel q.body c (some_is a.sequel _ a.same some), node_is a.sequel _ c (Err f) a.same h) (all_around-stops level q.around f)
 
-  pub no_map_on : (ws : List Waiting) (n : Next) (b : Body) (s t : Sequel) (c d : Cursor) (f : Stop) → n ≡ at_element s → bare_sequel s ≡ t → 0 < t.left → node_at t.number c ≡ Ok d → own_map_at level t.number t.own_map d ≡ Err f
-      → all_around level ws (top_on level n b c) ≡ Err f
-  no_map_on ws n b s t c d f next same some h k = rw (next, some_left level s b c (some_is s t same some), node_is s t c (Ok d) same h, map_is s t d (Err f) same k) (all_around-stops level ws f)
+  pub no_map_on : (q : Received) {t : Sequel} {is : Instructions} {fs : List Waiting} (c : Cursor) {d : Cursor} {f : Stop} → IsAtElement q t is fs → 0 < t.left → node_at t.number c ≡ Ok d → own_map_at level t.number t.own_map d ≡ Err f
+      → all_around level q.around (top_on level q.next q.body c) ≡ Err f
+  no_map_on q c {d} {f} a some h k =
+      rw (a.next, some_left level a.sequel q.body c (some_is a.sequel _ a.same some), node_is a.sequel _ c (Ok d) a.same h, map_is a.sequel _ d (Err f) a.same k) (all_around-stops level q.around f)
+
+  -- in an element, from where it was next
+  pub enters : {R : Type 0} (Has : Having R) (w : WalkNow) {v : WalkNow} (s : R) (d : Dictionary) (o q : Received) (bytes rest : List ℕ) {frames : List FrameNow} {outer own : List Bool} {left : ℕ} {t : Sequel} {is : Instructions}
+      (a : IsAtElement q t is (map frame_of frames)) → Same o q → ((b : List ℕ) → reads_on level w d o b ≡ all_around level q.around (top_on level q.next q.body (cursor d outer left b)))
+      → 0 < t.left → 0 < left → IsOpened frames outer left t.number t.members is (in_sequence (fewer t)) own v
+      → ((more : List ℕ) → own_map_at level t.number t.own_map (cursor d outer (left - 1) (bytes ++ more)) ≡ Ok (cursor d own (left - 1) (rest ++ more)))
+      → (t.own_map ≡ a.sequel.own_map → 0 < a.sequel.left → Has s (in_element q outer a.sequel) d)
+      → (p : Received) × At Has v s d p × Same o p × ((more : List ℕ) → reads_on level w d o (bytes ++ more) ≡ reads_on level v d p (rest ++ more))
+  enters Has w s d o q bytes rest {outer = outer} {left = left} a same reads some spare end goes has = (
+    in_element q outer a.sequel,
+    (record { next = ap next_of (sym end.next); rest = ap (λ (s : Sequel). s.members) a.same ∙ sym end.rest; around = around_element q outer a ∙ sym end.around }, has (sym (ap (λ (s : Sequel). s.own_map) a.same)) (some_is a.sequel _ a.same some)),
+    record { set = same.set; before = same.before; template = same.template; members = same.members; start = same.start },
+    λ more. rw (end.bits, end.spare) (reads (bytes ++ more) ∙ element_on q a _ _ _ some (count_goes _ left d outer (bytes ++ more) spare) (goes more)),
+  )
 
   pub no_more_on : (ws : List Waiting) (n : Next) (b : Body) (s : Sequel) (c : Cursor) → n ≡ at_element s → s.left ≡ 0
       → all_around level ws (top_on level n b c) ≡ all_around level ws (body_on level (with_item b (sequence_elements (elements_of s.done))) c)

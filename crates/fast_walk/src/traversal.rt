@@ -51,7 +51,7 @@ pub struct Traversal<'a> {
 }
 
 impl<'a> Traversal<'a> {
-    ghost use Rattle.fast_walk.specs.Messages.{CanRead, IsSameSet, IsStep, MapRead, MessageStops, ReadsMessage};
+    ghost use Rattle.fast_walk.specs.Messages.{CanRead, IsSameSet, MapRead, ReadsMessage};
     ghost use Rattle.fast_walk.specs.Traversals.{ServesAll, begun_of, stop_of};
 
     /// At the beginning of a stream. Takes no memory.
@@ -145,44 +145,6 @@ impl<'a> Traversal<'a> {
         Ok(next)
     }
 
-    // Reads a message's identifier, and opens the body of the template that it names.
-    #[inline(always)]
-    fn identifier<R: Receiver, E: Entries>(
-        &mut self,
-        receiver: &mut R,
-        entries: &mut E,
-        bytes: &[u8],
-        at: usize,
-    ) -> Result<usize, Halt>
-        requires place { at ≤ length bytes.now }
-        requires stage { self.now.stage ≡ Stage.Identifier }
-        requires served { ServesAll (E.serves entries.now) self.now.set.now }
-        requires can { CanRead R.Receiver E.Entries self.now receiver.now entries.now }
-        ensures reads { MatchResult result
-            (λ n. IsStep R.Receiver E.Entries self.old receiver.old entries.old bytes.now at n self.new receiver.new entries.new)
-            (λ h. MessageStops R.Receiver E.Entries self.old receiver.old entries.old bytes.now at (at, h) self.new receiver.new entries.new) }
-        ensures stage { OnOk result (self.new.stage ≡ Stage.Body) }
-        ensures can { OnOk result (CanRead R.Receiver E.Entries self.new receiver.new entries.new) }
-        ensures same { IsSameSet E.Entries self.old entries.old self.new entries.new }
-    {
-        let needs = part_needs_bit(&self.identifier);
-        let bit = first_for(&self.walk.bits, needs);
-        let level = self.level();
-        match receiver.begin(self.alloc, entries, &self.identifier, bit, level, bytes, at) {
-            Err(fault) => Err(part_halt(&self.identifier, fault)),
-            Ok((id, next)) => match self.set.find(id) {
-                None => Err(Halt::new(Cause::D9, 0)),
-                Some(template) => {
-                    self.set_is_sound();
-                    self.template = id;
-                    self.walk.open_message(needs, &template.members);
-                    self.stage = Stage::Body;
-                    Ok(next)
-                }
-            },
-        }
-    }
-
     // Ends a message whose body has ended.
     #[inline(always)]
     fn end<R: Receiver>(&mut self, receiver: &mut R) -> Result<(), Halt>
@@ -231,8 +193,7 @@ impl<'a> Traversal<'a> {
         }
     }
 
-    // Reads a message from its identifier on.
-    #[tactic(auto, using(crate::proofs::Messages::read_behind))]
+    // Reads a message from its identifier on, in the body of the template that it names.
     #[inline(always)]
     fn behind_map<R: Receiver, E: Entries>(
         &mut self,
@@ -249,9 +210,21 @@ impl<'a> Traversal<'a> {
             self.new receiver.new entries.new }
         ensures same { IsSameSet E.Entries self.old entries.old self.new entries.new }
     {
-        match self.identifier(receiver, entries, bytes, at) {
-            Err(halt) => Err((at, halt)),
-            Ok(next) => self.body(receiver, entries, bytes, next),
+        let needs = part_needs_bit(&self.identifier);
+        let bit = first_for(&self.walk.bits, needs);
+        let level = self.level();
+        match receiver.begin(self.alloc, entries, &self.identifier, bit, level, bytes, at) {
+            Err(fault) => Err((at, part_halt(&self.identifier, fault))),
+            Ok((id, next)) => match self.set.find(id) {
+                None => Err((at, Halt::new(Cause::D9, 0))),
+                Some(template) => {
+                    self.set_is_sound();
+                    self.template = id;
+                    self.walk.open_message(needs, &template.members);
+                    self.stage = Stage::Body;
+                    self.body(receiver, entries, bytes, next)
+                }
+            },
         }
     }
 

@@ -1,4 +1,4 @@
-use Rattle.std.proofs.Common.{◌≡◌, ◌++◌, ◌∷◌, ◌-◌, [], length, length-append, map, sym, ap, arith, List, vec_len, ◌∙◌, rules, refl}
+use Rattle.std.proofs.Common.{◌≡◌, ◌++◌, ◌∷◌, ◌-◌, [], length, length-append, map, sym, ap, List, vec_len, ◌∙◌, rules, refl}
 use Rattle.std.proofs.lemmas.List.{map_push}
 use Rattle.fast_template.specs.Resolved.{list_of}
 use Rattle.fast_walk.specs.OpenSegments.{fewer, in_sequence}
@@ -8,18 +8,6 @@ use Rattle.fast_walk.specs.declared.walk.Inside.TheVariants.{Element}
 use Rattle.fast_walk.specs.declared.walk.Sequel.{Sequel as SequelNow}
 use Rattle.fast_walk.proofs.Walking.{at_last, last_is}
 use Rattle.fast_walk.proofs.walk.Walk.go_on.Goals as goal
-
-pub overflow_sub-elements : goal.overflow_sub-elements
-overflow_sub-elements c =
-    let e = sym c.in-Element.is ∙ last_is c.requires.last (vec_len c.args.self.now.around) c.in-Some.frame.now (search rules) c.in-Some.ensures.value in
-    let same : c.in-Element.elements ≡ c.args.sequel = cc in
-    let left = ap (λ (s : SequelNow). s.left) same in
-    omega (arith, left, c.requires.left)
-
-pub unreachable-requires : goal.unreachable-requires
-unreachable-requires c =
-    let e = sym c.in-Group.is ∙ last_is c.requires.last (vec_len c.args.self.now.around) c.in-Some.frame.now (search rules) c.in-Some.ensures.value in
-    cc
 
 pub returns-in-Element : goal.returns-in-Element
 returns-in-Element c = λ fore f frames.

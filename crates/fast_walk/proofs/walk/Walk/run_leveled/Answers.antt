@@ -2,9 +2,6 @@ use Rattle.std.proofs.Common.{◌∙◌}
 use Rattle.fast_walk.proofs.Pieces.{holds_at, reaches_on}
 use Rattle.fast_walk.proofs.walk.Walk.run_leveled.Goals as goal
 
-pub turn-requires-clause-walk : goal.turn-requires-clause-walk
-turn-requires-clause-walk g c = rw (c.pieces.invariant.same_keys) c.pieces.invariant.reaches.on
-
 pub pieces-preserved : goal.pieces-preserved
 pieces-preserved g c = record {
   reaches = reaches_on c.pieces.invariant.reaches (rw (c.pieces.invariant.same_keys) at c.in-Ok-turn.ensures.piece.0);

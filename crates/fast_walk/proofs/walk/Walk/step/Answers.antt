@@ -1,18 +1,18 @@
-use Rattle.std.proofs.Common.{◌≡◌, ◌<◌, ◌++◌, ◌-◌, ◌∷◌, [], List, Some, length, length-append, drop, map, refl, sym, ap, ◌∙◌, arith, rules}
+use Rattle.std.proofs.Common.{◌≡◌, ◌++◌, ◌-◌, ◌∷◌, [], List, Some, length, length-append, drop, map, refl, ap, ◌∙◌, arith, rules}
 use Rattle.std.proofs.lemmas.List.{nil_from_length}
 use Rattle.std.proofs.lemmas.Result.{err_from_is_err_and}
 use Rattle.fast_value.specs.declared.scalar.Scalar.TheVariants.{Decimal}
 use Rattle.fast_template.specs.Resolved.{list_of}
 use Rattle.fast_field.proofs.ReadFields.{bytes_from}
-use Rattle.fast_stream.specs.Nodes.{items_of, single}
-use Rattle.fast_walk.specs.OpenSegments.{Sequel, at_element, cursor, with_element}
-use Rattle.fast_walk.specs.Received.{after_sequence, closed_in, in_element, in_next, passed}
+use Rattle.fast_stream.specs.Nodes.{single}
+use Rattle.fast_walk.specs.OpenSegments.{cursor, in_sequence}
+use Rattle.fast_walk.specs.Received.{after_sequence, closed_in, ended_in, passed}
 use Rattle.fast_walk.specs.Room.{left_around}
 use Rattle.fast_walk.specs.Walks.{frame_of, next_of, sequel_of, weight_of}
 use Rattle.fast_walk.specs.declared.walk.Frame.{Frame as FrameNow}
 use Rattle.fast_walk.proofs.Pieces.{fault_stops, less_opened, opened_on, part_on, part_took, stops_here}
 use Rattle.fast_walk.proofs.Steps.{count_goes}
-use Rattle.fast_walk.proofs.Walking.{around_element, closed_bare, closed_on, closed_rest, closed_same, element_on, end_on_stops, has_next, inside_of_last, is_instruction, is_mantissa, is_sequel, last_frames, last_inside, last_of, left_last, mantissa_on_goes, mantissa_on_stops, no_frame, no_map_on, no_more_on, no_node_on, popped, rest_of_last, sequel_on, served_pop, some_frames}
+use Rattle.fast_walk.proofs.Walking.{at_element_of, closed_bare, closed_on, closed_rest, closed_same, end_on_stops, ended_at, enters, has_next, inside_of_last, is_instruction, is_mantissa, last_frames, last_inside, last_of, left_is, left_last, mantissa_on_goes, mantissa_on_stops, no_frame, no_map_on, no_more_on, no_node_on, popped, rest_of_last, sequel_on, served_pop, some_frames}
 use Rattle.fast_walk.proofs.walk.Walk.step.Goals as goal
 
 pub returns-in-Err-clause-piece : goal.returns-in-Err-clause-piece
@@ -44,20 +44,18 @@ returns-in-Ok-clause-piece g c =
 
 pub returns-then-sequel-eq0-clause-piece : goal.returns-then-sequel-eq0-clause-piece
 returns-then-sequel-eq0-clause-piece g c =
-    let can = c.requires.walk in
-    let old = c.args.self.now in
-    let d = g.E.Entries.contents c.args.entries.now in (
+    let can = c.requires.walk in (
       record {
         from = omega arith;
         within = c.requires.place;
         goes = λ o at.
-            let q = is_sequel o.next (sequel_of c.in-Element.sequel) (at.0.next ∙ ap next_of c.in-Element.is) in
-            let left = ap (λ (s : Sequel). s.left) q.same in
-            let none : q.sequel.left ≡ 0 = omega (arith, left, c.if-sequel-eq0.true) in (
-              after_sequence o q.sequel,
-              (record { next = refl; rest = at.0.rest; around = at.0.around }, c.in_ok-end_sequence-in-Element.ensures.has o d q.sequel q.is none at.1),
+            let a = at_element_of o at.0 c.in-Element.is in
+            let left = left_is a.sequel (sequel_of c.in-Element.sequel) a.same in
+            let none : a.sequel.left ≡ 0 = omega (arith, left, c.if-sequel-eq0.true) in (
+              after_sequence o a.sequel,
+              (record { next = refl; rest = at.0.rest; around = at.0.around }, c.in_ok-end_sequence-in-Element.ensures.has o _ a.sequel a.next none at.1),
               record { set = refl; before = refl; template = refl; members = refl; start = refl },
-              λ more. no_more_on g.L.Leveled.at o.around o.next o.body q.sequel (cursor d old.bits old.spare (drop c.args.at c.args.bytes.now ++ more)) q.is none,
+              λ more. no_more_on g.L.Leveled.at o.around o.next o.body a.sequel _ a.next none,
             );
         on = record { ready = record { next = tt; rest = can.ready.rest; around = can.ready.around }; kept = can.kept; room = c.in_ok-end_sequence-in-Element.ensures.room _ _ can.room };
       },
@@ -68,54 +66,31 @@ pub returns-in_err-count-in-Element-clause-piece : goal.returns-in_err-count-in-
 returns-in_err-count-in-Element-clause-piece g c =
     let p = err_from_is_err_and c.from_residual-in_err-count-in-Element.result c.from_residual-in_err-count-in-Element.ensures.1 in
     rw (p.1, p.2) (λ other. stops_here c.requires.walk (λ o at.
-    let old = c.args.self.now in
-    let d = g.E.Entries.contents c.args.entries.now in
-    let bytes = drop c.args.at c.args.bytes.now in
-    let q = is_sequel o.next (sequel_of c.in-Element.sequel) (at.next ∙ ap next_of c.in-Element.is) in
-    no_node_on g.L.Leveled.at o.around o.next o.body q.sequel (sequel_of c.in-Element.sequel) (cursor d old.bits old.spare bytes) _ q.is q.same (omega (arith, c.if-sequel-eq0.false)) (c.in_err-count-in-Element.ensures d old.bits bytes)))
+    no_node_on g.L.Leveled.at o _ (at_element_of o at c.in-Element.is) (omega (arith, c.if-sequel-eq0.false)) (c.in_err-count-in-Element.ensures _ _ _)))
 
 pub returns-in_err-bits-in-Element-clause-piece : goal.returns-in_err-bits-in-Element-clause-piece
 returns-in_err-bits-in-Element-clause-piece g c =
     let p = err_from_is_err_and c.from_residual-in_err-bits-in-Element.result c.from_residual-in_err-bits-in-Element.ensures.1 in
     rw (p.1, p.2) (λ other. stops_here c.requires.walk (λ o at.
-    let old = c.args.self.now in
-    let d = g.E.Entries.contents c.args.entries.now in
-    let bytes = drop c.args.at c.args.bytes.now in
-    let q = is_sequel o.next (sequel_of c.in-Element.sequel) (at.next ∙ ap next_of c.in-Element.is) in
-    no_map_on g.L.Leveled.at o.around o.next o.body q.sequel (sequel_of c.in-Element.sequel) (cursor d old.bits old.spare bytes) (cursor d old.bits (old.spare - 1) bytes) _ q.is q.same (omega (arith, c.if-sequel-eq0.false))
-    (count_goes c.in-Element.sequel.number old.spare d old.bits bytes c.in_ok-count-in-Element.ensures) (rw (c.level-level.ensures) at c.in_err-bits-in-Element.ensures.stops other d old.bits (old.spare - 1))))
+    no_map_on g.L.Leveled.at o _ (at_element_of o at c.in-Element.is) (omega (arith, c.if-sequel-eq0.false)) (count_goes _ _ _ _ _ c.in_ok-count-in-Element.ensures) (rw (c.level-level.ensures) at c.in_err-bits-in-Element.ensures.stops other _ _ _)))
 
 pub returns-in_ok-open-in-Element-clause-piece : goal.returns-in_ok-open-in-Element-clause-piece
 returns-in_ok-open-in-Element-clause-piece g c =
     let can = c.requires.walk in
     let old = c.args.self.now in
     let d = g.E.Entries.contents c.args.entries.now in
+    let bits = c.in_ok-bits-in-Element in
     let end = c.in_ok-open-in-Element.ensures in
+    let enter = c.in_ok-enter_element-in-Element.ensures in
     let members = rw (c.in-Element.is) at can.ready.next in (
       record {
-        from = c.in_ok-bits-in-Element.ensures.place.0;
-        within = c.in_ok-bits-in-Element.ensures.place.1;
+        from = bits.ensures.place.0;
+        within = bits.ensures.place.1;
         goes = λ o at.
-            let q = is_sequel o.next (sequel_of c.in-Element.sequel) (at.0.next ∙ ap next_of c.in-Element.is) in
-            let left = ap (λ (s : Sequel). s.left) q.same in
-            let some : 0 < q.sequel.left = omega (arith, left, c.if-sequel-eq0.false) in (
-              in_element o old.bits q.sequel,
-              (
-                record {
-                  next = ap next_of (sym end.next);
-                  rest = ap (λ (s : Sequel). s.members) q.same ∙ sym end.rest;
-                  around = rw (end.around) (around_element o.around (map frame_of old.around.items) old.bits o.body (list_of old.rest.now) q.sequel (sequel_of c.in-Element.sequel) at.0.around at.0.rest q.same);
-                },
-                c.in_ok-enter_element-in-Element.ensures.has q.sequel old.bits o d q.is (sym (ap (λ (s : Sequel). s.own_map) q.same)) some at.1,
-              ),
-              record { set = refl; before = refl; template = refl; members = refl; start = refl },
-              λ more.
-                  let bytes = drop c.args.at c.args.bytes.now ++ more in
-                  rw (end.bits, end.spare)
-                  (element_on g.L.Leveled.at o.around o.next o.body q.sequel (sequel_of c.in-Element.sequel) (cursor d old.bits old.spare bytes) (cursor d old.bits (old.spare - 1) bytes) _ q.is q.same (omega (arith, c.if-sequel-eq0.false))
-                  (count_goes c.in-Element.sequel.number old.spare d old.bits bytes c.in_ok-count-in-Element.ensures) (rw (c.level-level.ensures) at c.in_ok-bits-in-Element.ensures.goes d old.bits (old.spare - 1) more)),
-            );
-        on = opened_on end members (can.ready.rest, members) can.ready.around can.kept (c.in_ok-enter_element-in-Element.ensures.room _ old.bits _ c.in_ok-bits-in-Element.ensures.room can.room);
+            let a = at_element_of o at.0 c.in-Element.is in
+            enters g.L.Leveled.at g.R.Receiver.has old c.enter_element.new.self d o o (drop c.args.at c.args.bytes.now) (drop bits.next c.args.bytes.now) a (record { set = refl; before = refl; template = refl; members = refl; start = refl }) (λ b. refl)
+            (omega (arith, c.if-sequel-eq0.false)) c.in_ok-count-in-Element.ensures end (rw (c.level-level.ensures) at bits.ensures.goes d old.bits (old.spare - 1)) (λ own some. enter.has a.sequel old.bits o d a.next own some at.1);
+        on = opened_on end members (can.ready.rest, members) can.ready.around can.kept (enter.room _ old.bits _ bits.ensures.room can.room);
       },
       less_opened old.next c.in_ok-count-in-Element.ensures end,
     )
@@ -136,29 +111,18 @@ returns-in_err-count-in-Some-next_sequel-clause-piece g c =
     let p = err_from_is_err_and c.from_residual-in_err-count-in-Some-next_sequel.result c.from_residual-in_err-count-in-Some-next_sequel.ensures.1 in
     let empty = nil_from_length c.args.self.now.rest.now c.in-None.ensures.cases in
     rw (p.1, p.2) (λ other. stops_here c.requires.walk (λ o at.
-    let old = c.args.self.now in
-    let d = g.E.Entries.contents c.args.entries.now in
-    let bytes = drop c.args.at c.args.bytes.now in
-    let t = sequel_of c.in-Some-next_sequel.sequel in
     let n = has_next o.around at.around c.in-Some-next_sequel.ensures.1 in
-    let s = with_element n.sequel (items_of o.body.done) in
-    sequel_on g.L.Leveled.at o _ t n (cursor d old.bits old.spare bytes) (rw (c.level-strictness.ensures) at c.in_ok-judge_end-in-Some-next_sequel.ensures.clear) (is_instruction o.next (at.next ∙ ap next_of c.in-Instruction.is)) (at.rest ∙ ap list_of empty)
-    ∙ no_node_on g.L.Leveled.at n.last.before (at_element s) n.last.last.body s t (cursor d n.frame.bits old.spare bytes) _ refl n.same c.in-Some-next_sequel.ensures.0 (c.in_err-count-in-Some-next_sequel.ensures d n.frame.bits bytes)))
+    sequel_on g.L.Leveled.at o _ _ n _ (rw (c.level-strictness.ensures) at c.in_ok-judge_end-in-Some-next_sequel.ensures.clear) (is_instruction o.next (at.next ∙ ap next_of c.in-Instruction.is)) (at.rest ∙ ap list_of empty)
+    ∙ no_node_on g.L.Leveled.at _ _ (ended_at o _ _ n) c.in-Some-next_sequel.ensures.0 (c.in_err-count-in-Some-next_sequel.ensures _ _ _)))
 
 pub returns-in_err-bits-in-Some-next_sequel-clause-piece : goal.returns-in_err-bits-in-Some-next_sequel-clause-piece
 returns-in_err-bits-in-Some-next_sequel-clause-piece g c =
     let p = err_from_is_err_and c.from_residual-in_err-bits-in-Some-next_sequel.result c.from_residual-in_err-bits-in-Some-next_sequel.ensures.1 in
     let empty = nil_from_length c.args.self.now.rest.now c.in-None.ensures.cases in
     rw (p.1, p.2) (λ other. stops_here c.requires.walk (λ o at.
-    let old = c.args.self.now in
-    let d = g.E.Entries.contents c.args.entries.now in
-    let bytes = drop c.args.at c.args.bytes.now in
-    let t = sequel_of c.in-Some-next_sequel.sequel in
     let n = has_next o.around at.around c.in-Some-next_sequel.ensures.1 in
-    let s = with_element n.sequel (items_of o.body.done) in
-    sequel_on g.L.Leveled.at o _ t n (cursor d old.bits old.spare bytes) (rw (c.level-strictness.ensures) at c.in_ok-judge_end-in-Some-next_sequel.ensures.clear) (is_instruction o.next (at.next ∙ ap next_of c.in-Instruction.is)) (at.rest ∙ ap list_of empty)
-    ∙ no_map_on g.L.Leveled.at n.last.before (at_element s) n.last.last.body s t (cursor d n.frame.bits old.spare bytes) (cursor d n.frame.bits (old.spare - 1) bytes) _ refl n.same c.in-Some-next_sequel.ensures.0
-    (count_goes t.number old.spare d n.frame.bits bytes c.in_ok-count-in-Some-next_sequel.ensures) (rw (c.level-strictness.ensures) at c.in_err-bits-in-Some-next_sequel.ensures.stops other d n.frame.bits (old.spare - 1))))
+    sequel_on g.L.Leveled.at o _ _ n _ (rw (c.level-strictness.ensures) at c.in_ok-judge_end-in-Some-next_sequel.ensures.clear) (is_instruction o.next (at.next ∙ ap next_of c.in-Instruction.is)) (at.rest ∙ ap list_of empty)
+    ∙ no_map_on g.L.Leveled.at _ _ (ended_at o _ _ n) c.in-Some-next_sequel.ensures.0 (count_goes _ _ _ _ _ c.in_ok-count-in-Some-next_sequel.ensures) (rw (c.level-strictness.ensures) at c.in_err-bits-in-Some-next_sequel.ensures.stops other _ _ _)))
 
 pub returns-in_ok-next_element-in-Some-next_sequel-clause-piece : goal.returns-in_ok-next_element-in-Some-next_sequel-clause-piece
 returns-in_ok-next_element-in-Some-next_sequel-clause-piece g c =
@@ -166,43 +130,25 @@ returns-in_ok-next_element-in-Some-next_sequel-clause-piece g c =
     let old = c.args.self.now in
     let d = g.E.Entries.contents c.args.entries.now in
     let empty = nil_from_length c.args.self.now.rest.now c.in-None.ensures.cases in
-    let t = sequel_of c.in-Some-next_sequel.sequel in
-    let fs = map frame_of old.around.items in
     let l = c.in-Some-next_sequel.ensures.1 in
+    let bits = c.in_ok-bits-in-Some-next_sequel in
     let end = c.go_on.ensures l.fore l.frame l.frames in
+    let enter = c.in_ok-next_element-in-Some-next_sequel.ensures in
     let served = served_pop (g.E.Entries.serves c.args.entries.now) (map frame_of l.fore) (frame_of l.frame) (rw (last_frames l) at can.ready.around) in
     let members = rw (last_inside l) at served.1.1 in
     let longer = ap (λ (fs : List FrameNow). length fs) l.frames ∙ length-append l.fore (l.frame ∷ []) in
     let less = less_opened old.next c.in_ok-count-in-Some-next_sequel.ensures end in (
       record {
-        from = c.in_ok-bits-in-Some-next_sequel.ensures.place.0;
-        within = c.in_ok-bits-in-Some-next_sequel.ensures.place.1;
+        from = bits.ensures.place.0;
+        within = bits.ensures.place.1;
         goes = λ o at.
             let next = is_instruction o.next (at.0.next ∙ ap next_of c.in-Instruction.is) in
             let rest = at.0.rest ∙ ap list_of empty in
             let n = has_next o.around at.0.around l in
-            let left = ap (λ (s : Sequel). s.left) n.same in
-            let more_left : 0 < n.sequel.left = omega (arith, left, c.in-Some-next_sequel.ensures.0) in (
-              in_next o n.frame.bits n.last.before n.last.last.body n.sequel,
-              (
-                record {
-                  next = ap next_of (sym end.next);
-                  rest = ap (λ (s : Sequel). s.members) n.same ∙ sym end.rest;
-                  around = around_element n.last.before n.fore n.frame.bits n.last.last.body n.frame.body.rest (with_element n.sequel (items_of o.body.done)) t n.last.rests (rest_of_last o.around n.fore n.frame n.last) n.same
-                      ∙ sym end.around;
-                },
-                c.in_ok-next_element-in-Some-next_sequel.ensures.has o d n.last.before n.last.last n.sequel n.frame.bits next rest n.last.is n.is (sym (ap (λ (s : Sequel). s.own_map) n.same)) more_left at.1,
-              ),
-              record { set = refl; before = refl; template = refl; members = refl; start = refl },
-              λ more.
-                  let bytes = drop c.args.at c.args.bytes.now ++ more in
-                  rw (end.bits, end.spare)
-                  (sequel_on g.L.Leveled.at o fs t n (cursor d old.bits old.spare bytes) (rw (c.level-strictness.ensures) at c.in_ok-judge_end-in-Some-next_sequel.ensures.clear) next rest
-                  ∙ element_on g.L.Leveled.at n.last.before (at_element (with_element n.sequel (items_of o.body.done))) n.last.last.body (with_element n.sequel (items_of o.body.done)) t (cursor d n.frame.bits old.spare bytes) (cursor d n.frame.bits (old.spare - 1) bytes) _ refl n.same c.in-Some-next_sequel.ensures.0
-                  (count_goes t.number old.spare d n.frame.bits bytes c.in_ok-count-in-Some-next_sequel.ensures) (rw (c.level-strictness.ensures) at c.in_ok-bits-in-Some-next_sequel.ensures.goes d n.frame.bits (old.spare - 1) more)),
-            );
-        on = opened_on end members (served.1.0, members) served.0 can.kept
-            (c.in_ok-next_element-in-Some-next_sequel.ensures.room (left_around (map frame_of l.fore)) l.frame.bits old.bits c.in_ok-bits-in-Some-next_sequel.bits c.in_ok-bits-in-Some-next_sequel.ensures.room (rw (left_last _ _ _ (last_frames l)) at can.room));
+            enters g.L.Leveled.at g.R.Receiver.has old c.next_element.new.self d o (ended_in o n.last.before n.last.last.body (in_sequence n.sequel)) (drop c.args.at c.args.bytes.now) (drop bits.next c.args.bytes.now) (ended_at o _ _ n) (record { set = refl; before = refl; template = refl; members = refl; start = refl })
+            (λ b. sequel_on g.L.Leveled.at o _ _ n (cursor d old.bits old.spare b) (rw (c.level-strictness.ensures) at c.in_ok-judge_end-in-Some-next_sequel.ensures.clear) next rest)
+            c.in-Some-next_sequel.ensures.0 c.in_ok-count-in-Some-next_sequel.ensures end (rw (c.level-strictness.ensures) at bits.ensures.goes d l.frame.bits (old.spare - 1)) (λ own some. enter.has o d n.last.before n.last.last n.sequel l.frame.bits next rest n.last.is n.is own some at.1);
+        on = opened_on end members (served.1.0, members) served.0 can.kept (enter.room (left_around (map frame_of l.fore)) l.frame.bits old.bits bits.bits bits.ensures.room (rw (left_last _ _ _ (last_frames l)) at can.room));
       },
       omega (arith, less, longer),
     )
