@@ -60,14 +60,11 @@ number_in (sequence_of name number presence part members) = number
 
 not_counted : (level : Level) (i : Instruction) (c : Cursor) (s : Stop) → node_at (number_in i) c ≡ Err s → piece_at level i c ≡ Err s
 not_counted level (whole_field name number presence whole) c s h = rw h refl
-not_counted level (field_in_parts name number presence exponent mantissa) c s h = rw h refl
-not_counted level (group_of name number presence members) c s h = rw h refl
-not_counted level (sequence_of name number presence part members) c s h = rw h refl
+not_counted level i c s h = rw h refl
 
 pub weighs : (n : NextNow) → (0 < weight_of n) × (weight_of n ≤ 2)
 weighs next.Instruction = (omega arith, omega arith)
-weighs (next.Mantissa m) = (omega arith, omega arith)
-weighs (next.Element s) = (omega arith, omega arith)
+weighs n = (omega arith, omega arith)
 
 module _ {serves : Key → Bool} {d : Dictionary} {Room : List (List Bool) → List Bool → Bool} {w : WalkNow} where
   pub begins_served : {i : Instruction} {is : Instructions} → CanWalk serves d Room w → Begins w i is → IsServed serves i × AreServed serves is

@@ -29,8 +29,7 @@ use Rattle.fast_stream.proofs.ShortPieces.{IsShort, short_ok, short_then, part_s
 
 next_is_bare : (n : NextNow) → bare_next (next_of n) ≡ next_of n
 next_is_bare next.Instruction = refl
-next_is_bare (next.Mantissa p) = refl
-next_is_bare (next.Element q) = refl
+next_is_bare n = refl
 
 inside_is_bare : (i : InsideNow) → bare_inside (inside_of i) ≡ inside_of i
 inside_is_bare (inside.Group number) = refl

@@ -36,8 +36,7 @@ use Rattle.fast_walk.proofs.Steps.{element_on as element_around_on, group_on as 
 
 pub is_instruction : (n : Next) → bare_next n ≡ at_instruction → n ≡ at_instruction
 is_instruction at_instruction h = refl
-is_instruction (at_mantissa e p) h = absurd cc
-is_instruction (at_element s) h = absurd cc
+is_instruction n h = absurd cc
 
 -- the mantissa that is next, with its exponent
 pub record IsMantissa (n : Next) (p : FieldPart) : Type 0 where
@@ -45,9 +44,8 @@ pub record IsMantissa (n : Next) (p : FieldPart) : Type 0 where
   pub is : n ≡ at_mantissa exponent p
 
 pub is_mantissa : (n : Next) (z : ℤ) (p : FieldPart) → bare_next n ≡ at_mantissa z p → IsMantissa n p
-is_mantissa at_instruction z p h = absurd cc
 is_mantissa (at_mantissa e q) z p h = let same : q ≡ p = cc in record { exponent = e; is = ap (at_mantissa e) same }
-is_mantissa (at_element s) z p h = absurd cc
+is_mantissa n z p h = absurd cc
 
 -- the sequence whose element is next, with those that are read
 pub record IsSequel (n : Next) (t : Sequel) : Type 0 where
@@ -56,9 +54,8 @@ pub record IsSequel (n : Next) (t : Sequel) : Type 0 where
   pub same : bare_sequel sequel ≡ t
 
 pub is_sequel : (n : Next) (t : Sequel) → bare_next n ≡ at_element t → IsSequel n t
-is_sequel at_instruction t h = absurd cc
-is_sequel (at_mantissa e p) t h = absurd cc
 is_sequel (at_element s) t h = record { sequel = s; is = refl; same = cc }
+is_sequel n t h = absurd cc
 
 -- the sequence whose element is next in a body, and those around it
 pub record IsAtElement (q : Received) (t : Sequel) (is : Instructions) (fs : List Waiting) : Type 0 where
@@ -144,32 +141,20 @@ ended_around o ws b in_group = refl
 ended_around o ws b (in_sequence s) = refl
 
 -- and where its sequence has ended with it
+pub record IsClosed (o : Received) (ws : List Waiting) (b : Body) (p : Received) : Type 0 where
+  pub around : p.around ≡ ws
+  pub rest : p.body.rest ≡ b.rest
+  pub same : Same o p
 
-last_around : (k : ℕ) (o : Received) (s : Sequel) → (behind_last k o s).around ≡ o.around
-last_around zero o s = refl
-last_around (suc n) o s = refl
+last_same : (k : ℕ) (o : Received) (s : Sequel) → IsClosed o o.around o.body (behind_last k o s)
+last_same zero o s = record { around = refl; rest = refl; same = record { set = refl; before = refl; template = refl; members = refl; start = refl } }
+last_same (suc n) o s = record { around = refl; rest = refl; same = record { set = refl; before = refl; template = refl; members = refl; start = refl } }
 
-last_rest : (k : ℕ) (o : Received) (s : Sequel) → (behind_last k o s).body.rest ≡ o.body.rest
-last_rest zero o s = refl
-last_rest (suc n) o s = refl
-
-last_same : (k : ℕ) (o : Received) (s : Sequel) → Same o (behind_last k o s)
-last_same zero o s = record { set = refl; before = refl; template = refl; members = refl; start = refl }
-last_same (suc n) o s = record { set = refl; before = refl; template = refl; members = refl; start = refl }
-
-pub closed_bare : (o : Received) (ws : List Waiting) (b : Body) (i : Inside) → map bare (closed_in o ws b i).around ≡ map bare ws
-closed_bare o ws b in_group = refl
-closed_bare o ws b (in_sequence s) = ap (map bare) (last_around s.left (ended_in o ws b (in_sequence s)) (with_element s (items_of o.body.done)))
-
-pub closed_rest : (o : Received) (ws : List Waiting) (b : Body) (i : Inside) → (closed_in o ws b i).body.rest ≡ b.rest
-closed_rest o ws b in_group = refl
-closed_rest o ws b (in_sequence s) = last_rest s.left (ended_in o ws b (in_sequence s)) (with_element s (items_of o.body.done))
-
-pub closed_same : (o : Received) (ws : List Waiting) (b : Body) (i : Inside) → Same o (closed_in o ws b i)
-closed_same o ws b in_group = record { set = refl; before = refl; template = refl; members = refl; start = refl }
+pub closed_same : (o : Received) (ws : List Waiting) (b : Body) (i : Inside) → IsClosed o ws b (closed_in o ws b i)
+closed_same o ws b in_group = record { around = refl; rest = refl; same = record { set = refl; before = refl; template = refl; members = refl; start = refl } }
 closed_same o ws b (in_sequence s) =
     let p = last_same s.left (ended_in o ws b (in_sequence s)) (with_element s (items_of o.body.done)) in
-    record { set = p.set; before = p.before; template = p.template; members = p.members; start = p.start }
+    record { around = p.around; rest = p.rest; same = record { set = p.same.set; before = p.same.before; template = p.same.template; members = p.same.members; start = p.same.start } }
 
 -- what it is where none is left
 pub closed_none : (o : Received) (ws : List Waiting) (b : Body) (i : Inside) (s : Sequel) → i ≡ in_sequence s → s.left ≡ 0 → closed_in o ws b i ≡ after_sequence (ended_in o ws b (in_sequence s)) (with_element s (items_of o.body.done))

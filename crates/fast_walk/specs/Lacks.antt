@@ -45,12 +45,9 @@ Wants read want bytes l = (more : List ℕ) → IsLacking l more → read (bytes
 -- whether something of a field stands in the stream under this bit
 abbrev pub sends : Operator → Bool → Bool
 sends operator.Plain bit = true
-sends operator.Default bit = bit
-sends operator.Copy bit = bit
-sends operator.Increment bit = bit
-sends operator.Tail bit = bit
 sends operator.Delta bit = true
 sends operator.Constant bit = false
+sends o bit = bit
 
 -- the most bytes of the entity that what stands in the stream begins with, in front of its last
 abbrev pub whole_most : Kind → ℕ

@@ -51,8 +51,8 @@ pub struct Traversal<'a> {
 }
 
 impl<'a> Traversal<'a> {
-    ghost use Rattle.fast_walk.specs.Messages.{CanRead, IsSameSet, MapRead, ReadsMessage};
-    ghost use Rattle.fast_walk.specs.Traversals.{ServesAll, begun_of, stop_of};
+    ghost use Rattle.fast_walk.specs.Messages.{CanRead, IsSameSet, ReadsMessage};
+    ghost use Rattle.fast_walk.specs.Traversals.{ServesAll, begun_of};
 
     /// At the beginning of a stream. Takes no memory.
     pub fn new(alloc: Global, set: &'a TemplateSet, level: Level) -> Traversal<'a>
@@ -128,47 +128,7 @@ impl<'a> Traversal<'a> {
         self.template = 0;
     }
 
-    // Reads a message's map.
-    #[inline(always)]
-    fn map(&mut self, bytes: &[u8], at: usize) -> Result<usize, Halt>
-        requires place { at ≤ length bytes.now }
-        ensures { MatchResult result (λ n. MapRead self.old bytes.now at n self.new)
-            (λ h. (self.new ≡ self.old) × (h.cause ≢ Cause.Memory → (d : Dictionary)
-            → message_at self.old.level (templates_in self.old.set.now) d (drop at bytes.now)
-            ≡ Err (stop_of 0 h (drop at bytes.now)))) }
-    {
-        let (bits, next) = read_own_map(self.alloc, 0, true, self.level, bytes, at)?;
-        // the rest of the walk begins with the body, in the memory of the last one
-        self.walk.bits = bits;
-        self.walk.spare = NODE_LIMIT;
-        self.stage = Stage::Identifier;
-        Ok(next)
-    }
-
-    // Ends a message whose body has ended.
-    #[inline(always)]
-    fn end<R: Receiver>(&mut self, receiver: &mut R) -> Result<(), Halt>
-        requires whole { IsWhole self.now.walk }
-        requires room { HasRoom (R.room receiver.now) self.now.walk }
-        ensures clear { OnOk result (IsLeftClear self.old.level self.old.walk.bits) }
-        ensures stands { OnOk result (Completes (R.has receiver.old) (R.stands receiver.new)) }
-        ensures between { OnOk result ((self.new.stage ≡ Stage.Map) × (self.new.template ≡ 0)) }
-        ensures refused { IfErr result (λ h. h.cause ≢ Cause.Memory → (self.old.level ≡ Level.Strict)
-            × (h.cause ≡ Cause.R8) × (h.number ≡ 0) × (some_set self.old.walk.bits ≡ true)) }
-        ensures template { OnErr result (self.new.template ≡ self.old.template) }
-        ensures keeps { OnErr result (Carries (R.keeps receiver.old) (R.keeps receiver.new)) }
-        ensures set { self.new.set ≡ self.old.set }
-        ensures level { self.new.level ≡ self.old.level }
-    {
-        let level = self.level();
-        self.walk.judge_end(level)?;
-        receiver.finish(self.alloc)?;
-        self.stage = Stage::Map;
-        self.template = 0;
-        Ok(())
-    }
-
-    // Reads what is left of a message's body.
+    // Reads what is left of a message's body, and ends it.
     #[inline(always)]
     fn body<R: Receiver, E: Entries>(
         &mut self,
@@ -187,9 +147,16 @@ impl<'a> Traversal<'a> {
         let next = self
             .walk
             .run(self.level, self.alloc, receiver, entries, bytes, at)?;
-        match self.end(receiver) {
+        match self.walk.judge_end(self.level) {
             Err(halt) => Err((next, halt)),
-            Ok(()) => Ok(next),
+            Ok(()) => match receiver.finish(self.alloc) {
+                Err(error) => Err((next, Halt::from(error))),
+                Ok(()) => {
+                    self.stage = Stage::Map;
+                    self.template = 0;
+                    Ok(next)
+                }
+            },
         }
     }
 
@@ -230,7 +197,6 @@ impl<'a> Traversal<'a> {
 
     // Reads the next message from its map on, or from its identifier on where that is next. (A function of its own: where
     // a body is next, nothing of this is set up.)
-    #[tactic(auto, using(crate::proofs::Messages::map_can, crate::proofs::Messages::read_behind_map))]
     #[inline(never)]
     fn begin<R: Receiver, E: Entries>(
         &mut self,
@@ -248,9 +214,15 @@ impl<'a> Traversal<'a> {
         ensures same { IsSameSet E.Entries self.old entries.old self.new entries.new }
     {
         match self.stage {
-            Stage::Map => match self.map(bytes, at) {
+            Stage::Map => match read_own_map(self.alloc, 0, true, self.level, bytes, at) {
                 Err(halt) => Err((at, halt)),
-                Ok(next) => self.behind_map(receiver, entries, bytes, next),
+                Ok((bits, next)) => {
+                    // the rest of the walk begins with the body, in the memory of the last one
+                    self.walk.bits = bits;
+                    self.walk.spare = NODE_LIMIT;
+                    self.stage = Stage::Identifier;
+                    self.behind_map(receiver, entries, bytes, next)
+                }
             },
             Stage::Identifier => self.behind_map(receiver, entries, bytes, at),
             Stage::Body => unreachable!(),

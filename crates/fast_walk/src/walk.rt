@@ -598,29 +598,6 @@ impl<'a> Walk<'a> {
         }
     }
 
-    // Takes the next piece, or ends a segment, and then the fields behind it.
-    #[inline(always)]
-    fn turn<L: Leveled, R: Receiver, E: Entries>(
-        &mut self,
-        level: L,
-        alloc: Global,
-        receiver: &mut R,
-        entries: &mut E,
-        bytes: &[u8],
-        at: usize,
-    ) -> Result<usize, Halt>
-        requires inside { IsInside self.now }
-        requires place { at ≤ length bytes.now }
-        requires walk { CanWalk (E.serves entries.now) (E.contents entries.now) (R.room receiver.now) self.now }
-        ensures piece { IsTaken L.at R.Receiver E.Entries self.old receiver.old entries.old self.new receiver.new entries.new bytes.now at result }
-        ensures keeps { Carries (R.keeps receiver.old) (R.keeps receiver.new) }
-        ensures same_keys { E.serves entries.new ≡ E.serves entries.old }
-    {
-        let next = self.step(level, alloc, receiver, entries, bytes, at)?;
-        let place = self.fields(level, alloc, receiver, entries, bytes, next)?;
-        Ok(place)
-    }
-
     // Takes what is left of the message at a level that is known where the program is made.
     fn run_leveled<L: Leveled, R: Receiver, E: Entries>(
         &mut self,
@@ -648,9 +625,13 @@ impl<'a> Walk<'a> {
             {
                 return Err((place, Halt::new(Cause::Truncated, number)));
             }
-            match self.turn(level, alloc, receiver, entries, bytes, place) {
-                Ok(next) => place = next,
+            // a piece, and then the fields behind it
+            match self.step(level, alloc, receiver, entries, bytes, place) {
                 Err(halt) => return Err((place, halt)),
+                Ok(next) => match self.fields(level, alloc, receiver, entries, bytes, next) {
+                    Err(error) => return Err((place, Halt::from(error))),
+                    Ok(behind) => place = behind,
+                },
             }
         }
         Ok(place)

@@ -1,3 +1,4 @@
+use Rattle.std.proofs.Common.{refl}
 use Rattle.std.proofs.lemmas.Result.{err_from_is_err_and}
 use Rattle.fast_walk.proofs.Messages.{end_refused, ends_behind, message_ends, stops_behind, walk_halts, walk_step}
 use Rattle.fast_walk.proofs.traversal.Traversal.body.Goals as goal
@@ -7,12 +8,20 @@ returns-in_err-next-clause-reads g c =
     let p = err_from_is_err_and c.from_residual.result c.from_residual.ensures.1 in
     rw (p.1, p.2) (walk_halts _ c.requires.stage c.in_err-next.ensures.runs.0 c.run.ensures.keeps c.in_err-next.ensures.runs.1)
 
-pub returns-in-Ok-clause-reads : goal.returns-in-Ok-clause-reads
-returns-in-Ok-clause-reads g c =
+pub returns-in-Ok-finish-clause-reads : goal.returns-in-Ok-finish-clause-reads
+returns-in-Ok-finish-clause-reads g c =
     let o = c.in_ok-next.ensures.runs in
-    ends_behind (walk_step c.args.self.now.identifier_is c.requires.stage (o.0.from, o.0.within) c.run.ensures.keeps o.0.goes) (message_ends c.requires.stage o.1 o.0.within o.0.on.kept c.end.ensures.set c.in-Ok.ensures.clear c.in-Ok.ensures.stands c.in-Ok.ensures.between)
+    ends_behind (walk_step c.args.self.now.identifier_is c.requires.stage (o.0.from, o.0.within) c.run.ensures.keeps o.0.goes) (message_ends c.requires.stage o.1 o.0.within o.0.on.kept refl c.in-Ok.ensures.clear c.in-Ok-finish.ensures.stands (refl, refl))
 
 pub returns-in-Err-clause-reads : goal.returns-in-Err-clause-reads
 returns-in-Err-clause-reads g c =
     let o = c.in_ok-next.ensures.runs in
-    stops_behind (walk_step c.args.self.now.identifier_is c.requires.stage (o.0.from, o.0.within) c.run.ensures.keeps o.0.goes) (end_refused c.requires.stage o.1 o.0.within c.end.ensures.set c.in-Err.ensures.template c.in-Err.ensures.keeps c.in-Err.ensures.refused)
+    let h = c.in-Err.ensures in
+    stops_behind (walk_step c.args.self.now.identifier_is c.requires.stage (o.0.from, o.0.within) c.run.ensures.keeps o.0.goes)
+    (end_refused c.requires.stage o.1 o.0.within refl refl (λ set ms d k. k) (λ other. (h.refused.0, h.refused.1, h.message o.1.1, h.refused.2)))
+
+pub returns-in-Err-finish-clause-reads : goal.returns-in-Err-finish-clause-reads
+returns-in-Err-finish-clause-reads g c =
+    let o = c.in_ok-next.ensures.runs in
+    stops_behind (walk_step c.args.self.now.identifier_is c.requires.stage (o.0.from, o.0.within) c.run.ensures.keeps o.0.goes)
+    (end_refused c.requires.stage o.1 o.0.within refl refl c.in-Err-finish.ensures.keeps (λ other. absurd (other c.from.ensures)))

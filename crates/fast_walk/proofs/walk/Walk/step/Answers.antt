@@ -8,11 +8,11 @@ use Rattle.fast_stream.specs.Nodes.{single}
 use Rattle.fast_walk.specs.OpenSegments.{cursor, in_sequence}
 use Rattle.fast_walk.specs.Received.{after_sequence, closed_in, ended_in, passed}
 use Rattle.fast_walk.specs.Room.{left_around}
-use Rattle.fast_walk.specs.Walks.{frame_of, next_of, sequel_of, weight_of}
+use Rattle.fast_walk.specs.Walks.{bare, frame_of, next_of, sequel_of, weight_of}
 use Rattle.fast_walk.specs.declared.walk.Frame.{Frame as FrameNow}
 use Rattle.fast_walk.proofs.Pieces.{fault_stops, less_opened, opened_on, part_on, part_took, stops_here}
 use Rattle.fast_walk.proofs.Steps.{count_goes}
-use Rattle.fast_walk.proofs.Walking.{at_element_of, closed_bare, closed_on, closed_rest, closed_same, end_on_stops, ended_at, enters, has_next, inside_of_last, is_instruction, is_mantissa, last_frames, last_inside, last_of, left_is, left_last, mantissa_on_goes, mantissa_on_stops, no_frame, no_map_on, no_more_on, no_node_on, popped, rest_of_last, sequel_on, served_pop, some_frames}
+use Rattle.fast_walk.proofs.Walking.{at_element_of, closed_on, closed_same, end_on_stops, ended_at, enters, has_next, inside_of_last, is_instruction, is_mantissa, last_frames, last_inside, last_of, left_is, left_last, mantissa_on_goes, mantissa_on_stops, no_frame, no_map_on, no_more_on, no_node_on, popped, rest_of_last, sequel_on, served_pop, some_frames}
 use Rattle.fast_walk.proofs.walk.Walk.step.Goals as goal
 
 pub returns-in-Err-clause-piece : goal.returns-in-Err-clause-piece
@@ -185,10 +185,11 @@ returns-in_ok-take_up-in-Some-pop-clause-piece g c =
             let rest = at.0.rest ∙ ap list_of empty in
             let b = l.last.body in
             let i = l.last.inside in
+            let p = closed_same o l.before b i in
             let had = end.has o d l.before l.last next rest l.is (inside_of_last o.around fs (frame_of f) l) at.1 in (
               closed_in o l.before b i,
-              (record { next = had.1; rest = rw (end.rest) (closed_rest o l.before b i ∙ rest_of_last o.around fs (frame_of f) l); around = rw (end.around) (closed_bare o l.before b i ∙ l.rests) }, had.0),
-              closed_same o l.before b i,
+              (record { next = had.1; rest = rw (end.rest) (p.rest ∙ rest_of_last o.around fs (frame_of f) l); around = rw (end.around) (ap (map bare) p.around ∙ l.rests) }, had.0),
+              p.same,
               λ more. rw (end.bits, end.spare) (closed_on g.L.Leveled.at o l.before fs (frame_of f) l (cursor d old.bits old.spare _) (rw (c.level-in-None-next_sequel.ensures) at c.in_ok-judge_end-in-None-next_sequel.ensures.clear) next rest),
             );
         on = record {
