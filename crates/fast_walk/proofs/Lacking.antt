@@ -1,7 +1,7 @@
 -- What is too short to be read stays so until what it lacks has come.
 use Rattle.std.proofs.Common.{◌≡◌, ℕ, zero, suc, ◌<◌, ◌≤◌, Bool, true, false, List, [], ◌∷◌, ◌++◌, length, Option, Some, None, Result, Ok, Err, refl, sym, ap, subst, ◌∙◌, arith, length-append, inl, inr, ◌-◌, append-nil}
 use Rattle.std.specs.Prelude.{nat_le, IfSome, pos}
-use Rattle.fast_template.specs.Resolved.{Instruction, Resolved, Instructions, then_instruction, whole_field, field_in_parts, sequence_of, list_of, part_needs_bit}
+use Rattle.fast_template.specs.Resolved.{Instruction, Resolved, Instructions, then_instruction, list_of, part_needs_bit, group_of, no_instructions}
 use Rattle.fast_dictionary.specs.Dictionary.{entry_at}
 use Rattle.fast_stream.specs.Bits.{bit_for}
 use Rattle.fast_stream.specs.Nodes.{Content, Items}
@@ -20,6 +20,7 @@ use Rattle.fast_walk.proofs.Heads.{content_fails}
 use Rattle.fast_walk.specs.Walks.{next_of, reads_on}
 use Rattle.fast_walk.specs.declared.walk.Next.TheVariants as next
 use Rattle.fast_walk.specs.declared.walk.Walk.{Walk}
+use Rattle.fast_walk.proofs.Pieces.{number_in}
 use Rattle.fast_walk.proofs.Steps.{count_goes, part_stops}
 use Rattle.fast_walk.proofs.Walking.{is_instruction, is_mantissa, mantissa_on_stops, piece_stops_on}
 use Rattle.fast_wire.specs.Entity.{HasNoStop}
@@ -184,26 +185,21 @@ vector_lacks {level} {i} {e} {bit} s d h = record { lacks = λ more lacking. rw 
 
 -- ---- walks
 
--- where the part that is next waits, all that is left to be read does
-instruction_lacks : (level : Level) (w : Walk) (d : Dictionary) (i : Instruction) (number : ℕ) (part : FieldPart) (others : Instructions) (bytes : List ℕ) (l : Lack) → 0 < w.spare → w.next ≡ next.Instruction → list_of w.rest.now ≡ then_instruction i others
-    → ((c k : Cursor) (s : Stop) → node_at number c ≡ Ok k → field_part_at level part k ≡ Err s → piece_at level i c ≡ Err s)
-    → FieldLacks level part (entry_at d part.key) (bit_for (part_needs_bit part) w.bits) bytes l → WalkLacks level w d bytes l
-instruction_lacks level w d i number part others bytes l some is first begins h = λ o more lacking at.
-    let xs = bytes ++ more in
-    let waits = part_stops level part d w.bits (w.spare - 1) xs fault.NeedMore (h.lacks more lacking) in
-    let piece : piece_at level i (cursor d w.bits w.spare xs) ≡ stopped part.number xs Truncated = begins (cursor d w.bits w.spare xs) (cursor d w.bits (w.spare - 1) xs) _ (count_goes number w.spare d w.bits xs some) waits in
-    let stops = piece_stops_on level o.around o.next o.body i others (cursor d w.bits w.spare xs) _ (is_instruction o.next (at.next ∙ ap next_of is)) (at.rest ∙ first) piece in
-    subst (λ (r : Reads Items). StopsShort l.number (length xs) r) (sym stops) (refl, (sym h.number, refl))
+-- where the first part of an instruction waits, it does
+piece_waits : (level : Level) (p : FieldPart) (i : Instruction) (is : Instructions) (c k : Cursor) (s : Stop) → IsFirst p (then_instruction i is) → node_at (number_in i) c ≡ Ok k → field_part_at level p k ≡ Err s → piece_at level i c ≡ Err s
+piece_waits level p (group_of name number presence members) is c k s first n m = absurd first
+piece_waits level p i is c k s first n m = rw (n, first, m) refl
 
+-- and all that is left to be read does
 first_lacks : (level : Level) (w : Walk) (d : Dictionary) (part : FieldPart) (is : Instructions) (bytes : List ℕ) (l : Lack) → 0 < w.spare → w.next ≡ next.Instruction → list_of w.rest.now ≡ is → IsFirst part is
     → FieldLacks level part (entry_at d part.key) (bit_for (part_needs_bit part) w.bits) bytes l → WalkLacks level w d bytes l
-first_lacks level w d part (then_instruction (whole_field name number presence whole) others) bytes l some is rest first h =
-    instruction_lacks level w d (whole_field name number presence part) number part others bytes l some is (rest ∙ ap (λ (p : FieldPart). then_instruction (whole_field name number presence p) others) first) (λ c k s n m. rw (n, m) refl) h
-first_lacks level w d part (then_instruction (field_in_parts name number presence exponent mantissa) others) bytes l some is rest first h =
-    instruction_lacks level w d (field_in_parts name number presence part mantissa) number part others bytes l some is (rest ∙ ap (λ (p : FieldPart). then_instruction (field_in_parts name number presence p mantissa) others) first) (λ c k s n m. rw (n, m) refl) h
-first_lacks level w d part (then_instruction (sequence_of name number presence count members) others) bytes l some is rest first h =
-    instruction_lacks level w d (sequence_of name number presence part members) number part others bytes l some is (rest ∙ ap (λ (p : FieldPart). then_instruction (sequence_of name number presence p members) others) first) (λ c k s n m. rw (n, m) refl) h
-first_lacks level w d part others bytes l some is rest first h = absurd first
+first_lacks level w d part no_instructions bytes l some is rest first h = absurd first
+first_lacks level w d part (then_instruction i others) bytes l some is rest first h = λ o more lacking at.
+    let xs = bytes ++ more in
+    let waits = part_stops level part d w.bits (w.spare - 1) xs fault.NeedMore (h.lacks more lacking) in
+    let piece = piece_waits level part i others (cursor d w.bits w.spare xs) (cursor d w.bits (w.spare - 1) xs) _ first (count_goes (number_in i) w.spare d w.bits xs some) waits in
+    let stops = piece_stops_on level o.around o.next o.body i others (cursor d w.bits w.spare xs) _ (is_instruction o.next (at.next ∙ ap next_of is)) (at.rest ∙ rest) piece in
+    subst (λ (r : Reads Items). StopsShort l.number (length xs) r) (sym stops) (refl, (sym h.number, refl))
 
 -- where the mantissa that is next waits, all that is left to be read does
 mantissa_lacks : (level : Level) (w : Walk) (d : Dictionary) (mantissa : FieldPart) (bytes : List ℕ) (l : Lack) → next_of w.next ≡ at_mantissa (pos 0) mantissa

@@ -5,7 +5,7 @@ use Rattle.fast_value.specs.declared.scalar.Scalar.TheVariants.{U32}
 use Rattle.fast_template.specs.declared.resolved.FieldPart.{FieldPart}
 use Rattle.fast_template.specs.Resolved.{Instruction, Instructions, no_instructions, then_instruction, has_map}
 use Rattle.fast_dictionary.specs.Dictionary.{Dictionary}
-use Rattle.fast_wire.specs.Reading.{◌>>=◌, entity_at, map_at}
+use Rattle.fast_wire.specs.Reading.{◌>>=◌, entity_at}
 use Rattle.fast_wire.specs.declared.fault.WireFault.{WireFault}
 use Rattle.fast_wire.proofs.GoingOn.{entity_goes}
 use Rattle.fast_wire.specs.Level.{judge, verdict, overlong_map, some_set, IsLeftClear}
@@ -187,11 +187,6 @@ module _ (level : Level) where
       ≡ elements_on level (record { number = number; own_map = has_map members; members = members; left = n; done = [] }) (record { rest = is; done = done }) c
   length_on number members is n done c = sequence_then is done (each_at number (segment_at level number (has_map members) (closing level number (λ j. body_at level members j))) n c)
 
-  -- no element more
-  pub no_element_on : (number : ℕ) (own_map : Bool) (members : Instructions) (done : List Items) (b : Body) (c : Cursor)
-      → elements_on level (record { number = number; own_map = own_map; members = members; left = 0; done = done }) b c ≡ body_on level (with_item b (sequence_elements (elements_of done))) c
-  no_element_on number own_map members done b c = ap (λ (es : Elements). body_on level (with_item b (sequence_elements es)) c) (elements_before-end done)
-
   abbrev after_element : Items → Reads Elements → Reads Elements
   after_element ns r = r >>= λ es. Ok (then_element ns es.0, es.1)
 
@@ -233,11 +228,6 @@ module _ (level : Level) where
 
   -- ---- one piece
 
-  -- a map of a segment's own
-  pub own_map_goes : (number : ℕ) (d : Dictionary) (bits : List Bool) (spare : ℕ) (bytes : List ℕ) (own : List Bool) (rest : List ℕ)
-      → judge level 256 overlong_map cause_of_wire R7 bytes ≡ Ok tt → map_at bytes ≡ Ok (own, rest) → own_map_at level number true (cursor d bits spare bytes) ≡ Ok (cursor d own spare rest)
-  own_map_goes number d bits spare bytes own rest j h = rw (j, h) refl
-
   -- a part
   pub part_goes : (p : FieldPart) (d : Dictionary) (bits : List Bool) (spare : ℕ) (bytes rest : List ℕ) (v : Option Scalar)
       → field_at level p (entry_at d p.key) (bit_for (part_needs_bit p) bits) bytes ≡ Ok (v, rest)
@@ -260,8 +250,7 @@ module _ (level : Level) where
 
   -- no element more
   pub no_more_goes : (s : Sequel) (b : Body) (c : Cursor) → s.left ≡ 0 → elements_on level s b c ≡ body_on level (with_item b (sequence_elements (elements_of s.done))) c
-  no_more_goes s b c is =
-      ap (λ (m : ℕ). elements_on level (record { number = s.number; own_map = s.own_map; members = s.members; left = m; done = s.done }) b c) is ∙ no_element_on s.number s.own_map s.members s.done b c
+  no_more_goes s b c is = rw is (ap (λ (es : Elements). body_on level (with_item b (sequence_elements es)) c) (elements_before-end s.done))
 
   -- the end of the message's own body
   pub whole_goes : (done : List Item) (c : Cursor) → body_on level (record { rest = no_instructions; done = done }) c ≡ Ok (items_of done, c)

@@ -165,10 +165,6 @@ popped old new r f h k = ap (map frame_of) (h ∙ ap (λ (o : Option FrameNow). 
 
 -- ---- the last frame in another's place
 
-nothing_ends : (ws : List Waiting) (w : Waiting) → ◌≡◌ {A = List Waiting} [] (ws ++ w ∷ []) → ⊥
-nothing_ends [] w h = absurd cc
-nothing_ends (v ∷ ws) w h = absurd cc
-
 pub at_last : (fs fore : List FrameNow) (n : ℕ) (f d : FrameNow) → length fs ≡ n → fs ≡ fore ++ f ∷ [] → (slice_index_or fs (n - 1) d ≡ f) × ((g : FrameNow) → slice_set fs (n - 1) g ≡ fore ++ g ∷ [])
 at_last fs fore n f d long h =
     let many = length-append fore (f ∷ []) in
@@ -229,9 +225,6 @@ has_last (u ∷ v ∷ us) some =
 
 pub last_frames : {w : WalkNow} {s : SequelNow} (l : IsLast w s) → map frame_of w.around.items ≡ map frame_of l.fore ++ frame_of l.frame ∷ []
 last_frames l = ap (map frame_of) l.frames ∙ map_push frame_of l.fore l.frame
-
-pub some_frames : {w : WalkNow} {s : SequelNow} (l : IsLast w s) → map frame_of w.around.items ≡ [] → ⊥
-some_frames l none = let e = sym (last_frames l) ∙ none in nothing_ends (map frame_of l.fore) (frame_of l.frame) (sym e)
 
 pub last_is : {w : WalkNow} {s : SequelNow} (l : IsLast w s) (n : ℕ) (f : FrameNow) → length w.around.items ≡ n → f ≡ slice_index_or w.around.items (n - 1) f → f.inside ≡ inside.Element s
 last_is {w} l n f long is = ap (λ (x : FrameNow). x.inside) (is ∙ (at_last w.around.items l.fore n l.frame f long l.frames).0) ∙ l.inside

@@ -528,23 +528,22 @@ impl<'a> Walk<'a> {
                 Some((flat, others)) => self.instruction(
                     level, alloc, receiver, entries, flat, others, bytes, at,
                 ),
-                None => match self.next_sequel() {
-                    Some(sequel) => {
-                        let strictness = level.level();
-                        let number = sequel.number;
-                        let own_map = sequel.own_map;
-                        self.judge_end(strictness)?;
-                        self.count(number)?;
-                        let (bits, next) = read_own_map(
-                            alloc, number, own_map, strictness, bytes, at,
-                        )?;
-                        receiver.next_element(alloc, own_map, sequel.members.len())?;
-                        self.go_on(sequel, bits);
-                        Ok(next)
-                    }
-                    None => {
-                        self.judge_end(level.level())?;
-                        match self.around.pop() {
+                None => {
+                    self.judge_end(level.level())?;
+                    match self.next_sequel() {
+                        Some(sequel) => {
+                            let strictness = level.level();
+                            let number = sequel.number;
+                            let own_map = sequel.own_map;
+                            self.count(number)?;
+                            let (bits, next) = read_own_map(
+                                alloc, number, own_map, strictness, bytes, at,
+                            )?;
+                            receiver.next_element(alloc, own_map, sequel.members.len())?;
+                            self.go_on(sequel, bits);
+                            Ok(next)
+                        }
+                        None => match self.around.pop() {
                             None => unreachable!(),
                             Some(Frame { bits, rest, inside }) => {
                                 self.bits = bits;
@@ -552,9 +551,9 @@ impl<'a> Walk<'a> {
                                 self.take_up(alloc, receiver, inside)?;
                                 Ok(at)
                             }
-                        }
+                        },
                     }
-                },
+                }
             },
         }
     }

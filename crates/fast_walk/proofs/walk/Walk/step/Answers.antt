@@ -12,7 +12,7 @@ use Rattle.fast_walk.specs.Walks.{bare, frame_of, next_of, sequel_of, weight_of}
 use Rattle.fast_walk.specs.declared.walk.Frame.{Frame as FrameNow}
 use Rattle.fast_walk.proofs.Pieces.{fault_stops, less_opened, opened_on, part_on, part_took, stops_here}
 use Rattle.fast_walk.proofs.Steps.{count_goes}
-use Rattle.fast_walk.proofs.Walking.{at_element_of, closed_on, closed_same, end_on_stops, ended_at, enters, has_next, inside_of_last, is_instruction, is_mantissa, last_frames, last_inside, last_of, left_is, left_last, mantissa_on_goes, mantissa_on_stops, no_frame, no_map_on, no_more_on, no_node_on, popped, rest_of_last, sequel_on, served_pop, some_frames}
+use Rattle.fast_walk.proofs.Walking.{at_element_of, closed_on, closed_same, end_on_stops, ended_at, enters, has_next, inside_of_last, is_instruction, is_mantissa, last_frames, last_inside, last_of, left_is, left_last, mantissa_on_goes, mantissa_on_stops, no_frame, no_map_on, no_more_on, no_node_on, popped, rest_of_last, sequel_on, served_pop}
 use Rattle.fast_walk.proofs.walk.Walk.step.Goals as goal
 
 pub returns-in-Err-clause-piece : goal.returns-in-Err-clause-piece
@@ -95,24 +95,13 @@ returns-in_ok-open-in-Element-clause-piece g c =
       less_opened old.next c.in_ok-count-in-Element.ensures end,
     )
 
-pub returns-in_err-judge_end-in-Some-next_sequel-clause-piece : goal.returns-in_err-judge_end-in-Some-next_sequel-clause-piece
-returns-in_err-judge_end-in-Some-next_sequel-clause-piece g c =
-    let p = err_from_is_err_and c.from_residual-in_err-judge_end-in-Some-next_sequel.result c.from_residual-in_err-judge_end-in-Some-next_sequel.ensures.1 in
-    let empty = nil_from_length c.args.self.now.rest.now c.in-None.ensures.cases in
-    rw (p.1, p.2) (λ other. stops_here c.requires.walk (λ o at.
-    let old = c.args.self.now in
-    let h = c.in_err-judge_end-in-Some-next_sequel.ensures in
-    rw (h.refused.1)
-    (end_on_stops g.L.Leveled.at o (map frame_of old.around.items) c.in_err-judge_end-in-Some-next_sequel.field-0.0.number (cursor _ old.bits old.spare _) at.around (λ none. some_frames c.in-Some-next_sequel.ensures.1 none)
-    h.inside (is_instruction o.next (at.next ∙ ap next_of c.in-Instruction.is)) (at.rest ∙ ap list_of empty) (rw (c.level-strictness.ensures) at h.refused.0) h.refused.2)))
-
 pub returns-in_err-count-in-Some-next_sequel-clause-piece : goal.returns-in_err-count-in-Some-next_sequel-clause-piece
 returns-in_err-count-in-Some-next_sequel-clause-piece g c =
     let p = err_from_is_err_and c.from_residual-in_err-count-in-Some-next_sequel.result c.from_residual-in_err-count-in-Some-next_sequel.ensures.1 in
     let empty = nil_from_length c.args.self.now.rest.now c.in-None.ensures.cases in
     rw (p.1, p.2) (λ other. stops_here c.requires.walk (λ o at.
     let n = has_next o.around at.around c.in-Some-next_sequel.ensures.1 in
-    sequel_on g.L.Leveled.at o _ _ n _ (rw (c.level-strictness.ensures) at c.in_ok-judge_end-in-Some-next_sequel.ensures.clear) (is_instruction o.next (at.next ∙ ap next_of c.in-Instruction.is)) (at.rest ∙ ap list_of empty)
+    sequel_on g.L.Leveled.at o _ _ n _ (rw (c.level-in-None.ensures) at c.in_ok-judge_end-in-None.ensures.clear) (is_instruction o.next (at.next ∙ ap next_of c.in-Instruction.is)) (at.rest ∙ ap list_of empty)
     ∙ no_node_on g.L.Leveled.at _ _ (ended_at o _ _ n) c.in-Some-next_sequel.ensures.0 (c.in_err-count-in-Some-next_sequel.ensures _ _ _)))
 
 pub returns-in_err-bits-in-Some-next_sequel-clause-piece : goal.returns-in_err-bits-in-Some-next_sequel-clause-piece
@@ -121,7 +110,7 @@ returns-in_err-bits-in-Some-next_sequel-clause-piece g c =
     let empty = nil_from_length c.args.self.now.rest.now c.in-None.ensures.cases in
     rw (p.1, p.2) (λ other. stops_here c.requires.walk (λ o at.
     let n = has_next o.around at.around c.in-Some-next_sequel.ensures.1 in
-    sequel_on g.L.Leveled.at o _ _ n _ (rw (c.level-strictness.ensures) at c.in_ok-judge_end-in-Some-next_sequel.ensures.clear) (is_instruction o.next (at.next ∙ ap next_of c.in-Instruction.is)) (at.rest ∙ ap list_of empty)
+    sequel_on g.L.Leveled.at o _ _ n _ (rw (c.level-in-None.ensures) at c.in_ok-judge_end-in-None.ensures.clear) (is_instruction o.next (at.next ∙ ap next_of c.in-Instruction.is)) (at.rest ∙ ap list_of empty)
     ∙ no_map_on g.L.Leveled.at _ _ (ended_at o _ _ n) c.in-Some-next_sequel.ensures.0 (count_goes _ _ _ _ _ c.in_ok-count-in-Some-next_sequel.ensures) (rw (c.level-strictness.ensures) at c.in_err-bits-in-Some-next_sequel.ensures.stops other _ _ _)))
 
 pub returns-in_ok-next_element-in-Some-next_sequel-clause-piece : goal.returns-in_ok-next_element-in-Some-next_sequel-clause-piece
@@ -146,24 +135,24 @@ returns-in_ok-next_element-in-Some-next_sequel-clause-piece g c =
             let rest = at.0.rest ∙ ap list_of empty in
             let n = has_next o.around at.0.around l in
             enters g.L.Leveled.at g.R.Receiver.has old c.next_element.new.self d o (ended_in o n.last.before n.last.last.body (in_sequence n.sequel)) (drop c.args.at c.args.bytes.now) (drop bits.next c.args.bytes.now) (ended_at o _ _ n) (record { set = refl; before = refl; template = refl; members = refl; start = refl })
-            (λ b. sequel_on g.L.Leveled.at o _ _ n (cursor d old.bits old.spare b) (rw (c.level-strictness.ensures) at c.in_ok-judge_end-in-Some-next_sequel.ensures.clear) next rest)
+            (λ b. sequel_on g.L.Leveled.at o _ _ n (cursor d old.bits old.spare b) (rw (c.level-in-None.ensures) at c.in_ok-judge_end-in-None.ensures.clear) next rest)
             c.in-Some-next_sequel.ensures.0 c.in_ok-count-in-Some-next_sequel.ensures end (rw (c.level-strictness.ensures) at bits.ensures.goes d l.frame.bits (old.spare - 1)) (λ own some. enter.has o d n.last.before n.last.last n.sequel l.frame.bits next rest n.last.is n.is own some at.1);
         on = opened_on end members (served.1.0, members) served.0 can.kept (enter.room (left_around (map frame_of l.fore)) l.frame.bits old.bits bits.bits bits.ensures.room (rw (left_last _ _ _ (last_frames l)) at can.room));
       },
       omega (arith, less, longer),
     )
 
-pub returns-in_err-judge_end-in-None-next_sequel-clause-piece : goal.returns-in_err-judge_end-in-None-next_sequel-clause-piece
-returns-in_err-judge_end-in-None-next_sequel-clause-piece g c =
-    let p = err_from_is_err_and c.from_residual-in_err-judge_end-in-None-next_sequel.result c.from_residual-in_err-judge_end-in-None-next_sequel.ensures.1 in
+pub returns-in_err-judge_end-in-None-clause-piece : goal.returns-in_err-judge_end-in-None-clause-piece
+returns-in_err-judge_end-in-None-clause-piece g c =
+    let p = err_from_is_err_and c.from_residual-in_err-judge_end-in-None.result c.from_residual-in_err-judge_end-in-None.ensures.1 in
     let empty = nil_from_length c.args.self.now.rest.now c.in-None.ensures.cases in
     rw (p.1, p.2) (λ other. stops_here c.requires.walk (λ o at.
     let old = c.args.self.now in
-    let h = c.in_err-judge_end-in-None-next_sequel.ensures in
+    let h = c.in_err-judge_end-in-None.ensures in
     rw (h.refused.1)
-    (end_on_stops g.L.Leveled.at o (map frame_of old.around.items) c.in_err-judge_end-in-None-next_sequel.field-0.0.number (cursor _ old.bits old.spare _) at.around
+    (end_on_stops g.L.Leveled.at o (map frame_of old.around.items) c.in_err-judge_end-in-None.field-0.0.number (cursor _ old.bits old.spare _) at.around
     (λ none. c.requires.inside c.in-Instruction.is (no_frame old.around.items none) empty)
-    h.inside (is_instruction o.next (at.next ∙ ap next_of c.in-Instruction.is)) (at.rest ∙ ap list_of empty) (rw (c.level-in-None-next_sequel.ensures) at h.refused.0) h.refused.2)))
+    h.inside (is_instruction o.next (at.next ∙ ap next_of c.in-Instruction.is)) (at.rest ∙ ap list_of empty) (rw (c.level-in-None.ensures) at h.refused.0) h.refused.2)))
 
 pub returns-in_ok-take_up-in-Some-pop-clause-piece : goal.returns-in_ok-take_up-in-Some-pop-clause-piece
 returns-in_ok-take_up-in-Some-pop-clause-piece g c =
@@ -190,7 +179,7 @@ returns-in_ok-take_up-in-Some-pop-clause-piece g c =
               closed_in o l.before b i,
               (record { next = had.1; rest = rw (end.rest) (p.rest ∙ rest_of_last o.around fs (frame_of f) l); around = rw (end.around) (ap (map bare) p.around ∙ l.rests) }, had.0),
               p.same,
-              λ more. rw (end.bits, end.spare) (closed_on g.L.Leveled.at o l.before fs (frame_of f) l (cursor d old.bits old.spare _) (rw (c.level-in-None-next_sequel.ensures) at c.in_ok-judge_end-in-None-next_sequel.ensures.clear) next rest),
+              λ more. rw (end.bits, end.spare) (closed_on g.L.Leveled.at o l.before fs (frame_of f) l (cursor d old.bits old.spare _) (rw (c.level-in-None.ensures) at c.in_ok-judge_end-in-None.ensures.clear) next rest),
             );
         on = record {
           ready = record { next = end.served (g.E.Entries.serves c.args.entries.now) served.1.1; rest = rw (end.rest) served.1.0; around = rw (end.around) served.0 };
