@@ -193,13 +193,10 @@ goes_on Has Had Later read reads later a b c g h o has =
 pub goes_kept : (Has Had : Received → Type 0) (read : Received → List ℕ → Reads Items) (a : List ℕ) → ((o : Received) → Has o → Had o) → Goes Has read Had read a a
 goes_kept Has Had read a kept o has = (o, kept o has, record { set = refl; before = refl; template = refl; members = refl; start = refl }, λ more. refl)
 
-abbrev some_members : Instructions → Option Instructions
-some_members is = Some is
-
 -- the template that the message names
 pub same_named : (o p : Received) → Same o p → members_of o.set o.template ≡ Some o.members → members_of p.set p.template ≡ Some p.members
 same_named o p same named =
-    ap (λ (t : ℕ). members_of p.set t) same.template ∙ ap (λ (s : List Resolved). members_of s o.template) same.set ∙ named ∙ ap some_members (sym same.members)
+    ap (λ (t : ℕ). members_of p.set t) same.template ∙ ap (λ (s : List Resolved). members_of s o.template) same.set ∙ named ∙ ap {B = Option Instructions} Some (sym same.members)
 
 no_frames : (us : List Waiting) → map bare us ≡ [] → us ≡ []
 no_frames [] h = refl

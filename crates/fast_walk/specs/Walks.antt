@@ -178,9 +178,6 @@ pub record IsOpened (frames : List FrameNow) (outer : List Bool) (left number : 
 
 -- ---- elements
 
-abbrev pub IsElement : NextNow → SequelNow → Type 0
-IsElement n s = n ≡ next.Element s
-
 -- The innermost segment is an element of this sequence, which the last frame waits for.
 pub record IsLast (w : WalkNow) (s : SequelNow) : Type 0 where
   pub fore : List FrameNow
