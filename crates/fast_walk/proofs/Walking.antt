@@ -1,5 +1,5 @@
 -- How reading goes on, whatever was received.
-use Rattle.std.proofs.Common.{◌≡◌, ◌<◌, ◌-◌, ℕ, zero, suc, ℤ, Bool, true, false, List, [], ◌∷◌, ◌++◌, length, map, slice_index_or, slice_set, Option, Some, None, Result, Ok, Err, refl, sym, ap, ◌∙◌, arith}
+use Rattle.std.proofs.Common.{◌≡◌, ◌<◌, ◌-◌, ℕ, zero, suc, ℤ, Bool, true, List, [], ◌∷◌, ◌++◌, length, map, slice_index_or, slice_set, Option, Some, None, Result, Ok, Err, refl, sym, ap, ◌∙◌, arith}
 use Rattle.std.proofs.lemmas.List.{map_push}
 use Rattle.std.specs.Prelude.{option_to_list}
 use Rattle.fast_value.specs.declared.key.Key.{Key}
@@ -19,7 +19,7 @@ use Rattle.fast_stream.specs.Faults.{Stop}
 use Rattle.fast_stream.specs.Streams.{members_of}
 use Rattle.fast_stream.specs.Reading.{Cursor, Reads, node_at, field_part_at, own_map_at, behind_bit, piece_at, stopped}
 use Rattle.fast_walk.specs.OpenSegments.{Body, Sequel, Waiting, Inside, in_group, in_sequence, Next, at_instruction, at_mantissa, at_element, with_item, with_element, cursor, fewer, under_bits, body_on, mantissa_on, top_on, behind_inside, all_around}
-use Rattle.fast_walk.specs.Received.{Having, Received, Same, Goes, IsExponent, after_sequence, in_element, behind_last, closed_in, ended_in}
+use Rattle.fast_walk.specs.Received.{Having, Received, Same, Goes, after_sequence, in_element, behind_last, closed_in, ended_in}
 use Rattle.fast_walk.specs.Room.{left_around}
 use Rattle.fast_walk.specs.Walks.{At, IsAt, IsOpened, bare_inside, bare, bare_next, bare_sequel, frame_of, inside_of, next_of, reads_on, sequel_of, AreAllServed, IsLast, IsWaitingServed}
 use Rattle.fast_walk.specs.declared.walk.Frame.{Frame as FrameNow}
@@ -78,18 +78,6 @@ pub record IsElementOf (i : Inside) (t : Sequel) : Type 0 where
 pub is_element_of : (i : Inside) (t : Sequel) → bare_inside i ≡ in_sequence t → IsElementOf i t
 is_element_of in_group t h = absurd cc
 is_element_of (in_sequence s) t h = record { sequel = s; is = refl; same = cc }
-
-pub record IsThere (v : Option Scalar) : Type 0 where
-  pub exponent : ℤ
-  pub is : v ≡ Some (I32 exponent)
-
-pub is_there : (b : Bool) (v : Option Scalar) → b ≡ true → IsExponent b v → IsThere v
-is_there true v h k = record { exponent = k.0; is = k.1 }
-is_there false v h k = absurd cc
-
-pub not_there : (b : Bool) (v : Option Scalar) → b ≡ false → IsExponent b v → v ≡ None
-not_there true v h k = absurd cc
-not_there false v h k = k
 
 -- ---- an element
 

@@ -204,15 +204,13 @@ fn has_second(part: &FieldPart, bit: bool) -> bool
             Operator::Tail => false,
             _ => is_sent(part.operator, bit),
         },
-        Kind::Ascii | Kind::Unicode | Kind::Bytes => match part.operator {
-            Operator::Delta => true,
-            _ => false,
-        },
+        Kind::Ascii | Kind::Unicode | Kind::Bytes => part.operator == Operator::Delta,
         _ => false,
     }
 }
 
 // What that entity lacks, or the vector that begins with it.
+#[inline(always)]
 fn second_lack(level: Level, part: &FieldPart, bytes: &[u8]) -> Option<Lack>
     ensures { IfSome result (SecondLacks level part.now bytes.now) }
 {

@@ -217,6 +217,7 @@ impl<'a> Walk<'a> {
     }
 
     // Takes the next instruction, or the first part of it: the rest is a piece of its own.
+    #[inline(always)]
     fn instruction<L: Leveled, R: Receiver, E: Entries>(
         &mut self,
         level: L,

@@ -10,7 +10,7 @@ use Rattle.fast_walk.specs.Room.{left_around}
 use Rattle.fast_walk.specs.Walks.{bare, frame_of, next_of}
 use Rattle.fast_walk.proofs.Pieces.{begins_served, count_stops, first_stops, halts_at, is_field, is_group, is_parts, is_sequence, less_behind, less_opened, moves_on, opened_on, part_takes, stops_here}
 use Rattle.fast_walk.proofs.Steps.{count_goes, length_on}
-use Rattle.fast_walk.proofs.Walking.{group_on, is_instruction, is_there, not_there}
+use Rattle.fast_walk.proofs.Walking.{group_on, is_instruction}
 use Rattle.fast_walk.proofs.walk.Walk.instruction.Goals as goal
 
 pub returns-in_err-count-in-Field-clause-piece : goal.returns-in_err-count-in-Field-clause-piece
@@ -61,16 +61,16 @@ pub returns-then-present-clause-piece : goal.returns-then-present-clause-piece
 returns-then-present-clause-piece g c =
     let begins = rw (is_parts c.in-Parts.is) at c.requires.first in
     let ok = c.in-Ok-exponent.ensures in
-    let there = is_there c.in-Ok-exponent.present ok.goes.0 c.if-present.true ok.goes.2 in
-    part_takes (at_mantissa there.exponent c.in-Parts.mantissa) (λ done. done) c.requires.walk begins c.in_ok-count-in-Parts.ensures c.pass.ensures refl c.level-level.ensures c.part_needs_bit-needs-in-Parts.ensures c.first_for-bit-in-Parts.ensures
-    refl (begins_served c.requires.walk begins).0.0.0.1 (λ k. omega (arith, c.type_inv.bytes k)) (rw (there.is) at ok.goes.1) ok.room (begins_served c.requires.walk begins).0.1 ok.place (rw (there.is) at ok.goes.3 c.in-Parts.number c.in-Parts.mantissa (list_of c.args.others.now))
+    let there = rw (c.if-present.true) at ok.goes.2 in
+    part_takes (at_mantissa there.0 c.in-Parts.mantissa) (λ done. done) c.requires.walk begins c.in_ok-count-in-Parts.ensures c.pass.ensures refl c.level-level.ensures c.part_needs_bit-needs-in-Parts.ensures c.first_for-bit-in-Parts.ensures
+    refl (begins_served c.requires.walk begins).0.0.0.1 (λ k. omega (arith, c.type_inv.bytes k)) (rw (there.1) at ok.goes.1) ok.room (begins_served c.requires.walk begins).0.1 ok.place (rw (there.1) at ok.goes.3 c.in-Parts.number c.in-Parts.mantissa (list_of c.args.others.now))
     (λ done b k l h m. rw (h, m) refl)
 
 pub returns-else-present-clause-piece : goal.returns-else-present-clause-piece
 returns-else-present-clause-piece g c =
     let begins = rw (is_parts c.in-Parts.is) at c.requires.first in
     let ok = c.in-Ok-exponent.ensures in
-    let none = not_there c.in-Ok-exponent.present ok.goes.0 c.if-present.false ok.goes.2 in
+    let none = rw (c.if-present.false) at ok.goes.2 in
     part_takes at_instruction (λ done. done ++ single None ∷ []) c.requires.walk begins c.in_ok-count-in-Parts.ensures c.pass-else-present.ensures refl c.level-level.ensures c.part_needs_bit-needs-in-Parts.ensures c.first_for-bit-in-Parts.ensures
     refl (begins_served c.requires.walk begins).0.0.0.1 (λ k. omega (arith, c.type_inv.bytes k)) (rw none at ok.goes.1) ok.room tt ok.place (rw none at ok.goes.3 c.in-Parts.number c.in-Parts.mantissa (list_of c.args.others.now))
     (λ done b k l h m. rw (h, m) refl)
