@@ -8,5 +8,5 @@
 mod part;
 
 pub use part::{
-    take_exponent, take_given, take_identifier, take_length, take_mantissa, take_part, take_quickly,
+    take_exponent, take_given, take_identifier, take_length, take_mantissa, take_part,
 };

@@ -333,7 +333,7 @@ fn add(kind: Kind, which: Part, entry: &mut Entry, delta: i64) -> bool
 
 /// Whether what is sent of an integer has no sign: a difference has one.
 #[inline(always)]
-fn is_sent_unsigned(kind: Kind, operator: Operator) -> bool
+pub(crate) fn is_sent_unsigned(kind: Kind, operator: Operator) -> bool
     ensures { result ≡ sent_unsigned operator kind }
 {
     match operator {
@@ -359,7 +359,7 @@ fn judge_constant(which: Part, instr: &FieldPart, entry: &Entry, bytes: &[u8], a
 
 /// Judges a number that was read: it was spelled whole, or is added to the one that the entry has.
 #[inline(always)]
-fn judge_number(
+pub(crate) fn judge_number(
     kind: Kind,
     which: Part,
     instr: &FieldPart,
