@@ -21,9 +21,9 @@ use crate::judged_decimal::judge_decimal;
 use crate::judged_string::judge_string;
 use crate::judged_vector::judge_vector;
 use crate::passed::can_begin;
-use crate::short_number::ShortInteger;
+use crate::short_number::{following, kept, number_of};
 use fast_dictionary::Entry;
-use fast_field::set_number;
+use fast_field::{is_field_number, set_number};
 use fast_template::{FieldPart, Kind, Operator, Part, Presence};
 use fast_wire::{overlong_signed, overlong_unsigned};
 use std::alloc::Global;
@@ -128,13 +128,13 @@ pub(crate) fn read_shortest(
 
 /// Judges a number where bit 0 gives the initial value.
 #[inline(always)]
-fn judge_initial<T: ShortInteger>(instr: &FieldPart, number: i64, next: usize) -> Judged
+fn judge_initial(kind: Kind, instr: &FieldPart, number: i64, next: usize) -> Judged
     requires { IsNumber T.kind number }
     ensures { IfFound next result (λ bit. is_same instr.now.initial (Some (of_integer T.kind number)) ≡ not bit) ⊤ }
 {
     match &instr.initial {
         None => Judged::Stands(next),
-        Some(initial) => match T::of(initial.value()) {
+        Some(initial) => match number_of(kind, initial.value()) {
             Some(given) if given == number => Judged::Given(next),
             Some(_) => Judged::Stands(next),
             None => Judged::Elsewhere,
@@ -144,7 +144,8 @@ fn judge_initial<T: ShortInteger>(instr: &FieldPart, number: i64, next: usize) -
 
 /// Judges a number where the entry has none; it then has this one. (A call of its own, since it is rare.)
 #[inline(never)]
-fn judge_first<T: ShortInteger>(
+fn judge_first(
+    kind: Kind,
     instr: &FieldPart,
     entry: &mut Entry,
     number: i64,
@@ -163,7 +164,7 @@ fn judge_first<T: ShortInteger>(
             Judged::Stands(next)
         }
         // bit 0 gives the initial value, also by increment
-        Entry::Undefined => match judge_initial::<T>(instr, number, next) {
+        Entry::Undefined => match judge_initial(kind, instr, number, next) {
             Judged::Stands(_next) => {
                 set_number(instr.kind, entry, i128::from(number));
                 Judged::Stands(next)
@@ -181,7 +182,8 @@ fn judge_first<T: ShortInteger>(
 
 /// Judges a number by the one that the entry has; it then has this one.
 #[inline(always)]
-fn judge_copy<T: ShortInteger>(
+fn judge_copy(
+    kind: Kind,
     instr: &FieldPart,
     entry: &mut Entry,
     number: i64,
@@ -193,19 +195,20 @@ fn judge_copy<T: ShortInteger>(
     ensures { IfFound next result (λ bit. Leaves bit instr.now entry.old entry.new (Some (of_integer T.kind number)))
         (entry.new ≡ entry.old) }
 {
-    let Some(kept) = T::kept(entry) else {
-        return judge_first::<T>(instr, entry, number, next);
+    let Some(kept) = kept(kind, entry) else {
+        return judge_first(kind, instr, entry, number, next);
     };
     if kept == number {
         return Judged::Given(next);
     }
-    T::replace(entry, kept, number);
+    set_number(kind, entry, i128::from(number));
     Judged::Stands(next)
 }
 
 /// Judges a number by the one that follows the entry's; it then has this one.
 #[inline(always)]
-fn judge_increment<T: ShortInteger>(
+fn judge_increment(
+    kind: Kind,
     instr: &FieldPart,
     entry: &mut Entry,
     number: i64,
@@ -217,15 +220,15 @@ fn judge_increment<T: ShortInteger>(
     ensures { IfFound next result (λ bit. Leaves bit instr.now entry.old entry.new (Some (of_integer T.kind number)))
         (entry.new ≡ entry.old) }
 {
-    let Some(kept) = T::kept(entry) else {
-        return judge_first::<T>(instr, entry, number, next);
+    let Some(kept) = kept(kind, entry) else {
+        return judge_first(kind, instr, entry, number, next);
     };
     // the least number follows the greatest
-    if kept >= T::greatest() {
+    let Some(following) = following(kind, Part::Whole, kept) else {
         return Judged::Elsewhere;
-    }
-    T::replace(entry, kept, number);
-    if kept + 1 == number {
+    };
+    set_number(kind, entry, i128::from(number));
+    if following == number {
         Judged::Given(next)
     } else {
         Judged::Stands(next)
@@ -234,7 +237,8 @@ fn judge_increment<T: ShortInteger>(
 
 /// Judges a number that was spelled whole; the entry goes on.
 #[inline(always)]
-fn judge_read<T: ShortInteger>(
+fn judge_read(
+    kind: Kind,
     instr: &FieldPart,
     entry: &mut Entry,
     number: i64,
@@ -247,16 +251,17 @@ fn judge_read<T: ShortInteger>(
 {
     match instr.operator {
         Operator::Plain => Judged::Stands(next),
-        Operator::Default => judge_initial::<T>(instr, number, next),
-        Operator::Copy => judge_copy::<T>(instr, entry, number, next),
-        Operator::Increment => judge_increment::<T>(instr, entry, number, next),
+        Operator::Default => judge_initial(kind, instr, number, next),
+        Operator::Copy => judge_copy(kind, instr, entry, number, next),
+        Operator::Increment => judge_increment(kind, instr, entry, number, next),
         Operator::Constant | Operator::Delta | Operator::Tail => Judged::Elsewhere,
     }
 }
 
 /// The same, of a number that may be out of its field's range.
 #[inline(always)]
-fn judge_as<T: ShortInteger>(
+fn judge_as(
+    kind: Kind,
     which: Part,
     instr: &FieldPart,
     entry: &mut Entry,
@@ -267,8 +272,8 @@ fn judge_as<T: ShortInteger>(
     ensures { IfFound next result (λ bit. LeavesWhole bit T.kind which instr.now entry.old entry.new number)
         (entry.new ≡ entry.old) }
 {
-    if T::is_field_number(which, number) {
-        judge_read::<T>(instr, entry, number, next)
+    if is_field_number(kind, which, i128::from(number)) {
+        judge_read(kind, instr, entry, number, next)
     } else {
         Judged::Elsewhere
     }
@@ -289,30 +294,30 @@ fn judge_whole(
         (entry.new ≡ entry.old) }
 {
     match kind {
-        Kind::UInt32 => judge_as::<u32>(which, instr, entry, number, next),
-        Kind::Int32 => judge_as::<i32>(which, instr, entry, number, next),
-        Kind::UInt64 => judge_as::<u64>(which, instr, entry, number, next),
-        Kind::Int64 => judge_as::<i64>(which, instr, entry, number, next),
+        Kind::UInt32 => judge_as(Kind::UInt32, which, instr, entry, number, next),
+        Kind::Int32 => judge_as(Kind::Int32, which, instr, entry, number, next),
+        Kind::UInt64 => judge_as(Kind::UInt64, which, instr, entry, number, next),
+        Kind::Int64 => judge_as(Kind::Int64, which, instr, entry, number, next),
         Kind::Decimal | Kind::Ascii | Kind::Unicode | Kind::Bytes => Judged::Elsewhere,
     }
 }
 
 /// Adds to the number that an entry has, where the sum is one that the field can have; else nothing has changed.
 #[inline(always)]
-fn add_as<T: ShortInteger>(which: Part, entry: &mut Entry, delta: i64) -> bool
+fn add_as(kind: Kind, which: Part, entry: &mut Entry, delta: i64) -> bool
     ensures added { result ≡ true → Adds T.kind which delta entry.old entry.new }
     ensures entry { result ≡ false → entry.new ≡ entry.old }
 {
-    let Some(kept) = T::kept(entry) else {
+    let Some(kept) = kept(kind, entry) else {
         return false;
     };
-    let Some(number) = T::sum(kept, delta) else {
+    let Some(number) = kept.checked_add(delta) else {
         return false;
     };
-    if !T::is_field_number(which, number) {
+    if !is_field_number(kind, which, i128::from(number)) {
         return false;
     }
-    T::replace(entry, kept, number);
+    set_number(kind, entry, i128::from(number));
     true
 }
 
@@ -323,10 +328,10 @@ fn add(kind: Kind, which: Part, entry: &mut Entry, delta: i64) -> bool
     ensures entry { result ≡ false → entry.new ≡ entry.old }
 {
     match kind {
-        Kind::UInt32 => add_as::<u32>(which, entry, delta),
-        Kind::Int32 => add_as::<i32>(which, entry, delta),
-        Kind::UInt64 => add_as::<u64>(which, entry, delta),
-        Kind::Int64 => add_as::<i64>(which, entry, delta),
+        Kind::UInt32 => add_as(Kind::UInt32, which, entry, delta),
+        Kind::Int32 => add_as(Kind::Int32, which, entry, delta),
+        Kind::UInt64 => add_as(Kind::UInt64, which, entry, delta),
+        Kind::Int64 => add_as(Kind::Int64, which, entry, delta),
         Kind::Decimal | Kind::Ascii | Kind::Unicode | Kind::Bytes => false,
     }
 }
