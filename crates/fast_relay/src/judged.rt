@@ -21,7 +21,7 @@ use crate::judged_decimal::judge_decimal;
 use crate::judged_string::judge_string;
 use crate::judged_vector::judge_vector;
 use crate::passed::can_begin;
-use crate::short_number::{following, kept, number_of};
+use crate::short_number::{following, kept, number_of, replace, sum};
 use fast_dictionary::Entry;
 use fast_field::{is_field_number, set_number};
 use fast_template::{FieldPart, Kind, Operator, Part, Presence};
@@ -201,7 +201,7 @@ fn judge_copy(
     if kept == number {
         return Judged::Given(next);
     }
-    set_number(kind, entry, i128::from(number));
+    replace(kind, entry, number);
     Judged::Stands(next)
 }
 
@@ -224,10 +224,10 @@ fn judge_increment(
         return judge_first(kind, instr, entry, number, next);
     };
     // the least number follows the greatest
-    let Some(following) = following(kind, Part::Whole, kept) else {
+    let Some(following) = following(kind, kept) else {
         return Judged::Elsewhere;
     };
-    set_number(kind, entry, i128::from(number));
+    replace(kind, entry, number);
     if following == number {
         Judged::Given(next)
     } else {
@@ -311,13 +311,13 @@ fn add_as(kind: Kind, which: Part, entry: &mut Entry, delta: i64) -> bool
     let Some(kept) = kept(kind, entry) else {
         return false;
     };
-    let Some(number) = kept.checked_add(delta) else {
+    let Some(number) = sum(kind, kept, delta) else {
         return false;
     };
     if !is_field_number(kind, which, i128::from(number)) {
         return false;
     }
-    set_number(kind, entry, i128::from(number));
+    replace(kind, entry, number);
     true
 }
 

@@ -10,9 +10,9 @@ ghost use Rattle.fast_field.specs.Numbers.{Predicts, Repeats};
 ghost use Rattle.fast_field.specs.Parts.{IsFieldPart};
 ghost use Rattle.fast_field.specs.Passed.{IsPassed};
 
-use crate::short_number::{following, kept};
+use crate::short_number::{following, kept, replace};
 use fast_dictionary::Entry;
-use fast_field::{Passed, fits, set_number};
+use fast_field::{Passed, fits, is_field_number};
 use fast_template::{FieldPart, Kind, Operator, Part, Presence, Scalar};
 use fast_value::is_of_kind;
 
@@ -112,10 +112,13 @@ fn pass_next(kind: Kind, which: Part, instr: &FieldPart, entry: &mut Entry) -> P
     let Some(kept) = kept(kind, entry) else {
         return pass_empty(instr, entry);
     };
-    let Some(number) = following(kind, which, kept) else {
+    let Some(number) = following(kind, kept) else {
         return Passed::Elsewhere;
     };
-    set_number(kind, entry, i128::from(number));
+    if !is_field_number(kind, which, i128::from(number)) {
+        return Passed::Elsewhere;
+    }
+    replace(kind, entry, number);
     Passed::Present
 }
 
