@@ -2,8 +2,8 @@
 //! and nothing is written. Here are integers and constants, and the way to the others; what is not judged here goes by
 //! `judge_other`, or the general way.
 
-ghost use Rattle.std.specs.Prelude.{◌≡◌, ◌≤◌, ◌+◌, Some, true, false, not, length, drop, slice_range, IfSome, ⊤};
-ghost use Rattle.fast_value.specs.Scalar.{of_integer};
+ghost use Rattle.std.specs.Prelude.{◌≡◌, ◌≤◌, ◌+◌, Some, true, false, not, length, drop, slice_range, IfSome, IsTrue, ⊤};
+ghost use Rattle.fast_value.specs.Scalar.{is_integer, of_integer};
 ghost use Rattle.fast_value.specs.declared.kind.Operator.TheVariants as operator_type;
 ghost use Rattle.fast_value.specs.declared.kind.Part.TheVariants as part_type;
 ghost use Rattle.fast_wire.specs.Entity.{IsEntity};
@@ -21,9 +21,9 @@ use crate::judged_decimal::judge_decimal;
 use crate::judged_string::judge_string;
 use crate::judged_vector::judge_vector;
 use crate::passed::can_begin;
-use crate::short_number::{following, kept, number_of, replace, sum};
+use crate::short_number::{fits_field, following, kept, number_of, replace, sum};
 use fast_dictionary::Entry;
-use fast_field::{is_field_number, set_number};
+use fast_field::set_number;
 use fast_template::{FieldPart, Kind, Operator, Part, Presence};
 use fast_wire::{overlong_signed, overlong_unsigned};
 use std::alloc::Global;
@@ -129,8 +129,8 @@ pub(crate) fn read_shortest(
 /// Judges a number where bit 0 gives the initial value.
 #[inline(always)]
 fn judge_initial(kind: Kind, instr: &FieldPart, number: i64, next: usize) -> Judged
-    requires { IsNumber T.kind number }
-    ensures { IfFound next result (λ bit. is_same instr.now.initial (Some (of_integer T.kind number)) ≡ not bit) ⊤ }
+    requires { IsNumber kind number }
+    ensures { IfFound next result (λ bit. is_same instr.now.initial (Some (of_integer kind number)) ≡ not bit) ⊤ }
 {
     match &instr.initial {
         None => Judged::Stands(next),
@@ -144,18 +144,12 @@ fn judge_initial(kind: Kind, instr: &FieldPart, number: i64, next: usize) -> Jud
 
 /// Judges a number where the entry has none; it then has this one. (A call of its own, since it is rare.)
 #[inline(never)]
-fn judge_first(
-    kind: Kind,
-    instr: &FieldPart,
-    entry: &mut Entry,
-    number: i64,
-    next: usize,
-) -> Judged
-    requires kind { T.kind ≡ instr.now.kind }
+fn judge_first(kind: Kind, instr: &FieldPart, entry: &mut Entry, number: i64, next: usize) -> Judged
+    requires kind { kind ≡ instr.now.kind }
     requires predicts { Predicts instr.now.operator }
     requires whole { SpellsWhole instr.now.operator }
-    requires number { IsNumber T.kind number }
-    ensures { IfFound next result (λ bit. Leaves bit instr.now entry.old entry.new (Some (of_integer T.kind number)))
+    requires number { IsNumber kind number }
+    ensures { IfFound next result (λ bit. Leaves bit instr.now entry.old entry.new (Some (of_integer kind number)))
         (entry.new ≡ entry.old) }
 {
     match entry {
@@ -182,17 +176,11 @@ fn judge_first(
 
 /// Judges a number by the one that the entry has; it then has this one.
 #[inline(always)]
-fn judge_copy(
-    kind: Kind,
-    instr: &FieldPart,
-    entry: &mut Entry,
-    number: i64,
-    next: usize,
-) -> Judged
-    requires kind { T.kind ≡ instr.now.kind }
+fn judge_copy(kind: Kind, instr: &FieldPart, entry: &mut Entry, number: i64, next: usize) -> Judged
+    requires kind { kind ≡ instr.now.kind }
     requires operator { instr.now.operator ≡ operator_type.Copy }
-    requires number { IsNumber T.kind number }
-    ensures { IfFound next result (λ bit. Leaves bit instr.now entry.old entry.new (Some (of_integer T.kind number)))
+    requires number { IsNumber kind number }
+    ensures { IfFound next result (λ bit. Leaves bit instr.now entry.old entry.new (Some (of_integer kind number)))
         (entry.new ≡ entry.old) }
 {
     let Some(kept) = kept(kind, entry) else {
@@ -214,10 +202,10 @@ fn judge_increment(
     number: i64,
     next: usize,
 ) -> Judged
-    requires kind { T.kind ≡ instr.now.kind }
+    requires kind { kind ≡ instr.now.kind }
     requires operator { instr.now.operator ≡ operator_type.Increment }
-    requires number { IsNumber T.kind number }
-    ensures { IfFound next result (λ bit. Leaves bit instr.now entry.old entry.new (Some (of_integer T.kind number)))
+    requires number { IsNumber kind number }
+    ensures { IfFound next result (λ bit. Leaves bit instr.now entry.old entry.new (Some (of_integer kind number)))
         (entry.new ≡ entry.old) }
 {
     let Some(kept) = kept(kind, entry) else {
@@ -237,17 +225,11 @@ fn judge_increment(
 
 /// Judges a number that was spelled whole; the entry goes on.
 #[inline(always)]
-fn judge_read(
-    kind: Kind,
-    instr: &FieldPart,
-    entry: &mut Entry,
-    number: i64,
-    next: usize,
-) -> Judged
-    requires kind { T.kind ≡ instr.now.kind }
-    requires number { IsNumber T.kind number }
+fn judge_read(kind: Kind, instr: &FieldPart, entry: &mut Entry, number: i64, next: usize) -> Judged
+    requires kind { kind ≡ instr.now.kind }
+    requires number { IsNumber kind number }
     ensures { IfFound next result (λ bit. SpellsWhole instr.now.operator
-        × Leaves bit instr.now entry.old entry.new (Some (of_integer T.kind number))) (entry.new ≡ entry.old) }
+        × Leaves bit instr.now entry.old entry.new (Some (of_integer kind number))) (entry.new ≡ entry.old) }
 {
     match instr.operator {
         Operator::Plain => Judged::Stands(next),
@@ -268,11 +250,12 @@ fn judge_as(
     number: i64,
     next: usize,
 ) -> Judged
-    requires kind { T.kind ≡ instr.now.kind }
-    ensures { IfFound next result (λ bit. LeavesWhole bit T.kind which instr.now entry.old entry.new number)
+    requires kind { kind ≡ instr.now.kind }
+    requires integer { IsTrue (is_integer kind) }
+    ensures { IfFound next result (λ bit. LeavesWhole bit kind which instr.now entry.old entry.new number)
         (entry.new ≡ entry.old) }
 {
-    if is_field_number(kind, which, i128::from(number)) {
+    if fits_field(kind, which, number) {
         judge_read(kind, instr, entry, number, next)
     } else {
         Judged::Elsewhere
@@ -305,7 +288,7 @@ fn judge_whole(
 /// Adds to the number that an entry has, where the sum is one that the field can have; else nothing has changed.
 #[inline(always)]
 fn add_as(kind: Kind, which: Part, entry: &mut Entry, delta: i64) -> bool
-    ensures added { result ≡ true → Adds T.kind which delta entry.old entry.new }
+    ensures added { result ≡ true → Adds kind which delta entry.old entry.new }
     ensures entry { result ≡ false → entry.new ≡ entry.old }
 {
     let Some(kept) = kept(kind, entry) else {
@@ -314,7 +297,7 @@ fn add_as(kind: Kind, which: Part, entry: &mut Entry, delta: i64) -> bool
     let Some(number) = sum(kind, kept, delta) else {
         return false;
     };
-    if !is_field_number(kind, which, i128::from(number)) {
+    if !fits_field(kind, which, number) {
         return false;
     }
     replace(kind, entry, number);
@@ -555,7 +538,7 @@ fn judge_integer(
 
 /// Judges a string, a vector or a decimal, which is no part of another field.
 #[inline(always)]
-fn judge_long(
+pub(crate) fn judge_long(
     which: Part,
     alloc: Global,
     instr: &FieldPart,

@@ -10,9 +10,9 @@ ghost use Rattle.fast_field.specs.Numbers.{Predicts, Repeats};
 ghost use Rattle.fast_field.specs.Parts.{IsFieldPart};
 ghost use Rattle.fast_field.specs.Passed.{IsPassed};
 
-use crate::short_number::{following, kept, replace};
+use crate::short_number::{fits_field, following, kept, replace};
 use fast_dictionary::Entry;
-use fast_field::{Passed, fits, is_field_number};
+use fast_field::{Passed, fits};
 use fast_template::{FieldPart, Kind, Operator, Part, Presence, Scalar};
 use fast_value::is_of_kind;
 
@@ -104,7 +104,7 @@ fn pass_kept(which: Part, instr: &FieldPart, entry: &Entry) -> Passed
 /// One more than the number that the entry has, where that is not the greatest of its type.
 #[inline(always)]
 fn pass_next(kind: Kind, which: Part, instr: &FieldPart, entry: &mut Entry) -> Passed
-    requires kind { T.kind ≡ instr.now.kind }
+    requires kind { kind ≡ instr.now.kind }
     requires operator { instr.now.operator ≡ operator_type.Increment }
     requires part { which ≡ instr.now.part }
     ensures { IsPassed instr.now entry.old entry.new result }
@@ -115,7 +115,7 @@ fn pass_next(kind: Kind, which: Part, instr: &FieldPart, entry: &mut Entry) -> P
     let Some(number) = following(kind, kept) else {
         return Passed::Elsewhere;
     };
-    if !is_field_number(kind, which, i128::from(number)) {
+    if !fits_field(kind, which, number) {
         return Passed::Elsewhere;
     }
     replace(kind, entry, number);
