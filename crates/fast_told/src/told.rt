@@ -1,7 +1,6 @@
 //! Takes a field's value from the bytes, and tells it from where it lies.
 
 ghost use Rattle.std.specs.Prelude.{◌≡◌, ◌≢◌, ◌≤◌, true, false, Option, Err, IfOk, IfErr, IsTrue, length, drop};
-ghost use Rattle.fast_field.specs.AsUsual.{ReadsAsUsual};
 ghost use Rattle.fast_value.specs.declared.scalar.Scalar.{Scalar as ScalarOf};
 ghost use Rattle.fast_dictionary.specs.Dictionary.{entry_at};
 ghost use Rattle.fast_field.specs.FieldReading.{field_at};
@@ -19,8 +18,8 @@ use fast_dictionary::{Entries, Entry};
 use fast_field::{FieldFault, Found, read_in_place, reads_as_usual};
 use fast_lines::Signs;
 use fast_part::take_given;
-use fast_relay::{keeps_value, take_aside, take_kept, take_number};
-use fast_template::{FieldPart, Kind, Name, Operator, Presence};
+use fast_relay::{take_aside, take_kept, take_number};
+use fast_template::{FieldPart, Name, Presence};
 use fast_wire::Level;
 use std::alloc::Global;
 
@@ -48,7 +47,7 @@ fn take_generally<S: Signs>(
     Ok(next)
 }
 
-// Takes
+// Takes a field's value, from the bytes where none gives it at once, and tells it from where it lies.
 #[inline(always)]
 fn take<S: Signs>(
     signs: S,
@@ -62,21 +61,24 @@ fn take<S: Signs>(
     at: usize,
     line: &mut Line,
 ) -> Result<usize, FieldFault>
+    requires next { CanTake part.now entry.old bytes.now at }
+    requires bit { part_needs_bit part.now ≡ false → bit ≡ true }
+    ensures { TellsNext S.form level name.now part.now bit bytes.now at result entry.old entry.new line.old line.new }
 {
     if let Some(found) = take_given(part, entry, bit) {
         line.tell(signs, name, part, found.value(part, entry.view()))?;
         return Ok(at);
     }
     if bit && reads_as_usual(level, part, bytes, at) {
-        if keeps_value(part.operator) {
-            if let Some(next) = take_kept(alloc, part, entry, bytes, at) {
-                line.tell(signs, name, part, Found::Kept.value(part, entry.view()))?;
-                return Ok(next);
-            }
-        } else if let Some((value, next)) = take_number(part, bytes, at) {
+        if let Some(next) = take_kept(alloc, part, entry, bytes, at) {
+            line.tell(signs, name, part, Found::Kept.value(part, entry.view()))?;
+            return Ok(next);
+        }
+        if let Some((value, next)) = take_number(part, bytes, at) {
             line.tell(signs, name, part, Some(&value))?;
             return Ok(next);
-        } else if let Some(next) = take_aside(alloc, part, &mut line.aside, bytes, at) {
+        }
+        if let Some(next) = take_aside(alloc, part, &mut line.aside, bytes, at) {
             line.tell_aside(signs, name, part)?;
             return Ok(next);
         }
