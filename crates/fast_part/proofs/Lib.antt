@@ -1,1 +1,1 @@
-mod TakenKinds
+pub mod TakenKinds

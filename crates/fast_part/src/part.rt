@@ -18,7 +18,7 @@ ghost use Rattle.fast_walk.specs.Told.{IsTold};
 
 use fast_dictionary::{Entries, Entry};
 use fast_field::{FieldFault, Found, pass_found, read_in_place, reads_as_usual};
-use fast_relay::take_number;
+use fast_relay::{take_kept_number, take_number};
 use fast_template::{FieldPart, Kind, Operator, Part, Scalar};
 use fast_wire::Level;
 use std::alloc::{AllocError, Global};
@@ -39,36 +39,6 @@ pub fn take_given(part: &FieldPart, entry: &mut Entry, bit: bool) -> Option<Foun
         }
     } else {
         pass_found(part, entry)
-    }
-}
-
-/// Takes an integer under bit 1 at once, where it is read as at the usual level; the entry is the one afterwards. None: nothing has changed,
-/// and the part goes the general way.
-#[inline(always)]
-pub fn take_quickly(
-    part: &FieldPart,
-    entry: &mut Entry,
-    bit: bool,
-    level: Level,
-    bytes: &[u8],
-    at: usize,
-) -> Option<(Scalar, usize)>
-    requires { at ≤ length bytes.now }
-    ensures place { IfSome result (λ x. (at ≤ x.1) × (x.1 ≤ length bytes.now)) }
-    ensures taken { IfSome result (λ x. TookFrom level part.now bit entry.old entry.new (Some x.0)
-        (drop at bytes.now) (drop x.1 bytes.now)) }
-    ensures entry { IfNone result (entry.new ≡ entry.old) }
-{
-    match part.kind {
-        // asked here too: the call costs as much where it says no
-        Kind::UInt32 | Kind::Int32 | Kind::UInt64 | Kind::Int64 => {
-            if bit && reads_as_usual(level, part, bytes, at) {
-                take_number(part, entry, bytes, at)
-            } else {
-                None
-            }
-        }
-        Kind::Decimal | Kind::Ascii | Kind::Unicode | Kind::Bytes => None,
     }
 }
 
@@ -130,16 +100,20 @@ fn take_value(
         → (field_at level part.now entry.old bit (drop at bytes.now) ≡ Err f)
         × (entry.new ≡ entry.old)) }
 {
-    match take_given(part, entry, bit) {
-        Some(found) => {
-            let value = copied(alloc, found.value(part, entry.view()))?;
-            Ok((value, at))
-        }
-        None => match take_quickly(part, entry, bit, level, bytes, at) {
-            Some((value, next)) => Ok((Some(value), next)),
-            None => take_generally(alloc, part, entry, bit, level, bytes, at),
-        },
+    if let Some(found) = take_given(part, entry, bit) {
+        let value = copied(alloc, found.value(part, entry.view()))?;
+        return Ok((value, at));
     }
+    if bit && reads_as_usual(level, part, bytes, at) {
+        if let Some(next) = take_kept_number(part, entry, bytes, at) {
+            let value = copied(alloc, Found::Kept.value(part, entry.view()))?;
+            return Ok((value, next));
+        }
+        if let Some((value, next)) = take_number(part, bytes, at) {
+            return Ok((Some(value), next));
+        }
+    }
+    take_generally(alloc, part, entry, bit, level, bytes, at)
 }
 
 /// Takes the value of a part from the bytes at `at`, and makes its entry the one afterwards where it lies; answers

@@ -14,7 +14,7 @@ use Rattle.fast_template.specs.declared.resolved.FieldPart.{FieldPart}
 use Rattle.fast_value.specs.declared.scalar.Scalar.{Scalar}
 use Rattle.fast_dictionary.specs.declared.entry.Entry.{Entry}
 use Rattle.fast_dictionary.specs.declared.entry.Entry.TheVariants.{Assigned}
-use Rattle.fast_field.specs.Bases.{delta_base, next}
+use Rattle.fast_field.specs.Bases.{delta_base, next, next_of}
 use Rattle.fast_field.specs.Chosen.{ShortestSigned, ShortestWhole}
 use Rattle.fast_field.specs.Deltas.{DeltaForm}
 use Rattle.fast_field.specs.FieldReading.{integer_value, integer_spelled_at, spelled_at, integer_sum, integer_delta_at, delta_at, whole_at, row_at, field_at}
@@ -29,7 +29,7 @@ use Rattle.fast_field.proofs.ChosenForms.{whole_shortest, number_value}
 use Rattle.fast_field.proofs.FieldForms.{checked_is}
 use Rattle.fast_field.proofs.FieldsGoOn.{field_goes}
 use Rattle.fast_field.proofs.Passing.{of_type, of_kind, number_back, within_number, kind_is, number_is}
-use Rattle.fast_relay.specs.Numbers.{SpellsWhole, Spelt}
+use Rattle.fast_relay.specs.Numbers.{KeepsNothing, SpellsWhole, Spelt}
 use Rattle.fast_relay.specs.Judged.{Adds, JudgesFrom, LeavesWhole, NumberGives, StandsFrom, sent_unsigned, under}
 use Rattle.fast_relay.specs.Relayed.{Judges, Takes}
 use Rattle.fast_relay.proofs.Ranges.{range_none}
@@ -101,13 +101,6 @@ typed_takes : (i : FieldPart) (old new : Entry) (z : ℤ) (bytes rest : List ℕ
 typed_takes i old new z bytes rest o h read entry =
     takes i old new (of_integer i.kind z) bytes rest (within_number i.kind i.part z h) (whole_row i.operator i old bytes o ∙ whole_read i bytes rest z h.number read) entry
 
-pub whole_takes : (k : Kind) (i : FieldPart) (old new : Entry) (z : ℤ) (bytes rest : List ℕ) → k ≡ i.kind → SpellsWhole i.operator → IsFieldNumber k i.part z → Spelt (is_unsigned k) i.presence bytes z rest → new ≡ next i old (Some (of_integer k z))
-    → Takes i old new (of_integer k z) bytes rest
-whole_takes k i old new z bytes rest same o =
-    subst (λ (k : Kind). IsFieldNumber k i.part z → Spelt (is_unsigned k) i.presence bytes z rest → new ≡ next i old (Some (of_integer k z)) → Takes i old new (of_integer k z) bytes rest)
-    (sym same)
-    (typed_takes i old new z bytes rest o)
-
 pub typed_judges : (bit : Bool) (i : FieldPart) (old new : Entry) (z : ℤ) (bytes : List ℕ) (at first next : ℕ) → LeavesWhole bit i.kind i.part i old new z → StandsFrom (is_unsigned i.kind) i.presence bytes at first next z
     → JudgesFrom bit i old new (of_integer i.kind z) bytes at first next
 typed_judges bit i old new z bytes at first next l s =
@@ -125,10 +118,33 @@ whole_sign operator.Increment k whole = refl
 whole_sign o k whole = absurd whole
 
 typed_gives : (bit : Bool) (i : FieldPart) (old new : Entry) (z : ℤ) → LeavesWhole bit i.kind i.part i old new z → NumberGives bit i.kind i old new z
-typed_gives bit i old new z l = λ bytes at first next s. (of_integer i.kind z, typed_judges bit i old new z bytes at first next l (rw (whole_sign i.operator i.kind l.whole) at s))
+typed_gives bit i old new z l =
+    let v = of_integer i.kind z in
+    let sign = whole_sign i.operator i.kind l.whole in record {
+      takes = λ bytes rest s. (v, typed_takes i old new z bytes rest l.whole l.number (rw sign at s) l.leaves.entry);
+      gives = λ bytes at first next s. (v, typed_judges bit i old new z bytes at first next l (rw sign at s));
+    }
 
 pub whole_gives : (bit : Bool) (k : Kind) (i : FieldPart) (old new : Entry) (z : ℤ) → k ≡ i.kind → LeavesWhole bit k i.part i old new z → NumberGives bit k i old new z
 whole_gives bit k i old new z same = subst (λ (k : Kind). LeavesWhole bit k i.part i old new z → NumberGives bit k i old new z) (sym same) (typed_gives bit i old new z)
+
+-- ---- numbers that no entry keeps
+
+pub leaves : (o : Operator) (e : Entry) (v : Scalar) → KeepsNothing o → next_of o e (Some v) ≡ e
+leaves operator.Plain e v h = refl
+leaves operator.Default e v h = refl
+leaves o e v h = absurd h
+
+pub spells_whole : (o : Operator) → KeepsNothing o → SpellsWhole o
+spells_whole operator.Plain h = tt
+spells_whole operator.Default h = tt
+spells_whole o h = absurd h
+
+typed_aside : (i : FieldPart) (e : Entry) (z : ℤ) (bytes rest : List ℕ) → KeepsNothing i.operator → IsFieldNumber i.kind i.part z → Spelt (is_unsigned i.kind) i.presence bytes z rest → Takes i e e (of_integer i.kind z) bytes rest
+typed_aside i e z bytes rest o h s = typed_takes i e e z bytes rest (spells_whole i.operator o) h s (sym (leaves i.operator e (of_integer i.kind z) o))
+
+pub number_aside : (k : Kind) (i : FieldPart) (e : Entry) (z : ℤ) (bytes rest : List ℕ) → k ≡ i.kind → KeepsNothing i.operator → IsFieldNumber k i.part z → Spelt (is_unsigned k) i.presence bytes z rest → Takes i e e (of_integer k z) bytes rest
+number_aside k i e z bytes rest same o = subst (λ (k : Kind). IsFieldNumber k i.part z → Spelt (is_unsigned k) i.presence bytes z rest → Takes i e e (of_integer k z) bytes rest) (sym same) (typed_aside i e z bytes rest o)
 
 -- ---- deltas
 
@@ -180,27 +196,25 @@ entry_takes : (i : FieldPart) (old new : Entry) (z d : ℤ) (bytes rest : List �
 entry_takes i (Assigned v) new z d bytes rest o is h read entry = assigned_takes i v new z d bytes rest o is h read entry
 entry_takes i old new z d bytes rest o is h read entry = absurd is
 
-pub delta_takes : {k : Kind} {i : FieldPart} {old new : Entry} {bytes rest : List ℕ} (z d : ℤ) → k ≡ i.kind → i.operator ≡ operator.Delta → HasNumber k old z → IsFieldNumber k i.part (z +ℤ d) → Spelt false i.presence bytes d rest
-    → new ≡ Assigned (of_integer k (z +ℤ d)) → Takes i old new (of_integer k (z +ℤ d)) bytes rest
-delta_takes {k} {i} {old} {new} {bytes} {rest} z d same o =
-    subst (λ (k : Kind). HasNumber k old z → IsFieldNumber k i.part (z +ℤ d) → Spelt false i.presence bytes d rest → new ≡ Assigned (of_integer k (z +ℤ d)) → Takes i old new (of_integer k (z +ℤ d)) bytes rest)
-    (sym same)
-    (entry_takes i old new z d bytes rest o)
-
 entry_first : (i : FieldPart) (old : Entry) (z d : ℤ) (b : List ℕ) → HasNumber i.kind old z → IsNumber i.kind (z +ℤ d) → ShortestSigned i.presence d b → IsFirst (λ c b. DeltaForm Usual i old c b (Some (of_integer i.kind (z +ℤ d)))) b
 entry_first i (Assigned v) z d b is h s = delta_first i v z d b is h s
 entry_first i old z d b is h s = absurd is
 
 typed_adds : (i : FieldPart) (old new : Entry) (d : ℤ) → i.operator ≡ operator.Delta → Adds i.kind i.part d old new → NumberGives true i.kind i old new d
-typed_adds i old new d o h = λ bytes at first next s.
-    let w = of_integer i.kind (h.number +ℤ d) in
-    let form = slice_range bytes first next in
-    let sent = rw (o) at s in (
-      w,
-      judges true i old new w (drop at bytes) (drop next bytes) form (of_kind i.kind (h.number +ℤ d) h.sum.number) (within_number i.kind i.part (h.number +ℤ d) h.sum)
-          (delta_takes h.number d refl o h.kept h.sum sent.spelt h.entry) (delta_out i old (Some w) o)
-          (subst (λ (o : Operator). IsFirst (λ c b. FormOf Usual o i old true c b (Some w)) form) (sym o) (entry_first i old h.number d form h.kept h.sum.number (shortest_signed i.presence d form sent.form sent.short))),
-    )
+typed_adds i old new d o h =
+    let z = h.number +ℤ d in
+    let w = of_integer i.kind z in
+    let takes : (bytes rest : List ℕ) → Spelt false i.presence bytes d rest → Takes i old new w bytes rest = λ bytes rest s. entry_takes i old new h.number d bytes rest o h.kept h.sum s h.entry in record {
+      takes = λ bytes rest s. (w, takes bytes rest (rw o at s));
+      gives = λ bytes at first next s.
+          let form = slice_range bytes first next in
+          let sent = rw (o) at s in (
+            w,
+            judges true i old new w (drop at bytes) (drop next bytes) form (of_kind i.kind z h.sum.number) (within_number i.kind i.part z h.sum) (takes (drop at bytes) (drop next bytes) sent.spelt)
+                (delta_out i old (Some w) o)
+                (subst (λ (o : Operator). IsFirst (λ c b. FormOf Usual o i old true c b (Some w)) form) (sym o) (entry_first i old h.number d form h.kept h.sum.number (shortest_signed i.presence d form sent.form sent.short))),
+          );
+    }
 
 pub added_gives : (k : Kind) (i : FieldPart) (old new : Entry) (d : ℤ) → k ≡ i.kind → i.operator ≡ operator.Delta → Adds k i.part d old new → NumberGives true k i old new d
 added_gives k i old new d same o = subst (λ (k : Kind). Adds k i.part d old new → NumberGives true k i old new d) (sym same) (typed_adds i old new d o)

@@ -6,10 +6,8 @@ use Rattle.fast_wire.specs.Entity.{groups}
 use Rattle.fast_wire.specs.Plain.{IsPlain}
 use Rattle.fast_value.specs.declared.kind.Kind.{Kind}
 use Rattle.fast_value.specs.declared.kind.Kind.TheVariants as kind
-use Rattle.fast_value.specs.declared.kind.Operator.{Operator}
 use Rattle.fast_value.specs.declared.kind.Operator.TheVariants as operator
 use Rattle.fast_value.specs.declared.kind.Part.TheVariants as part
-use Rattle.fast_value.specs.declared.scalar.Scalar.{Scalar}
 use Rattle.fast_value.specs.declared.scalar.Scalar.TheVariants.{Ascii}
 use Rattle.fast_template.specs.declared.resolved.FieldPart.{FieldPart}
 use Rattle.fast_dictionary.specs.declared.entry.Entry.{Entry}
@@ -17,13 +15,11 @@ use Rattle.fast_dictionary.specs.declared.entry.Entry.TheVariants.{Assigned}
 use Rattle.fast_field.specs.Bases.{next, next_of}
 use Rattle.fast_field.specs.FieldReading.{units_spelled_at}
 use Rattle.fast_field.specs.Values.{IsUnitKind}
-use Rattle.fast_relay.specs.Kept.{LeavesEntry}
-use Rattle.fast_relay.specs.Numbers.{SpellsWhole}
+use Rattle.fast_relay.specs.Numbers.{KeepsNothing, SpellsWhole}
 use Rattle.fast_relay.specs.Relayed.{Takes}
 use Rattle.fast_relay.specs.Texts.{GivesCut, GivesTail}
 use Rattle.fast_relay.proofs.PlainTexts.{spelled_plain}
-use Rattle.fast_relay.proofs.Taking.{delta_row, whole_row}
-use Rattle.fast_relay.proofs.Taking.{takes}
+use Rattle.fast_relay.proofs.Taking.{delta_row, leaves, spells_whole, takes, whole_row}
 use Rattle.fast_relay.proofs.TextRelaying.{delta_as, tail_row, text_read, whole_within}
 
 pub text_takes : {i : FieldPart} {old new : Entry} {bytes form rest : List ℕ} → i.kind ≡ kind.Ascii → i.part ≡ part.Whole → i.operator ≡ operator.Copy → IsPlain bytes form rest
@@ -36,18 +32,8 @@ text_takes {i} {old} {new} {bytes} {form} {rest} k whole o h entry =
     (whole_row i.operator i old bytes spells ∙ text_read i (Ascii (groups form)) bytes rest units (subst (λ (k : Kind). units_spelled_at Usual k i.presence bytes ≡ Ok (Some (Ascii (groups form)), rest)) (sym k) (spelled_plain i.presence bytes form rest h)))
     (entry ∙ sym last)
 
-leaves : (o : Operator) (e : Entry) (v : Scalar) → LeavesEntry o → next_of o e (Some v) ≡ e
-leaves operator.Plain e v h = refl
-leaves operator.Default e v h = refl
-leaves o e v h = absurd h
-
-spells_whole : (o : Operator) → LeavesEntry o → SpellsWhole o
-spells_whole operator.Plain h = tt
-spells_whole operator.Default h = tt
-spells_whole o h = absurd h
-
 -- one that its entry does not keep
-pub aside_takes : {i : FieldPart} {e : Entry} {bytes form rest : List ℕ} → i.kind ≡ kind.Ascii → i.part ≡ part.Whole → LeavesEntry i.operator → IsPlain bytes form rest → Takes i e e (Ascii (groups form)) bytes rest
+pub aside_takes : {i : FieldPart} {e : Entry} {bytes form rest : List ℕ} → i.kind ≡ kind.Ascii → i.part ≡ part.Whole → KeepsNothing i.operator → IsPlain bytes form rest → Takes i e e (Ascii (groups form)) bytes rest
 aside_takes {i} {e} {bytes} {form} {rest} k whole o h =
     let v = Ascii (groups form) in
     let units : IsUnitKind i.kind = rw k tt in

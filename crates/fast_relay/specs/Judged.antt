@@ -23,7 +23,7 @@ use Rattle.fast_field.specs.Planning.{left_out_of}
 use Rattle.fast_field.specs.Spelled.{SpellsIntegerUsually, overlong_number}
 use Rattle.fast_field.specs.Values.{is_unsigned, of_units}
 use Rattle.fast_relay.specs.Numbers.{SpellsWhole, Spelt}
-use Rattle.fast_relay.specs.Relayed.{Judges}
+use Rattle.fast_relay.specs.Relayed.{Judges, Takes}
 use Rattle.fast_relay.specs.Texts.{GivesTail, IsText}
 use Rattle.fast_relay.specs.declared.judged.Judged.{Judged}
 use Rattle.fast_relay.specs.declared.judged.Judged.TheVariants.{Stands, Behind, BehindTwo, Given, Elsewhere}
@@ -166,6 +166,7 @@ abbrev pub sent_unsigned : Operator → Kind → Bool
 sent_unsigned operator.Delta k = false
 sent_unsigned o k = is_unsigned k
 
--- wherever this number stands, the best form of what it gives has this bit
-abbrev pub NumberGives : Bool → Kind → FieldPart → Entry → Entry → ℤ → Type 0
-NumberGives bit k i old new z = (bytes : List ℕ) (at first next : ℕ) → StandsFrom (sent_unsigned i.operator k) i.presence bytes at first next z → Gives bit i old new bytes at first next
+-- wherever this number is spelled, it gives a value, and wherever its shortest form stands, the best form of that has this bit
+pub record NumberGives (bit : Bool) (k : Kind) (i : FieldPart) (old new : Entry) (z : ℤ) : Type 0 where
+  pub takes : (bytes rest : List ℕ) → Spelt (sent_unsigned i.operator k) i.presence bytes z rest → (v : Scalar) × Takes i old new v bytes rest
+  pub gives : (bytes : List ℕ) (at first next : ℕ) → StandsFrom (sent_unsigned i.operator k) i.presence bytes at first next z → Gives bit i old new bytes at first next

@@ -1,23 +1,132 @@
-//! Integers that are read at once, where they are not written again. What is not served here goes the general way of
-//! `read_in_place`.
+//! Values that are read at once, where they are not written again: into the entries that keep them, or where no entry does.
+//! What is not served here goes the general way of `read_in_place`.
 
-ghost use Rattle.std.specs.Prelude.{◌≡◌, ◌≤◌, Some, length, drop, IfNone, IfSome, IsTrue};
+ghost use Rattle.std.specs.Prelude.{◌≡◌, ◌≤◌, length, IfSome, IsTrue};
 ghost use Rattle.fast_value.specs.Scalar.{is_integer, of_integer};
-ghost use Rattle.fast_value.specs.declared.kind.Operator.TheVariants as operator_type;
-ghost use Rattle.fast_field.specs.Bases.{next_of};
 ghost use Rattle.fast_field.specs.Numbers.{IsNumber};
-ghost use Rattle.fast_relay.specs.Numbers.{SpellsWhole};
-ghost use Rattle.fast_relay.specs.Kept.{TakesKept, TakesNumber, keeps_value};
-ghost use Rattle.fast_relay.specs.Relayed.{Takes};
+ghost use Rattle.fast_field.specs.Within.{HoldsScalar};
+ghost use Rattle.fast_relay.specs.Kept as kept;
+ghost use Rattle.fast_relay.specs.Numbers.{KeepsNothing};
 
-use crate::integers::{is_unsigned, read_short};
+use crate::integers::is_unsigned;
+use crate::judged::{Judged, is_sent_unsigned, judge_long, judge_number, read_number};
+use crate::short_number::fits_field;
+use crate::taken_text::take_text;
 use fast_dictionary::Entry;
-use fast_field::{is_field_number, kept_number, set_number};
 use fast_template::{FieldPart, Kind, Operator, Scalar};
+use std::alloc::Global;
+
+/// Whether a value that was read is in its entry afterwards.
+#[inline(always)]
+fn keeps_value(operator: Operator) -> bool
+    ensures { result ≡ kept.keeps_value operator }
+{
+    match operator {
+        Operator::Copy | Operator::Increment | Operator::Delta | Operator::Tail => true,
+        Operator::Plain | Operator::Default | Operator::Constant => false,
+    }
+}
+
+/// Takes an integer of a type that is known here into its entry.
+#[inline(always)]
+fn take_as(
+    kind: Kind,
+    instr: &FieldPart,
+    entry: &mut Entry,
+    bytes: &[u8],
+    at: usize,
+) -> Option<usize>
+    requires at { at ≤ length bytes.now }
+    requires kind { kind ≡ instr.now.kind }
+    requires operator { IsTrue (kept.keeps_value instr.now.operator) }
+    ensures { kept.TakesKept instr.now bytes.now at result entry.old entry.new }
+{
+    let unsigned = is_sent_unsigned(kind, instr.operator);
+    let (number, next) = read_number(unsigned, instr.presence, bytes, at)?;
+    match judge_number(kind, instr.part, instr, entry, number, next) {
+        Judged::Stands(_) | Judged::Given(_) => Some(next),
+        Judged::Behind(_) | Judged::BehindTwo(_) => unreachable!(),
+        Judged::Elsewhere => None,
+    }
+}
+
+/// Reads an integer under bit 1 into the entry, which has it then, and answers the place after it. None: nothing has changed,
+/// and the general way tells. (A call of its own, so that the loop over the fields of a line stays small.)
+#[inline(never)]
+pub fn take_kept_number(
+    instr: &FieldPart,
+    entry: &mut Entry,
+    bytes: &[u8],
+    at: usize,
+) -> Option<usize>
+    requires { at ≤ length bytes.now }
+    ensures { kept.TakesKept instr.now bytes.now at result entry.old entry.new }
+{
+    if !keeps_value(instr.operator) {
+        return None;
+    }
+    match instr.kind {
+        Kind::UInt32 => take_as(Kind::UInt32, instr, entry, bytes, at),
+        Kind::Int32 => take_as(Kind::Int32, instr, entry, bytes, at),
+        Kind::UInt64 => take_as(Kind::UInt64, instr, entry, bytes, at),
+        Kind::Int64 => take_as(Kind::Int64, instr, entry, bytes, at),
+        Kind::Decimal | Kind::Ascii | Kind::Unicode | Kind::Bytes => None,
+    }
+}
+
+/// The place behind a value that was judged. (A call of its own, so that the loop over the fields of a line stays small.)
+#[inline(never)]
+fn judge_place(
+    alloc: Global,
+    instr: &FieldPart,
+    entry: &mut Entry,
+    bytes: &[u8],
+    at: usize,
+) -> Option<usize>
+    requires place { at ≤ length bytes.now }
+    requires kept { HoldsScalar entry.now }
+    requires operator { IsTrue (kept.keeps_value instr.now.operator) }
+    ensures { kept.TakesKept instr.now bytes.now at result entry.old entry.new }
+{
+    match judge_long(instr.part, alloc, instr, entry, bytes, at) {
+        Judged::Stands(next)
+        | Judged::Behind(next)
+        | Judged::BehindTwo(next)
+        | Judged::Given(next) => Some(next),
+        Judged::Elsewhere => None,
+    }
+}
+
+/// Reads a value under bit 1 into the entry, which has it then, and answers the place after it. None: nothing has changed,
+/// and the general way tells.
+#[inline(always)]
+pub fn take_kept(
+    alloc: Global,
+    instr: &FieldPart,
+    entry: &mut Entry,
+    bytes: &[u8],
+    at: usize,
+) -> Option<usize>
+    requires place { at ≤ length bytes.now }
+    requires kept { HoldsScalar entry.now }
+    ensures { kept.TakesKept instr.now bytes.now at result entry.old entry.new }
+{
+    if !keeps_value(instr.operator) {
+        return None;
+    }
+    match instr.kind {
+        // (read with no look at how they are best written: of a feed with slack many are not as they are best)
+        Kind::Ascii => take_text(alloc, instr, entry, bytes, at),
+        Kind::UInt32 | Kind::Int32 | Kind::UInt64 | Kind::Int64 => {
+            take_kept_number(instr, entry, bytes, at)
+        }
+        Kind::Decimal | Kind::Unicode | Kind::Bytes => judge_place(alloc, instr, entry, bytes, at),
+    }
+}
 
 /// A number of an integer type as a value.
 #[inline(always)]
-fn value_of(kind: Kind, number: i128) -> Scalar
+fn value_of(kind: Kind, number: i64) -> Scalar
     requires { IsNumber kind number }
     ensures { result ≡ of_integer kind number }
 {
@@ -25,178 +134,43 @@ fn value_of(kind: Kind, number: i128) -> Scalar
         Kind::UInt32 => Scalar::U32(number as u32),
         Kind::Int32 => Scalar::I32(number as i32),
         Kind::UInt64 => Scalar::U64(number as u64),
-        Kind::Int64 => Scalar::I64(number as i64),
+        Kind::Int64 => Scalar::I64(number),
         Kind::Decimal | Kind::Ascii | Kind::Unicode | Kind::Bytes => unreachable!(),
     }
 }
 
-/// Makes an entry the one that a number leaves which was spelled whole.
+/// Takes an integer of a type that is known here, which no entry keeps.
 #[inline(always)]
-fn keep_whole(kind: Kind, operator: Operator, entry: &mut Entry, number: i128)
-    requires operator { SpellsWhole operator }
-    requires number { IsNumber kind number }
-    ensures { entry.new ≡ next_of operator entry.old (Some (of_integer kind number)) }
-{
-    match operator {
-        Operator::Copy | Operator::Increment => set_number(kind, entry, number),
-        Operator::Plain | Operator::Default => {}
-        Operator::Constant | Operator::Delta | Operator::Tail => {}
-    }
-}
-
-/// Takes a number that is spelled whole.
-#[inline(always)]
-fn take_whole(
-    kind: Kind,
-    instr: &FieldPart,
-    entry: &mut Entry,
-    bytes: &[u8],
-    at: usize,
-) -> Option<(i128, usize)>
+fn take_number_as(kind: Kind, instr: &FieldPart, bytes: &[u8], at: usize) -> Option<(Scalar, usize)>
     requires at { at ≤ length bytes.now }
     requires kind { kind ≡ instr.now.kind }
     requires integer { IsTrue (is_integer kind) }
-    requires operator { SpellsWhole instr.now.operator }
-    ensures { TakesNumber kind instr.now bytes.now at result entry.old entry.new }
+    requires operator { KeepsNothing instr.now.operator }
+    ensures { IfSome result (λ x. kept.TakesAside instr.now bytes.now at x.1 x.0) }
 {
-    let (number, next) = read_short(is_unsigned(kind), instr.presence, bytes, at)?;
-    if !is_field_number(kind, instr.part, number) {
-        return None;
+    let (number, next) = read_number(is_unsigned(kind), instr.presence, bytes, at)?;
+    if fits_field(kind, instr.part, number) {
+        Some((value_of(kind, number), next))
+    } else {
+        None
     }
-    keep_whole(kind, instr.operator, entry, number);
-    Some((number, next))
 }
 
-/// Takes what is added to the number that the entry has.
-#[inline(always)]
-fn take_delta(
-    kind: Kind,
-    instr: &FieldPart,
-    entry: &mut Entry,
-    bytes: &[u8],
-    at: usize,
-) -> Option<(i128, usize)>
-    requires at { at ≤ length bytes.now }
-    requires kind { kind ≡ instr.now.kind }
-    requires integer { IsTrue (is_integer kind) }
-    requires operator { instr.now.operator ≡ operator_type.Delta }
-    ensures { TakesNumber kind instr.now bytes.now at result entry.old entry.new }
-{
-    let kept = kept_number(kind, entry)?;
-    let (delta, next) = read_short(false, instr.presence, bytes, at)?;
-    let number = kept + delta;
-    if !is_field_number(kind, instr.part, number) {
-        return None;
-    }
-    set_number(kind, entry, number);
-    Some((number, next))
-}
-
-/// Takes a number of a type that is known here.
-#[inline(always)]
-fn take(
-    kind: Kind,
-    instr: &FieldPart,
-    entry: &mut Entry,
-    bytes: &[u8],
-    at: usize,
-) -> Option<(i128, usize)>
-    requires at { at ≤ length bytes.now }
-    requires kind { kind ≡ instr.now.kind }
-    requires integer { IsTrue (is_integer kind) }
-    ensures { TakesNumber kind instr.now bytes.now at result entry.old entry.new }
+/// Reads an integer under bit 1 that its entry does not keep, and answers the place after it; the entry stays as it is. None: the
+/// general way tells.
+#[inline(never)]
+pub fn take_number(instr: &FieldPart, bytes: &[u8], at: usize) -> Option<(Scalar, usize)>
+    requires { at ≤ length bytes.now }
+    ensures { IfSome result (λ x. kept.TakesAside instr.now bytes.now at x.1 x.0) }
 {
     match instr.operator {
-        Operator::Delta => take_delta(kind, instr, entry, bytes, at),
-        Operator::Plain | Operator::Default | Operator::Copy | Operator::Increment => {
-            take_whole(kind, instr, entry, bytes, at)
-        }
-        Operator::Constant | Operator::Tail => None,
-    }
-}
-
-/// The same, as a value.
-#[inline(always)]
-fn take_value(
-    kind: Kind,
-    instr: &FieldPart,
-    entry: &mut Entry,
-    bytes: &[u8],
-    at: usize,
-) -> Option<(Scalar, usize)>
-    requires at { at ≤ length bytes.now }
-    requires kind { kind ≡ instr.now.kind }
-    requires integer { IsTrue (is_integer kind) }
-    ensures place { IfSome result (λ x. (at ≤ x.1) × (x.1 ≤ length bytes.now)) }
-    ensures taken { IfSome result (λ x. Takes instr.now entry.old entry.new x.0
-        (drop at bytes.now) (drop x.1 bytes.now)) }
-    ensures entry { IfNone result (entry.new ≡ entry.old) }
-{
-    let (number, next) = take(kind, instr, entry, bytes, at)?;
-    Some((value_of(kind, number), next))
-}
-
-/// Reads an integer under bit 1, makes the entry the one afterwards, and answers the number as a value and the place
-/// after it. It takes no memory. None: nothing has changed, and the general way tells.
-#[inline(never)]
-pub fn take_number(
-    instr: &FieldPart,
-    entry: &mut Entry,
-    bytes: &[u8],
-    at: usize,
-) -> Option<(Scalar, usize)>
-    requires { at ≤ length bytes.now }
-    ensures place { IfSome result (λ x. (at ≤ x.1) × (x.1 ≤ length bytes.now)) }
-    ensures taken { IfSome result (λ x. Takes instr.now entry.old entry.new x.0
-        (drop at bytes.now) (drop x.1 bytes.now)) }
-    ensures entry { IfNone result (entry.new ≡ entry.old) }
-{
-    match instr.kind {
-        Kind::UInt32 => take_value(Kind::UInt32, instr, entry, bytes, at),
-        Kind::Int32 => take_value(Kind::Int32, instr, entry, bytes, at),
-        Kind::UInt64 => take_value(Kind::UInt64, instr, entry, bytes, at),
-        Kind::Int64 => take_value(Kind::Int64, instr, entry, bytes, at),
-        Kind::Decimal | Kind::Ascii | Kind::Unicode | Kind::Bytes => None,
-    }
-}
-
-/// The same of a number that the entry keeps: the place after it alone.
-#[inline(always)]
-fn take_place(
-    kind: Kind,
-    instr: &FieldPart,
-    entry: &mut Entry,
-    bytes: &[u8],
-    at: usize,
-) -> Option<usize>
-    requires at { at ≤ length bytes.now }
-    requires kind { kind ≡ instr.now.kind }
-    requires integer { IsTrue (is_integer kind) }
-    requires operator { IsTrue (keeps_value instr.now.operator) }
-    ensures { TakesKept instr.now bytes.now at result entry.old entry.new }
-{
-    let (_number, next) = take(kind, instr, entry, bytes, at)?;
-    Some(next)
-}
-
-/// The same by the type, which is known behind this call. (A call of its own, so that the loop over the fields of a line
-/// stays small.)
-#[inline(never)]
-pub(crate) fn take_kept_number(
-    instr: &FieldPart,
-    entry: &mut Entry,
-    bytes: &[u8],
-    at: usize,
-) -> Option<usize>
-    requires at { at ≤ length bytes.now }
-    requires operator { IsTrue (keeps_value instr.now.operator) }
-    ensures { TakesKept instr.now bytes.now at result entry.old entry.new }
-{
-    match instr.kind {
-        Kind::UInt32 => take_place(Kind::UInt32, instr, entry, bytes, at),
-        Kind::Int32 => take_place(Kind::Int32, instr, entry, bytes, at),
-        Kind::UInt64 => take_place(Kind::UInt64, instr, entry, bytes, at),
-        Kind::Int64 => take_place(Kind::Int64, instr, entry, bytes, at),
-        Kind::Decimal | Kind::Ascii | Kind::Unicode | Kind::Bytes => None,
+        Operator::Plain | Operator::Default => match instr.kind {
+            Kind::UInt32 => take_number_as(Kind::UInt32, instr, bytes, at),
+            Kind::Int32 => take_number_as(Kind::Int32, instr, bytes, at),
+            Kind::UInt64 => take_number_as(Kind::UInt64, instr, bytes, at),
+            Kind::Int64 => take_number_as(Kind::Int64, instr, bytes, at),
+            Kind::Decimal | Kind::Ascii | Kind::Unicode | Kind::Bytes => None,
+        },
+        _ => None,
     }
 }

@@ -1,14 +1,13 @@
 //! ASCII strings that are read at once into the entry that keeps them, or beside it, where they are not written again.
 //! What is not served here goes the general way of `read_in_place`.
 
-ghost use Rattle.std.specs.Prelude.{◌≡◌, ◌≤◌, length, drop, IfNone, IfSome};
+ghost use Rattle.std.specs.Prelude.{◌≡◌, ◌≤◌, length, IfNone, IfSome};
 ghost use Rattle.fast_value.specs.declared.kind.Kind.TheVariants as kind_type;
 ghost use Rattle.fast_value.specs.declared.kind.Operator.TheVariants as operator_type;
 ghost use Rattle.fast_value.specs.declared.kind.Part.TheVariants as part_type;
 ghost use Rattle.fast_value.specs.declared.scalar.Scalar.TheVariants.{Ascii};
-ghost use Rattle.fast_dictionary.specs.declared.entry.Entry.{Entry as EntryOf};
-ghost use Rattle.fast_relay.specs.Kept.{LeavesEntry, TakesKept, TakesText};
-ghost use Rattle.fast_relay.specs.Relayed.{Takes};
+ghost use Rattle.fast_relay.specs.Kept.{TakesAside, TakesKept, TakesText};
+ghost use Rattle.fast_relay.specs.Numbers.{KeepsNothing};
 
 use crate::characters::find_plain;
 use crate::cut::{find_tail, read_cut};
@@ -134,10 +133,8 @@ fn put_aside(
     requires at { at ≤ length bytes.now }
     requires part { instr.now.part ≡ part_type.Whole }
     requires kind { instr.now.kind ≡ kind_type.Ascii }
-    requires operator { LeavesEntry instr.now.operator }
-    ensures place { IfSome result (λ next. (at ≤ next) × (next ≤ length bytes.now)) }
-    ensures taken { IfSome result (λ next. (e : EntryOf) → Takes instr.now e e (Ascii text.new)
-        (drop at bytes.now) (drop next bytes.now)) }
+    requires operator { KeepsNothing instr.now.operator }
+    ensures taken { IfSome result (λ next. TakesAside instr.now bytes.now at next (Ascii text.new)) }
     ensures text { IfNone result (text.new ≡ text.old) }
 {
     let (first, next) = find_plain(bytes, at)?;
@@ -159,9 +156,7 @@ pub fn take_aside(
     at: usize,
 ) -> Option<usize>
     requires { at ≤ length bytes.now }
-    ensures place { IfSome result (λ next. (at ≤ next) × (next ≤ length bytes.now)) }
-    ensures taken { IfSome result (λ next. (e : EntryOf) → Takes instr.now e e value.new
-        (drop at bytes.now) (drop next bytes.now)) }
+    ensures taken { IfSome result (λ next. TakesAside instr.now bytes.now at next value.new) }
     ensures value { IfNone result (value.new ≡ value.old) }
 {
     match (instr.kind, instr.part, instr.operator) {

@@ -1,5 +1,5 @@
 -- What was read of a field of a set is told: a value of its type, or that it is left out where it may be.
-use Rattle.std.proofs.Common.{◌≡◌, ◌<◌, ◌≤◌, ℕ, Bool, true, List, [], ◌∷◌, Option, Some, None, Ok, refl, ◌∙◌, length, drop, get_or, arith, Fits, w8}
+use Rattle.std.proofs.Common.{◌≡◌, ◌<◌, ◌≤◌, ℕ, Bool, true, List, [], ◌∷◌, Option, Some, None, Ok, refl, length, drop, get_or, arith, Fits, w8}
 use Rattle.std.specs.Prelude.{nat_lt}
 use Rattle.std.specs.List.{AllByRecursion}
 use Rattle.std.proofs.lemmas.Bool.Decides.{nat_tests}
@@ -11,13 +11,11 @@ use Rattle.fast_value.specs.declared.scalar.Scalar.{Scalar}
 use Rattle.fast_value.specs.declared.scalar.Scalar.TheVariants.{U32, I32, U64, I64, Decimal, Ascii, Unicode, Bytes}
 use Rattle.fast_template.specs.declared.resolved.FieldPart.{FieldPart}
 use Rattle.fast_dictionary.specs.declared.entry.Entry.{Entry}
-use Rattle.fast_field.specs.AsUsual.{ReadsAsUsual}
 use Rattle.fast_field.specs.Parts.{IsBitOf}
 use Rattle.fast_field.specs.Refusals.{are_characters, has_characters}
 use Rattle.fast_field.specs.Within.{IsOfField}
 use Rattle.fast_field.proofs.FieldsWithin.{values_within}
 use Rattle.fast_field.proofs.ReadFields.{bytes_from}
-use Rattle.fast_relay.specs.Relayed.{Takes}
 use Rattle.fast_stream.specs.Nodes.{single}
 use Rattle.fast_walk.specs.Received.{TookFrom}
 use Rattle.fast_walk.proofs.Telling.{form_taken}
@@ -54,10 +52,6 @@ tells {form} {level} {p} {bit} {old} {new} {v} {o} {name} bytes at next l k fits
     let f = form_taken level p bit old new v (drop at bytes) (drop next bytes) (bytes_from bytes at (λ k. omega (arith, fits k))) can.part asked took in
     let text = told form p v (values_within p old bit f.bytes v can.part can.entry f.form).of_field in
     (place.0, place.1, (v, took, rw (text) (rw (same) at said)))
-
--- what is taken at once where it is read as at the usual level
-pub took_as_usual : {level : Level} {p : FieldPart} {old new : Entry} {v : Scalar} {bytes rest : List ℕ} → ReadsAsUsual level p bytes → Takes p old new v bytes rest → TookFrom level p true old new (Some v) bytes rest
-took_as_usual {old} usual h = record { value = λ more. usual old more ∙ h.read more; entry = h.entry }
 
 -- a part that has no value may be left out
 pub may_be_absent : (p : FieldPart) (presence : Presence) → p.presence ≡ presence → (p.presence ≡ Mandatory → ⊥) → presence ≡ Optional

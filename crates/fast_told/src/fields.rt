@@ -1,6 +1,6 @@
 //! Fields that are told one after the other, with no step of the walk between them.
 
-ghost use Rattle.std.specs.Prelude.{◌≡◌, ◌≢◌, ◌≤◌, ◌<◌, ◌+◌, ℕ, true, false, None, IsSome, IfOk, OnOk, length, drop};
+ghost use Rattle.std.specs.Prelude.{◌≡◌, ◌≤◌, ◌<◌, ◌+◌, ℕ, true, false, None, IsSome, IfOk, OnOk, length, drop};
 ghost use Rattle.fast_template.specs.Resolved.{list_of, then_instruction, whole_field};
 ghost use Rattle.fast_stream.specs.Bits.{after_bit, bit_for};
 ghost use Rattle.fast_walk.specs.Passing.{next_behind};
@@ -34,14 +34,6 @@ fn take_for(bits: &mut Bits, needed: bool)
     if needed {
         bits.take();
     }
-}
-
-// Whether memory was refused.
-#[inline(always)]
-fn is_memory(fault: FieldFault) -> bool
-    ensures { result ≡ false → fault ≢ FieldFault.Memory }
-{
-    fault == FieldFault::Memory
 }
 
 // Goes on behind a field, whose node is counted.
@@ -106,12 +98,10 @@ fn tell_field<'a, S: Signs, E: Entries>(
         fields.place,
         line,
     ) {
-        Err(fault) => {
-            if is_memory(fault) {
-                return Err(AllocError);
-            }
-            Ok(false)
-        }
+        Err(fault) => match fault {
+            FieldFault::Memory => Err(AllocError),
+            _ => Ok(false),
+        },
         Ok(next) => {
             take_for(bits, needs);
             pass(fields, others, next);

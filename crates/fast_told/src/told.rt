@@ -1,7 +1,6 @@
 //! Takes a field's value from the bytes, and tells it from where it lies.
 
 ghost use Rattle.std.specs.Prelude.{◌≡◌, ◌≢◌, ◌≤◌, true, false, Option, Err, IfOk, IfErr, IsTrue, length, drop};
-ghost use Rattle.fast_field.specs.AsUsual.{ReadsAsUsual};
 ghost use Rattle.fast_value.specs.declared.scalar.Scalar.{Scalar as ScalarOf};
 ghost use Rattle.fast_dictionary.specs.Dictionary.{entry_at};
 ghost use Rattle.fast_field.specs.FieldReading.{field_at};
@@ -20,7 +19,7 @@ use fast_field::{FieldFault, Found, read_in_place, reads_as_usual};
 use fast_lines::Signs;
 use fast_part::take_given;
 use fast_relay::{take_aside, take_kept, take_number};
-use fast_template::{FieldPart, Kind, Name, Operator, Presence};
+use fast_template::{FieldPart, Name, Presence};
 use fast_wire::Level;
 use std::alloc::Global;
 
@@ -48,152 +47,7 @@ fn take_generally<S: Signs>(
     Ok(next)
 }
 
-// Takes an integer under bit 1 and tells it, where it is read as at the usual level.
-#[inline(always)]
-fn take_integer<S: Signs>(
-    signs: S,
-    alloc: Global,
-    name: &Name,
-    part: &FieldPart,
-    entry: &mut Entry,
-    level: Level,
-    bytes: &[u8],
-    at: usize,
-    line: &mut Line,
-) -> Result<usize, FieldFault>
-    requires next { CanTake part.now entry.old bytes.now at }
-    requires usual { ReadsAsUsual level part.now (drop at bytes.now) }
-    ensures { TellsNext S.form level name.now part.now true bytes.now at result entry.old entry.new line.old line.new }
-{
-    match take_number(part, entry, bytes, at) {
-        Some((value, next)) => match line.tell(signs, name, part, Some(&value)) {
-            Err(_) => Err(FieldFault::Memory),
-            Ok(()) => Ok(next),
-        },
-        None => take_generally(
-            signs, alloc, name, part, entry, true, level, bytes, at, line,
-        ),
-    }
-}
-
-// The same of what the entry keeps: it is told from there.
-#[inline(always)]
-fn take_held<S: Signs>(
-    signs: S,
-    alloc: Global,
-    name: &Name,
-    part: &FieldPart,
-    entry: &mut Entry,
-    level: Level,
-    bytes: &[u8],
-    at: usize,
-    line: &mut Line,
-) -> Result<usize, FieldFault>
-    requires next { CanTake part.now entry.old bytes.now at }
-    requires whole { part.now.part ≡ Whole }
-    requires usual { ReadsAsUsual level part.now (drop at bytes.now) }
-    ensures { TellsNext S.form level name.now part.now true bytes.now at result entry.old entry.new line.old line.new }
-{
-    match take_kept(alloc, part, entry, bytes, at) {
-        Some(next) => match line.tell(signs, name, part, Found::Kept.value(part, entry.view())) {
-            Err(_) => Err(FieldFault::Memory),
-            Ok(()) => Ok(next),
-        },
-        None => take_generally(
-            signs, alloc, name, part, entry, true, level, bytes, at, line,
-        ),
-    }
-}
-
-// The same of an ASCII string that the entry does not keep: it is told from a place that the line has for it.
-#[inline(always)]
-fn take_beside<S: Signs>(
-    signs: S,
-    alloc: Global,
-    name: &Name,
-    part: &FieldPart,
-    entry: &mut Entry,
-    level: Level,
-    bytes: &[u8],
-    at: usize,
-    line: &mut Line,
-) -> Result<usize, FieldFault>
-    requires next { CanTake part.now entry.old bytes.now at }
-    requires usual { ReadsAsUsual level part.now (drop at bytes.now) }
-    ensures { TellsNext S.form level name.now part.now true bytes.now at result entry.old entry.new line.old line.new }
-{
-    match take_aside(alloc, part, &mut line.aside, bytes, at) {
-        Some(next) => match line.tell_aside(signs, name, part) {
-            Err(_) => Err(FieldFault::Memory),
-            Ok(()) => Ok(next),
-        },
-        None => take_generally(
-            signs, alloc, name, part, entry, true, level, bytes, at, line,
-        ),
-    }
-}
-
-// The same of any field, of integers and ASCII strings also where the entry does not keep them.
-#[inline(always)]
-fn take_sent<S: Signs>(
-    signs: S,
-    alloc: Global,
-    name: &Name,
-    part: &FieldPart,
-    entry: &mut Entry,
-    level: Level,
-    bytes: &[u8],
-    at: usize,
-    line: &mut Line,
-) -> Result<usize, FieldFault>
-    requires next { CanTake part.now entry.old bytes.now at }
-    requires whole { part.now.part ≡ Whole }
-    requires usual { ReadsAsUsual level part.now (drop at bytes.now) }
-    ensures { TellsNext S.form level name.now part.now true bytes.now at result entry.old entry.new line.old line.new }
-{
-    match part.operator {
-        Operator::Copy | Operator::Increment | Operator::Delta | Operator::Tail => take_held(
-            signs, alloc, name, part, entry, level, bytes, at, line,
-        ),
-        Operator::Plain | Operator::Default | Operator::Constant => match part.kind {
-            Kind::UInt32 | Kind::Int32 | Kind::UInt64 | Kind::Int64 => take_integer(
-                signs, alloc, name, part, entry, level, bytes, at, line,
-            ),
-            Kind::Ascii => take_beside(signs, alloc, name, part, entry, level, bytes, at, line),
-            Kind::Decimal | Kind::Unicode | Kind::Bytes => take_generally(
-                signs, alloc, name, part, entry, true, level, bytes, at, line,
-            ),
-        },
-    }
-}
-
-// Takes a field's value, where bytes give it, and tells it from where it lies.
-#[inline(always)]
-fn take_read<S: Signs>(
-    signs: S,
-    alloc: Global,
-    name: &Name,
-    part: &FieldPart,
-    entry: &mut Entry,
-    bit: bool,
-    level: Level,
-    bytes: &[u8],
-    at: usize,
-    line: &mut Line,
-) -> Result<usize, FieldFault>
-    requires next { CanTake part.now entry.old bytes.now at }
-    requires whole { part.now.part ≡ Whole }
-    requires bit { part_needs_bit part.now ≡ false → bit ≡ true }
-    ensures { TellsNext S.form level name.now part.now bit bytes.now at result entry.old entry.new line.old line.new }
-{
-    if bit && reads_as_usual(level, part, bytes, at) {
-        take_sent(signs, alloc, name, part, entry, level, bytes, at, line)
-    } else {
-        take_generally(signs, alloc, name, part, entry, bit, level, bytes, at, line)
-    }
-}
-
-// Takes a field's value, one that no byte gives at once, and tells it from where it lies.
+// Takes a field's value, from the bytes where none gives it at once, and tells it from where it lies.
 #[inline(always)]
 fn take<S: Signs>(
     signs: S,
@@ -208,17 +62,28 @@ fn take<S: Signs>(
     line: &mut Line,
 ) -> Result<usize, FieldFault>
     requires next { CanTake part.now entry.old bytes.now at }
-    requires whole { part.now.part ≡ Whole }
     requires bit { part_needs_bit part.now ≡ false → bit ≡ true }
     ensures { TellsNext S.form level name.now part.now bit bytes.now at result entry.old entry.new line.old line.new }
 {
-    match take_given(part, entry, bit) {
-        Some(found) => match line.tell(signs, name, part, found.value(part, entry.view())) {
-            Err(_) => Err(FieldFault::Memory),
-            Ok(()) => Ok(at),
-        },
-        None => take_read(signs, alloc, name, part, entry, bit, level, bytes, at, line),
+    if let Some(found) = take_given(part, entry, bit) {
+        line.tell(signs, name, part, found.value(part, entry.view()))?;
+        return Ok(at);
     }
+    if bit && reads_as_usual(level, part, bytes, at) {
+        if let Some(next) = take_kept(alloc, part, entry, bytes, at) {
+            line.tell(signs, name, part, Found::Kept.value(part, entry.view()))?;
+            return Ok(next);
+        }
+        if let Some((value, next)) = take_number(part, bytes, at) {
+            line.tell(signs, name, part, Some(&value))?;
+            return Ok(next);
+        }
+        if let Some(next) = take_aside(alloc, part, &mut line.aside, bytes, at) {
+            line.tell_aside(signs, name, part)?;
+            return Ok(next);
+        }
+    }
+    take_generally(signs, alloc, name, part, entry, bit, level, bytes, at, line)
 }
 
 /// Takes a field's value from the bytes, makes its entry the one afterwards, and tells the value.

@@ -1,11 +1,11 @@
 //! Rows on fields that are taken at once, and written nowhere.
 
 use crate::fields::{Kept, Shape, Value, is_kept};
-use crate::judged::{holds_scalar, is_field_part};
+use crate::judged::holds_scalar;
 use crate::same::same;
 use fast_dictionary::Entry;
-use fast_relay::{take_aside, take_kept, take_number};
-use fast_template::{FieldPart, Kind, Operator, Part, Presence, Scalar};
+use fast_relay::{take_aside, take_kept, take_kept_number, take_number};
+use fast_template::{FieldPart, Kind, Operator, Presence, Scalar};
 use std::alloc::{AllocError, Global};
 use std::process::Abort;
 
@@ -28,7 +28,11 @@ struct Answer {
 fn take(alloc: Global, row: &Taken) -> Result<Answer, AllocError> {
     let instr = row.of.instr(alloc)?;
     let mut entry = row.before.entry(alloc)?;
-    let taken = take_number(&instr, &mut entry, row.bytes, row.bytes.len().min(1));
+    let at = row.bytes.len().min(1);
+    let taken = match (take_kept_number(&instr, &mut entry, row.bytes, at), &entry) {
+        (Some(next), Entry::Assigned(value)) => Some((value.copy(alloc)?, next)),
+        _ => take_number(&instr, row.bytes, at),
+    };
     Ok(Answer { taken, entry })
 }
 
@@ -74,11 +78,7 @@ fn is_put(
     row: &Put,
 ) -> Result<(), AllocError> {
     // no other is taken
-    if instr.part != Part::Whole
-        || instr.initial.is_some()
-        || !is_field_part(instr)
-        || !holds_scalar(entry)
-    {
+    if !holds_scalar(entry) {
         same(rt, false, true);
         return Ok(());
     }

@@ -5,9 +5,9 @@ use Rattle.fast_walk.proofs.Telling.{asked_for, told_keeps}
 use Rattle.fast_told.proofs.Taking.{tells_none, tells_one}
 use Rattle.fast_told.proofs.fields.tell_field.Goals as goal
 
-pub returns-else-is_memory-clause-takes : goal.returns-else-is_memory-clause-takes
-returns-else-is_memory-clause-takes g c =
-    let stops = c.in-Err.ensures.stops (c.is_memory.ensures c.if-is_memory.false) in
+pub returns-in_default-clause-takes : goal.returns-in_default-clause-takes
+returns-in_default-clause-takes g c =
+    let stops = c.in-Err.ensures.stops c.in_default.not-Memory in
     tells_none c.args.bytes.now c.args.line.now c.tell.new.line c.args.fields.now stops.1 stops.2
 
 pub returns-in-Ok-clause-takes : goal.returns-in-Ok-clause-takes
