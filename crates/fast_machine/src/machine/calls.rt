@@ -9,7 +9,7 @@ ghost use Rattle.fast_stream.specs.Modes.{Carries};
 ghost use Rattle.fast_walk.specs.declared.traversal.Stage.TheVariants as stage;
 ghost use Rattle.fast_walk.specs.Lacks.{AreUnstopped, Lacks};
 ghost use Rattle.fast_walk.specs.Traversals.{CanGoOn, ServesAll, begun_of};
-ghost use Rattle.fast_machine.specs.Calls.{AnswersNone, FollowsAll, FollowsHolding, FollowsOn, FollowsTaken, FollowsWaiting, HoldsNothing, IsBehind, IsFault, IsFaultOf, IsSameStream, KeepsFault, ReadsNext, StandsAt, StaysAt, StillFollows};
+ghost use Rattle.fast_machine.specs.Calls.{AnswersNone, FollowsAll, FollowsOn, FollowsTaken, FollowsWaiting, HoldsNothing, IsBehind, IsFault, IsFaultOf, IsSameStream, KeepsFault, ReadsNext, StandsAt, StaysAt, StillFollows};
 ghost use Rattle.fast_machine.specs.Following.{Counts, IsHeld};
 ghost use Rattle.fast_machine.specs.Runs.{Retains};
 
@@ -294,31 +294,13 @@ impl<'a, R: Receiver, E: Entries> Machine<'a, R, E> {
         fits && !(self.until_stop && has_stop(chunk))
     }
 
-    // Holds these bytes too, of a piece that lacks more than these: its end stays where it is known to be.
-    #[tactic(auto, using(crate::proofs::Ends::long_behind))]
-    #[inline(always)]
-    fn hold_as_known(&mut self, chunk: &[u8]) -> Result<(), AllocError>
-        requires fault { self.now.fault ≡ None }
-        requires few { length (self.now.held.items ++ chunk.now) < self.now.end }
-        requires unstopped { self.now.until_stop ≡ true → AreUnstopped chunk.now }
-        requires room { self.now.framing ≡ Framing.Blocks
-            → length (self.now.held.items ++ chunk.now) < self.now.left }
-        ensures follows { OnOk result (FollowsHolding self.old (self.old.held.items ++ chunk.now) self.new) }
-        ensures held { OnErr result (self.new.held.items ≡ self.old.held.items) }
-        ensures fault { self.new.fault ≡ None }
-        ensures receiver { self.new.receiver ≡ self.old.receiver }
-        ensures stays { StaysAt self.old self.new }
-    {
-        append(&mut self.held, chunk)?;
-        Ok(())
-    }
-
     /// Takes the next bytes of the stream, where the piece lacks more than these (`lacks_more`): they are held, and nothing
     /// is read.
     ///
     /// # Errors
     ///
     /// As `feed`: memory for them was refused.
+    #[tactic(auto, using(crate::proofs::Ends::long_behind))]
     #[inline(always)]
     pub fn hold_on(&mut self, chunk: &[u8]) -> Result<(), Fault>
         requires fault { self.now.fault ≡ None }
@@ -336,7 +318,8 @@ impl<'a, R: Receiver, E: Entries> Machine<'a, R, E> {
         ensures fed { self.new.fed ≡ self.old.fed + length chunk.now }
     {
         self.fed += chunk.len() as u64;
-        match self.hold_as_known(chunk) {
+        // (the piece's end stays where it is known to be)
+        match append(&mut self.held, chunk) {
             Err(_) => Err(self.refuse()),
             Ok(()) => Ok(()),
         }
@@ -393,27 +376,6 @@ impl<'a, R: Receiver, E: Entries> Machine<'a, R, E> {
         }
     }
 
-    // Holds these bytes too, behind which the piece that is not whole still lacks some.
-    #[inline(always)]
-    fn hold_more(&mut self, lack: Lack, chunk: &[u8]) -> Result<(), AllocError>
-        requires fault { self.now.fault ≡ None }
-        requires lacks { Lacks self.now.traversal (E.contents self.now.entries) (self.now.held.items ++ chunk.now) lack }
-        requires few { length (self.now.held.items ++ chunk.now) ≤ 65554 }
-        requires room { self.now.framing ≡ Framing.Blocks
-            → length (self.now.held.items ++ chunk.now) < self.now.left }
-        ensures follows { OnOk result (FollowsHolding self.old (self.old.held.items ++ chunk.now) self.new) }
-        ensures held { OnErr result (self.new.held.items ≡ self.old.held.items) }
-        ensures fault { self.new.fault ≡ None }
-        ensures receiver { self.new.receiver ≡ self.old.receiver }
-        ensures stays { StaysAt self.old self.new }
-    {
-        self.end = 0;
-        append(&mut self.held, chunk)?;
-        self.waiting = lack.number;
-        self.know(lack);
-        Ok(())
-    }
-
     /// Takes the next bytes of the stream, behind which the piece that is not whole still lacks some, as `first_lacking`
     /// answers: they are held, and nothing is read.
     ///
@@ -437,9 +399,14 @@ impl<'a, R: Receiver, E: Entries> Machine<'a, R, E> {
         ensures fed { self.new.fed ≡ self.old.fed + length chunk.now }
     {
         self.fed += chunk.len() as u64;
-        match self.hold_more(lack, chunk) {
+        self.end = 0;
+        match append(&mut self.held, chunk) {
             Err(_) => Err(self.refuse()),
-            Ok(()) => Ok(()),
+            Ok(()) => {
+                self.waiting = lack.number;
+                self.know(lack);
+                Ok(())
+            }
         }
     }
 
@@ -655,9 +622,7 @@ impl<'a, R: Receiver, E: Entries> Machine<'a, R, E> {
         ensures open { IfOk result (λ n. self.new.fault ≡ None) }
         ensures refused { IfErr result (λ f. self.new.fault ≡ Some f) }
         ensures cause { self.old.fault ≡ None → IfErr result (λ f. f.cause ≢ Cause.Truncated) }
-        ensures set { self.new.traversal.set ≡ self.old.traversal.set }
-        ensures mode { mode_of self.new ≡ mode_of self.old }
-        ensures same_keys { E.serves self.new.entries ≡ E.serves self.old.entries }
+        ensures same { IsSameStream self.old self.new }
         ensures fed { self.old.fault ≡ None → IfOk result (λ n. self.new.fed ≡ self.old.fed + n)
             × IfErr result (λ f. self.new.fed ≡ self.old.fed + length chunk.now) }
     {
@@ -688,9 +653,7 @@ impl<'a, R: Receiver, E: Entries> Machine<'a, R, E> {
         ensures follows { self.old.fault ≡ None → FollowsAll self.old chunk.now self.new }
         ensures answer { Answers result self.new.fault }
         ensures cause { self.old.fault ≡ None → IfErr result (λ f. f.cause ≢ Cause.Truncated) }
-        ensures set { self.new.traversal.set ≡ self.old.traversal.set }
-        ensures mode { mode_of self.new ≡ mode_of self.old }
-        ensures same_keys { E.serves self.new.entries ≡ E.serves self.old.entries }
+        ensures same { IsSameStream self.old self.new }
         ensures fed { self.old.fault ≡ None → self.new.fed ≡ self.old.fed + length chunk.now }
     {
         let mut at = 0;
@@ -712,9 +675,7 @@ impl<'a, R: Receiver, E: Entries> Machine<'a, R, E> {
         ensures follows { self.old.fault ≡ None → FollowsAll self.old chunk.now self.new }
         ensures answer { Answers result self.new.fault }
         ensures cause { self.old.fault ≡ None → IfErr result (λ f. f.cause ≢ Cause.Truncated) }
-        ensures set { self.new.traversal.set ≡ self.old.traversal.set }
-        ensures mode { mode_of self.new ≡ mode_of self.old }
-        ensures same_keys { E.serves self.new.entries ≡ E.serves self.old.entries }
+        ensures same { IsSameStream self.old self.new }
         ensures fed { self.old.fault ≡ None → self.new.fed ≡ self.old.fed + length chunk.now }
     {
         if let Some(kept) = self.fault {
@@ -745,8 +706,7 @@ impl<'a, R: Receiver, E: Entries> Machine<'a, R, E> {
             → Follows self.new before fed messages)) }
         ensures left { Retains R.stands R.keeps self.old.receiver self.new.receiver }
         ensures answer { Answers result self.new.fault }
-        ensures set { self.new.traversal.set ≡ self.old.traversal.set }
-        ensures mode { mode_of self.new ≡ mode_of self.old }
+        ensures same { IsSameStream self.old self.new }
         ensures fed { self.new.fed ≡ self.old.fed }
     {
         if let Some(fault) = self.fault {
@@ -772,8 +732,7 @@ impl<'a, R: Receiver, E: Entries> Machine<'a, R, E> {
         ensures kept { IfSome self.old.fault (λ f. self.new ≡ self.old) }
         ensures follows { self.old.fault ≡ None → StillFollows self.old self.new }
         ensures left { Retains R.stands R.keeps self.old.receiver self.new.receiver }
-        ensures set { self.new.traversal.set ≡ self.old.traversal.set }
-        ensures mode { mode_of self.new ≡ mode_of self.old }
+        ensures same { IsSameStream self.old self.new }
         ensures fed { self.new.fed ≡ self.old.fed }
     {
         let place = match self.finish() {
@@ -791,9 +750,7 @@ impl<'a, R: Receiver, E: Entries> Machine<'a, R, E> {
     /// Begins a new stream, with all entries undefined; the receiver stays. Takes no memory.
     #[tactic(auto, using(crate::proofs::Calls::kept_first))]
     pub fn reset(&mut self)
-        ensures set { self.new.traversal.set ≡ self.old.traversal.set }
-        ensures mode { mode_of self.new ≡ mode_of self.old }
-        ensures same_keys { E.serves self.new.entries ≡ E.serves self.old.entries }
+        ensures same { IsSameStream self.old self.new }
         ensures fault { self.new.fault ≡ None }
         ensures receiver { self.new.receiver ≡ self.old.receiver }
         ensures undefined { E.contents self.new.entries ≡ finite.empty }

@@ -1,5 +1,5 @@
-use Rattle.std.proofs.Common.{length-append, arith}
-use Rattle.fast_machine.proofs.Followings.{no_template, waits_behind}
+use Rattle.std.proofs.Common.{◌≡◌, length-append, arith}
+use Rattle.fast_machine.proofs.Followings.{waits_behind}
 use Rattle.fast_machine.proofs.MessageEnds.{ends_here}
 use Rattle.fast_machine.specs.Runs.{ReadsOn}
 use Rattle.fast_machine.proofs.machine.Machine.end_behind.Goals as goal
@@ -12,7 +12,7 @@ returns-clause-follows g c = λ before fed rest messages is counts stands.
     let d = g.E.Entries.contents old.entries in
     let G = ReadsOn R.has R.stands R.keeps t old.receiver d before in
     let at = c.requires.between in
-    let none = no_template (g.E.Entries.serves old.entries) t at (old.ready c.requires.fault) in
+    let none : t.template ≡ 0 = rw (at) at (old.ready c.requires.fault) in
     let here = ends_here R.has R.stands R.keeps t old.receiver d before at old.framing old.left rest fed messages stands in
     let size = length-append fed rest in
     let all = counts.fed_is in

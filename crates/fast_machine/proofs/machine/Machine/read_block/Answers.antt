@@ -1,12 +1,13 @@
-use Rattle.std.proofs.Common.{◌≢◌, ◌≡◌, ◌<◌, ◌+◌, ◌-◌, ◌++◌, ℕ, List, Some, length, drop, sym, ap, refl, arith}
+use Rattle.std.proofs.Common.{◌≢◌, ◌≡◌, ◌<◌, ◌+◌, ◌-◌, ◌++◌, ℕ, List, None, Some, length, drop, sym, ap, refl, arith}
+use Rattle.std.proofs.lemmas.List.{take_rest}
 use Rattle.fast_template.specs.TemplateSets.{templates_in}
 use Rattle.fast_stream.specs.declared.fault.Cause.TheVariants.{Truncated, BlockEnd}
 use Rattle.fast_stream.specs.declared.mode.Framing.TheVariants.{Blocks}
 use Rattle.fast_stream.specs.Nodes.{Content}
 use Rattle.fast_machine.specs.Standing.{framed_as}
 use Rattle.fast_machine.proofs.Calls.{Finds, finds_fault, finds_waiting, follows_kept}
-use Rattle.fast_machine.proofs.Followings.{fault_refused, not_truncated, slice_rest}
-use Rattle.fast_machine.proofs.BlockReads.{IsOpen, block_cuts, block_goes, block_halts, empty_window}
+use Rattle.fast_machine.proofs.Followings.{fault_refused, not_truncated}
+use Rattle.fast_machine.proofs.BlockReads.{IsOpen, block_cuts, block_goes, empty_window}
 use Rattle.fast_machine.proofs.machine.Machine.read_block.Given as given
 use Rattle.fast_machine.proofs.machine.Machine.read_block.Goals as goal
 use Rattle.fast_machine.proofs.machine.Machine.read_block.Goals.{In-Some, After-within-room}
@@ -26,14 +27,16 @@ halted : (g : given.Over) (c : In-Some g) → IsOpen c.level.result c.args.self.
     → (c.in-Some.halt.cause ≡ Truncated → length (drop (c.in-Ok.opened.1 + c.read_if_any-progress.result.at) c.args.bytes.now) < c.in-Ok.opened.0 - c.read_if_any-progress.result.at)
     → Finds Blocks c.args.self.now c.args.bytes.now c.read_if_any-progress.result.messages c.counted-self.result (Some c.in-Some.halt) (c.in-Ok.opened.0 - c.read_if_any-progress.result.at)
     c.read_if_any-progress.new.traversal c.read_if_any-progress.new.receiver (g.E.Entries.contents c.read_if_any-progress.new.entries) (drop (c.in-Ok.opened.1 + c.read_if_any-progress.result.at) c.args.bytes.now)
-halted g c block = let p = c.read_if_any-progress in block_halts c.args.self.now c.counted-self.result c.level.ensures block p.ensures.leaves p.ensures.ended c.counted-self.ensures c.in-Some.halt c.in-Some.is
+halted g c block more =
+    let p = c.read_if_any-progress in
+    block_goes c.args.self.now c.counted-self.result c.level.ensures block p.ensures.leaves p.ensures.ended c.counted-self.ensures (Some c.in-Some.halt) c.in-Some.is more
 
 pub returns-in-None-clause-reads : goal.returns-in-None-clause-reads
 returns-in-None-clause-reads g c = (
   λ before fed messages short counts stands.
       let p = c.read_if_any-progress in
       let block = opened g (goal.at.returns-in-None-clause-reads g c).After-within-room in
-      let f = (block_goes c.args.self.now c.counted-self.result c.level.ensures block p.ensures.leaves p.ensures.ended c.counted-self.ensures c.in-None.is).found before fed messages short counts stands in
+      let f = (block_goes c.args.self.now c.counted-self.result c.level.ensures block p.ensures.leaves p.ensures.ended c.counted-self.ensures None c.in-None.is tt).found before fed messages short counts stands in
       let none = (rw (c.in-None.is) at p.ensures.leaves.ends).none in (
         f.ended,
         f.counts,
@@ -58,7 +61,7 @@ returns-then-self-rest-clause-reads g c =
           let old = c.args.self.now in
           let p = c.read_if_any-progress in
           let u = p.new.traversal in
-          let size = ap (λ (xs : List ℕ). length xs) (slice_rest c.args.bytes.now (c.in-Ok.opened.1 + p.result.at)) in
+          let size = ap (λ (xs : List ℕ). length xs) (take_rest c.args.bytes.now (c.in-Ok.opened.1 + p.result.at)) in
           let f = block_cuts old c.counted-self.result c.level.ensures (opened g (goal.at.returns-then-self-rest-clause-reads g c).After-within-room) p.ensures.leaves p.ensures.ended c.counted-self.ensures
           c.in-Some.halt c.keep.new.self.receiver old.framing c.requires.framing c.in-Some.is c.in-Truncated.is (omega (arith, size, c.if-self-rest.true)) k.keeps.left before fed messages short counts stands in
           let all = messages ++ f.ended in
@@ -69,7 +72,7 @@ returns-then-self-rest-clause-reads g c =
 pub returns-else-self-rest-clause-reads : goal.returns-else-self-rest-clause-reads
 returns-else-self-rest-clause-reads g c =
     let at = goal.at.returns-else-self-rest-clause-reads g c in
-    let rest = slice_rest c.args.bytes.now (c.in-Ok.opened.1 + c.read_if_any-progress.result.at) in
+    let rest = take_rest c.args.bytes.now (c.in-Ok.opened.1 + c.read_if_any-progress.result.at) in
     let size = ap (λ (xs : List ℕ). length xs) rest in
     finds_waiting _ (halted g at.In-Some (opened g at.After-within-room) (λ wanted. omega (arith, size, c.if-self-rest.false))) c.in-Truncated.is rest (rw (c.requires.framing) at c.hold.ensures.follows) c.hold.ensures.answer
 
@@ -81,6 +84,6 @@ returns-in_default-clause-reads g c =
       not_truncated c.fault_of-fault.result.cause c.in-Some.halt.cause c.fault_of-fault.ensures.cause other,
       λ before fed messages short counts stands.
           let f = finds_fault c.fault_of-fault.result _ c.requires.framing (halted g at.In-Some (opened g at.After-within-room) (λ wanted. absurd (other wanted))) other c.read_if_any-progress.ensures.leaves.sound
-          (ap (λ (xs : List ℕ). length xs) (sym (slice_rest c.args.bytes.now (c.in-Ok.opened.1 + c.read_if_any-progress.result.at)))) (rw (c.template-template.ensures) at c.fault_of-fault.ensures.refused) before fed messages short counts stands in
+          (ap (λ (xs : List ℕ). length xs) (sym (take_rest c.args.bytes.now (c.in-Ok.opened.1 + c.read_if_any-progress.result.at)))) (rw (c.template-template.ensures) at c.fault_of-fault.ensures.refused) before fed messages short counts stands in
           (f.ended, record { at = (f.leaves.0, c.requires.nothing.held, f.leaves.1); counts = f.counts }),
     )
