@@ -1,5 +1,5 @@
 -- What a read of messages in what has come of a block leaves.
-use Rattle.std.proofs.Common.{◌≡◌, ◌≤◌, ◌<◌, ◌^◌, ℕ, ◌+◌, ◌-◌, length, take, drop, length-append, length-drop, length-take, arith, List, [], ◌++◌, Bool, true, false, Option, Some, None, Ok, Err, sym, ap, refl, subst, ◌∙◌, ◌⊎◌, inl, inr, append_assoc}
+use Rattle.std.proofs.Common.{min, ◌≡◌, ◌≤◌, ◌<◌, ◌^◌, ℕ, ◌+◌, ◌-◌, length, take, drop, length-append, length-drop, length-take, arith, List, [], ◌++◌, Bool, true, false, Option, Some, None, Ok, Err, sym, ap, refl, subst, ◌∙◌, ◌⊎◌, inl, inr, append_assoc}
 use Rattle.std.specs.Prelude.{IfSome, nat_le}
 use Rattle.std.proofs.lemmas.Bool.{cases_lt}
 use Rattle.std.proofs.lemmas.List.{drop-drop, drop_all, drop_at, take_all}
@@ -206,7 +206,7 @@ unseen false c more = refl
 module _ {R E : Type 0} {receiver : Receiving R} {entries : Ghosts E} (old : Machine R E receiver entries) {level : Level} {room at size : ℕ} {bytes : List ℕ} {u : Traversal} {s : R} {e : E} {p : Progress} (count : ℕ) (alike : level ≡ old.traversal.level) (opens : IsOpen level old.left room at size bytes)
     (leaves : LeavesMessage receiver entries old.traversal u s old.entries e (take ((at + size) - at) (drop at bytes)) p)
     (reads : ReadsRun receiver.has receiver.stands receiver.keeps old.traversal old.receiver (entries.contents old.entries) (take ((at + size) - at) (drop at bytes)) p.messages p.halt u s (entries.contents e) (drop p.at (take ((at + size) - at) (drop at bytes))))
-    (counted : old.messages + p.messages < 2 ^ 62 → count ≡ old.messages + p.messages) where
+    (counted : count ≡ min (old.messages + p.messages) 18446744073709551615) where
   abbrev Opened : List Content → List ℕ → List Content → Type 0
   Opened before fed messages = Behind (framed_as Blocks old.traversal) (templates_in old.traversal.set.now) fed messages
       (λ x rest. Opening (ReadsOn receiver.has receiver.stands receiver.keeps old.traversal old.receiver (entries.contents old.entries) before) old.traversal room (drop at bytes) x rest)

@@ -1,5 +1,5 @@
 -- What a machine follows behind a chunk more, behind a fault that it keeps, and behind a read of a message.
-use Rattle.std.proofs.Common.{◌≡◌, ◌≢◌, ◌≤◌, ◌<◌, ◌^◌, ◌+◌, ℕ, List, [], ◌++◌, Option, Some, None, Result, Ok, Err, length, length-append, arith, refl, inl, inr, ◌∙◌, append_assoc}
+use Rattle.std.proofs.Common.{min, ◌≡◌, ◌≢◌, ◌≤◌, ◌<◌, ◌^◌, ◌+◌, ℕ, List, [], ◌++◌, Option, Some, None, Result, Ok, Err, length, length-append, arith, refl, inl, inr, ◌∙◌, append_assoc}
 use Rattle.std.specs.FinMap as finite
 use Rattle.fast_wire.specs.Reader.{IsBytes}
 use Rattle.fast_template.specs.TemplateSets.{IsSound, templates_in}
@@ -110,7 +110,7 @@ pub record Found (number fed count : ℕ) (bytes : List ℕ) (messages : List Co
   pub leaves : Leaves ended
 
 -- the messages that ended are counted
-pub found_of : (framing : Framing) (u : Traversal) (count : ℕ) {number fed_before count_before : ℕ} {fed : List ℕ} {messages : List Content} (more : List Content) {Leaves : List Content → Type 0} → (count_before + number < 2 ^ 62 → count ≡ count_before + number) → length fed ≤ 2 ^ 60 → Counts fed_before count_before fed messages
+pub found_of : (framing : Framing) (u : Traversal) (count : ℕ) {number fed_before count_before : ℕ} {fed : List ℕ} {messages : List Content} (more : List Content) {Leaves : List Content → Type 0} → count ≡ min (count_before + number) 18446744073709551615 → length fed ≤ 2 ^ 60 → Counts fed_before count_before fed messages
     → length more ≡ number → Carried (framed_as framing u) (templates_in u.set.now) fed (messages ++ more) → Leaves more → Found number fed_before count fed messages Leaves
 found_of framing u count {fed = fed} {messages = messages} more counted short counts is carried leaves =
     let few = few_messages (framed_as framing u) (templates_in u.set.now) fed (messages ++ more) carried in
@@ -119,7 +119,7 @@ found_of framing u count {fed = fed} {messages = messages} more counted short co
     record {
       ended = more;
       number_is = is;
-      counts = record { fed_is = counts.fed_is; count_is = counted (omega (arith, sizes, same, is, few, short)) ∙ omega (arith, sizes, same, is) };
+      counts = record { fed_is = counts.fed_is; count_is = omega (arith, counted, sizes, same, is, few, short) };
       leaves = leaves;
     }
 

@@ -1,5 +1,5 @@
 -- What a read of messages leaves in plain framing.
-use Rattle.std.proofs.Common.{◌≡◌, ◌<◌, ◌^◌, ℕ, ◌+◌, drop, List, [], ◌++◌, Option, Some, None, ap, refl, sym, subst, inl}
+use Rattle.std.proofs.Common.{min, ◌≡◌, ℕ, ◌+◌, drop, List, [], ◌++◌, Option, Some, None, ap, refl, sym, subst, inl}
 use Rattle.fast_template.specs.Resolved.{Resolved}
 use Rattle.fast_template.specs.TemplateSets.{templates_in}
 use Rattle.fast_dictionary.specs.Dictionary.{Dictionary}
@@ -48,7 +48,7 @@ module _ {G : Dictionary → (List ℕ → Reading) → Type 0} {t : Traversal} 
 -- a machine reads a message in these bytes
 module _ {R E : Type 0} {receiver : Receiving R} {entries : Ghosts E} (old : Machine R E receiver entries) {u : Traversal} {s : R} {e : E} {bytes : List ℕ} {p : Progress} (count : ℕ) (leaves : LeavesMessage receiver entries old.traversal u s old.entries e bytes p)
     (reads : ReadsRun receiver.has receiver.stands receiver.keeps old.traversal old.receiver (entries.contents old.entries) bytes p.messages p.halt u s (entries.contents e) (drop p.at bytes))
-    (counted : old.messages + p.messages < 2 ^ 62 → count ≡ old.messages + p.messages) where
+    (counted : count ≡ min (old.messages + p.messages) 18446744073709551615) where
   set : u.set.now ≡ old.traversal.set.now
   set = ap (λ x. x.now) leaves.same.set
 

@@ -26,13 +26,6 @@ use std::mem;
 /// The most bytes that are held.
 const HELD_LIMIT: usize = 65_554;
 
-// So many more; the count stops at the greatest number.
-fn counted(count: u64, more: u64) -> u64
-    ensures { count + more < 2 ^ 62 → result ≡ count + more }
-{
-    count.saturating_add(more)
-}
-
 // A fault of a piece of which so many of the bytes fed are left, in the message behind so many.
 fn fault_at(
     cause: Cause,
@@ -325,23 +318,6 @@ impl<'a, R: Receiver, E: Entries> Machine<'a, R, E> {
         }
     }
 
-    // What the piece lacks that begins with these bytes, which do not end its first entity.
-    #[inline(always)]
-    fn opening_lacking(&self, chunk: &[u8]) -> Option<Lack>
-        requires held { self.now.held.items ≡ [] }
-        requires unstopped { AreUnstopped chunk.now }
-        ensures { IfSome result (Lacks self.now.traversal (E.contents self.now.entries) chunk.now) }
-    {
-        match self.traversal.opening() {
-            Some(lack) if chunk.len() <= lack.most => Some(Lack {
-                most: lack.most - chunk.len(),
-                number: lack.number,
-                until_stop: true,
-            }),
-            _ => None,
-        }
-    }
-
     /// What a piece lacks behind these bytes, with which it begins, in the same block: the stop bit of its first entity, or
     /// what goes on behind that where it comes alone. (A number that is whole is read at once.) None where that is not known.
     #[inline(always)]
@@ -367,8 +343,16 @@ impl<'a, R: Receiver, E: Entries> Machine<'a, R, E> {
         if !fits {
             return None;
         }
+        // (which do not end its first entity)
         if !has_stop(chunk) {
-            return self.opening_lacking(chunk);
+            return match self.traversal.opening() {
+                Some(lack) if count <= lack.most => Some(Lack {
+                    most: lack.most - count,
+                    number: lack.number,
+                    until_stop: true,
+                }),
+                _ => None,
+            };
         }
         match chunk {
             [_] => self.traversal.lack_of_rest(&self.entries, chunk),
@@ -429,7 +413,7 @@ impl<'a, R: Receiver, E: Entries> Machine<'a, R, E> {
             &mut self.entries,
             bytes,
         );
-        self.messages = counted(self.messages, progress.messages);
+        self.messages = self.messages.saturating_add(progress.messages);
         let rest = &bytes[progress.at..];
         let template = self.traversal.template();
         match progress.halt {
@@ -489,7 +473,7 @@ impl<'a, R: Receiver, E: Entries> Machine<'a, R, E> {
             &mut self.entries,
             &bytes[at..at + room],
         );
-        self.messages = counted(self.messages, progress.messages);
+        self.messages = self.messages.saturating_add(progress.messages);
         self.left = left - progress.at as u128;
         let at = at + progress.at;
         let rest = &bytes[at..];

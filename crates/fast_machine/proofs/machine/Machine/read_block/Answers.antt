@@ -25,18 +25,18 @@ opened g c = record {
 -- what the read found where it stopped, of bytes of which the block has more if more are wanted
 halted : (g : given.Over) (c : In-Some g) → IsOpen c.level.result c.args.self.now.left c.in-Ok.opened.0 c.in-Ok.opened.1 c.within-room.result c.args.bytes.now
     → (c.in-Some.halt.cause ≡ Truncated → length (drop (c.in-Ok.opened.1 + c.read_if_any-progress.result.at) c.args.bytes.now) < c.in-Ok.opened.0 - c.read_if_any-progress.result.at)
-    → Finds Blocks c.args.self.now c.args.bytes.now c.read_if_any-progress.result.messages c.counted-self.result (Some c.in-Some.halt) (c.in-Ok.opened.0 - c.read_if_any-progress.result.at)
+    → Finds Blocks c.args.self.now c.args.bytes.now c.read_if_any-progress.result.messages c.saturating_add-self.result (Some c.in-Some.halt) (c.in-Ok.opened.0 - c.read_if_any-progress.result.at)
     c.read_if_any-progress.new.traversal c.read_if_any-progress.new.receiver (g.E.Entries.contents c.read_if_any-progress.new.entries) (drop (c.in-Ok.opened.1 + c.read_if_any-progress.result.at) c.args.bytes.now)
 halted g c block more =
     let p = c.read_if_any-progress in
-    block_goes c.args.self.now c.counted-self.result c.level.ensures block p.ensures.leaves p.ensures.ended c.counted-self.ensures (Some c.in-Some.halt) c.in-Some.is more
+    block_goes c.args.self.now c.saturating_add-self.result c.level.ensures block p.ensures.leaves p.ensures.ended c.saturating_add-self.ensures (Some c.in-Some.halt) c.in-Some.is more
 
 pub returns-in-None-clause-reads : goal.returns-in-None-clause-reads
 returns-in-None-clause-reads g c = (
   λ before fed messages short counts stands.
       let p = c.read_if_any-progress in
       let block = opened g (goal.at.returns-in-None-clause-reads g c).After-within-room in
-      let f = (block_goes c.args.self.now c.counted-self.result c.level.ensures block p.ensures.leaves p.ensures.ended c.counted-self.ensures None c.in-None.is tt).found before fed messages short counts stands in
+      let f = (block_goes c.args.self.now c.saturating_add-self.result c.level.ensures block p.ensures.leaves p.ensures.ended c.saturating_add-self.ensures None c.in-None.is tt).found before fed messages short counts stands in
       let none = (rw (c.in-None.is) at p.ensures.leaves.ends).none in (
         f.ended,
         f.counts,
@@ -62,10 +62,10 @@ returns-then-self-rest-clause-reads g c =
           let p = c.read_if_any-progress in
           let u = p.new.traversal in
           let size = ap (λ (xs : List ℕ). length xs) (take_rest c.args.bytes.now (c.in-Ok.opened.1 + p.result.at)) in
-          let f = block_cuts old c.counted-self.result c.level.ensures (opened g (goal.at.returns-then-self-rest-clause-reads g c).After-within-room) p.ensures.leaves p.ensures.ended c.counted-self.ensures
+          let f = block_cuts old c.saturating_add-self.result c.level.ensures (opened g (goal.at.returns-then-self-rest-clause-reads g c).After-within-room) p.ensures.leaves p.ensures.ended c.saturating_add-self.ensures
           c.in-Some.halt c.keep.new.self.receiver old.framing c.requires.framing c.in-Some.is c.in-Truncated.is (omega (arith, size, c.if-self-rest.true)) k.keeps.left before fed messages short counts stands in
           let all = messages ++ f.ended in
-          let refused = fault_refused c.keep.result (framed_as old.framing u) (templates_in u.set.now) _ fed all old.fed c.counted-self.result p.ensures.leaves.sound.typed f.counts (omega (arith, short)) f.leaves.0 f.leaves.1 (λ e. absurd cc) (rw size at k.fault) in
+          let refused = fault_refused c.keep.result (framed_as old.framing u) (templates_in u.set.now) _ fed all old.fed c.saturating_add-self.result p.ensures.leaves.sound.typed f.counts (omega (arith, short)) f.leaves.0 f.leaves.1 (λ e. absurd cc) (rw size at k.fault) in
           (f.ended, follows_kept k.keeps (before ++ f.ended) fed all f.counts refused f.leaves.2),
     )
 

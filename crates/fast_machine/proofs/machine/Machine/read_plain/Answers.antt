@@ -11,15 +11,15 @@ use Rattle.fast_machine.proofs.machine.Machine.read_plain.Goals as goal
 use Rattle.fast_machine.proofs.machine.Machine.read_plain.Goals.{In-Some}
 
 -- what the read found where it stopped
-halted : (g : given.Over) (c : In-Some g) → Finds Plain c.args.self.now c.args.bytes.now c.read_message-progress.result.messages c.counted-self.result (Some c.in-Some.halt) c.args.self.now.left
+halted : (g : given.Over) (c : In-Some g) → Finds Plain c.args.self.now c.args.bytes.now c.read_message-progress.result.messages c.saturating_add-self.result (Some c.in-Some.halt) c.args.self.now.left
     c.read_message-progress.new.traversal c.read_message-progress.new.receiver (g.E.Entries.contents c.read_message-progress.new.entries) (drop c.read_message-progress.result.at c.args.bytes.now)
-halted g c = let p = c.read_message-progress in plain_goes c.args.self.now c.counted-self.result p.ensures.leaves p.ensures.ended c.counted-self.ensures (Some c.in-Some.halt) c.in-Some.is
+halted g c = let p = c.read_message-progress in plain_goes c.args.self.now c.saturating_add-self.result p.ensures.leaves p.ensures.ended c.saturating_add-self.ensures (Some c.in-Some.halt) c.in-Some.is
 
 pub returns-in-None-clause-reads : goal.returns-in-None-clause-reads
 returns-in-None-clause-reads g c = (
   λ before fed messages short counts stands.
       let p = c.read_message-progress in
-      let f = (plain_goes c.args.self.now c.counted-self.result p.ensures.leaves p.ensures.ended c.counted-self.ensures None c.in-None.is).found before fed messages short counts stands in
+      let f = (plain_goes c.args.self.now c.saturating_add-self.result p.ensures.leaves p.ensures.ended c.saturating_add-self.ensures None c.in-None.is).found before fed messages short counts stands in
       let none = (rw (c.in-None.is) at p.ensures.leaves.ends).none in
       (f.ended, f.counts, (λ h. let zero = ap (λ (xs : List Content). length xs) h in let count = f.number_is in let empty = none (omega (arith, zero, count)) in empty.0 ∙ sym empty.1), f.leaves),
   tt,
