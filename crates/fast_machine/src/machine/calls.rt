@@ -515,27 +515,6 @@ impl<'a, R: Receiver, E: Entries> Machine<'a, R, E> {
         }
     }
 
-    // Where a message has ended, the bytes behind it are not fed yet.
-    #[inline(always)]
-    fn end_behind(&mut self, left: usize)
-        requires fault { self.now.fault ≡ None }
-        requires held { self.now.held.items ≡ [] }
-        requires between { self.now.traversal.stage ≡ stage.Map }
-        requires few { left ≤ self.now.fed }
-        ensures follows { (before : List Content) (fed rest : List ℕ) (messages : List Content)
-            → length rest ≡ left
-            → Counts self.old.fed self.old.messages (fed ++ rest) messages
-            → StandsAt self.old.framing self.old before rest (fed ++ rest) messages → Follows self.new before fed messages }
-        ensures fault { self.new.fault ≡ None }
-        ensures traversal { self.new.traversal ≡ self.old.traversal }
-        ensures entries { self.new.entries ≡ self.old.entries }
-        ensures framing { self.new.framing ≡ self.old.framing }
-        ensures fed { self.new.fed ≡ self.old.fed - left }
-    {
-        self.fed -= left as u64;
-        self.waiting = 0;
-    }
-
     // Reads on in these bytes, behind those that are held, to the end of the next message at most, and answers the place
     // behind it, from the first of those held on; none where they are all read or held.
     #[inline(always)]
@@ -585,7 +564,9 @@ impl<'a, R: Receiver, E: Entries> Machine<'a, R, E> {
             Some(next) => {
                 // (a message ends behind the bytes that were held, since no piece was whole in these)
                 let taken = next.saturating_sub(held).max(1).min(chunk.len());
-                self.end_behind(chunk.len() - taken);
+                // (the bytes behind it are not fed yet)
+                self.fed -= (chunk.len() - taken) as u64;
+                self.waiting = 0;
                 Ok(taken)
             }
         }

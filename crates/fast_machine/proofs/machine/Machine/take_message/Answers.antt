@@ -5,9 +5,10 @@ use Rattle.fast_wire.proofs.Calls.{all_bytes}
 use Rattle.fast_wire.specs.declared.level.Level.{Level}
 use Rattle.fast_stream.specs.declared.mode.Framing.{Framing}
 use Rattle.fast_stream.specs.declared.mode.Mode.{Mode}
-use Rattle.fast_machine.specs.Standing.{ReadsOn}
+use Rattle.fast_machine.specs.Standing.{ReadsOn, Stands}
 use Rattle.fast_machine.proofs.Calls.{chunk_fed}
-use Rattle.fast_machine.proofs.MessageEnds.{behind_held, drop_behind}
+use Rattle.fast_machine.proofs.Followings.{waits_behind}
+use Rattle.fast_machine.proofs.MessageEnds.{behind_held, drop_behind, ends_here}
 use Rattle.fast_machine.proofs.machine.Machine.take_message.Goals as goal
 
 abbrev framed_by : Level → Framing → Mode
@@ -53,8 +54,15 @@ returns-in-Some-clause-follows g c = λ none before fed messages follows.
     let rest : drop next (held ++ chunk) ≡ drop taken chunk = drop_behind held chunk next (omega (arith, beyond)) ∙ ap (λ (n : ℕ). drop n chunk) (sym exact) in
     let parts : fed ++ chunk ≡ (fed ++ take taken chunk) ++ drop taken chunk = ap (λ (xs : List ℕ). fed ++ xs) (sym (take-append-drop taken chunk)) ∙ sym (append_assoc fed (take taken chunk) (drop taken chunk)) in
     let ended = messages ++ r.0 in
-    let left = length-drop taken chunk in (
+    let left = length-drop taken chunk in
+    let size = ap (λ (xs : List ℕ). length xs) parts ∙ length-append (fed ++ take taken chunk) (drop taken chunk) in
+    let fed_is = r.1.fed_is in
+    let none : new.traversal.template ≡ 0 = rw (place.between) at (new.ready place.fault) in
+    let stands : Stands new.framing new.left H new.traversal (drop taken chunk) ((fed ++ take taken chunk) ++ drop taken chunk) ended = rw (← parts, ← rest, ap (λ (m : Mode). m.framing) o.ensures.same.mode) r.3 in
+    let here = ends_here R.has R.stands R.keeps new.traversal new.receiver (g.E.Entries.contents new.entries) (before ++ r.0) place.between new.framing new.left (drop taken chunk) (fed ++ take taken chunk) ended stands in (
       r.0,
-      c.end_behind.ensures.follows (before ++ r.0) (fed ++ take taken chunk) (drop taken chunk) ended left
-          (rw (← parts) r.1) (rw (← parts, ← rest, ap (λ (m : Mode). m.framing) o.ensures.same.mode) r.3),
+      record {
+        at = rw (place.fault, place.held) (here, waits_behind new.framing new.left H new.traversal (fed ++ take taken chunk) ended place.between none here);
+        counts = record { fed_is = omega (arith, size, left, fed_is); count_is = r.1.count_is };
+      },
     )
