@@ -430,26 +430,6 @@ impl<'a, R: Receiver, E: Entries> Machine<'a, R, E> {
         }
     }
 
-    // Stops at the size of a block, with which the bytes begin: holds it where it is not whole, or keeps its fault.
-    fn stop_at_size(&mut self, cause: Cause, bytes: &[u8]) -> Result<Option<usize>, Fault>
-        requires nothing { HoldsNothing self.now }
-        requires framing { self.now.framing ≡ Framing.Blocks }
-        requires few { cause ≡ Cause.Truncated → length bytes.now ≤ 9 }
-        requires outside { self.now.left ≡ 0 }
-        requires some { (0 < length bytes.now) ⊎ (begun_of self.now.traversal ≡ 1) }
-        requires stops { size_at self.now.traversal.level bytes.now ≡ Err cause }
-        ensures reads { ReadsNext Framing.Blocks self.old bytes.now result self.new }
-        ensures answer { AnswersNone result self.new.fault }
-        ensures same { IsSameStream self.old self.new }
-        ensures fed { self.new.fed ≡ self.old.fed }
-    {
-        self.traversal.set_is_sound();
-        match cause {
-            Cause::Truncated => self.hold(0, bytes),
-            _ => Err(self.keep(cause, 0, bytes.len())),
-        }
-    }
-
     // Reads on in the block that the bytes go on with, or begin with, to the end of its next message at most, and answers
     // the place behind it; none where they are all read or held.
     fn read_block(&mut self, bytes: &[u8]) -> Result<Option<usize>, Fault>
@@ -463,7 +443,14 @@ impl<'a, R: Receiver, E: Entries> Machine<'a, R, E> {
     {
         let (left, at) = match open_block(self.traversal.level(), self.left, bytes) {
             Ok(opened) => opened,
-            Err(cause) => return self.stop_at_size(cause, bytes),
+            // the size stops: it is held where it is not whole, or its fault is kept
+            Err(cause) => {
+                self.traversal.set_is_sound();
+                return match cause {
+                    Cause::Truncated => self.hold(0, bytes),
+                    _ => Err(self.keep(cause, 0, bytes.len())),
+                };
+            }
         };
         let room = within(left, bytes.len() - at);
         let progress = read_if_any(
