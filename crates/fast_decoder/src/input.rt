@@ -115,7 +115,7 @@ impl<'a, R: ByteInput, E: Entries> MessageInputStream<'a, R, E> {
                 self.waiting.reverse();
                 match fed {
                     Ok(()) => {}
-                    Err(fault) => self.reached = Reached::Fault(fault),
+                    Err(first) => self.reached = Reached::Fault(first),
                 }
             }
             Err(Failed) => self.reached = Reached::Fault(self.decoder.machine.cut(Cause::Read)),

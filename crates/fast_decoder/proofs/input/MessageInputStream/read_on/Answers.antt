@@ -72,7 +72,7 @@ returns-in-Err-fed-clause-reads g c =
           let at = rw (c.requires.reached, c.requires.none, append-nil answered) at stands in
           let e = c.in-Err-fed.ensures.follows at.0.goes_on bytes answered at.0.follows in
           let same = pushed_waits c.args.self.now.waiting.items c.feed-fed.new.out.items c.reverse.new.self.items e.0 c.requires.none c.reverse.ensures.items e.1 in
-          let f = c.in-Err-fed.fault in
+          let f = c.in-Err-fed.first in
           let more = c.in-Err-fed.ensures.cause at.0.goes_on in
           let refused = (rw (c.in-Err-fed.ensures.answer) at e.2.at).0 in
           rw (c.requires.reached, same) (
