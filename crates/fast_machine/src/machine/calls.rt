@@ -343,7 +343,7 @@ impl<'a, R: Receiver, E: Entries> Machine<'a, R, E> {
         if !fits {
             return None;
         }
-        // (which do not end its first entity)
+        // (where these bytes do not end its first entity)
         if !has_stop(chunk) {
             return match self.traversal.opening() {
                 Some(lack) if count <= lack.most => Some(Lack {
