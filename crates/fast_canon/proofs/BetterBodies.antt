@@ -1,5 +1,5 @@
 -- What a stream carries has canonical bytes, which are no longer.
-use Rattle.std.proofs.Common.{◌≡◌, ℕ, Bool, true, false, List, [], ◌∷◌, length, Option, Some, None, refl, sym, ap, subst, ◌∙◌, arith}
+use Rattle.std.proofs.Common.{◌≡◌, ℕ, Bool, true, false, List, [], ◌∷◌, length, Option, Some, None, refl, sym, ap, subst}
 use Rattle.std.specs.List.{AllByRecursion}
 use Rattle.fast_wire.specs.declared.level.Level.TheVariants.{Usual}
 use Rattle.fast_value.specs.declared.kind.Presence.{Presence}
@@ -17,12 +17,10 @@ use Rattle.fast_stream.specs.Nodes.{Item, single, group_items, sequence_elements
 use Rattle.fast_stream.specs.Streams.{members_of, identifier, MapAt, BodyOfBy, MessageForm, CarriesFrom}
 use Rattle.fast_stream.proofs.FoundMembers.{members_have}
 use Rattle.fast_writer.specs.Canonical.{IsShortestMap, CanonMessage, CanonFrom}
-use Rattle.fast_canon.proofs.AskedBits.{behind}
 use Rattle.fast_walk.specs.Told.{HoldScalars}
 use Rattle.fast_walk.proofs.Telling.{identifier_is}
-use Rattle.fast_canon.proofs.PartBits.{one_asked, asked_is, asked_left, asked_below}
 use Rattle.fast_canon.proofs.Stages.{with_bits}
-use Rattle.fast_canon.proofs.BetterParts.{IsBetter, IsBetterWhole, better_then, whole_then, whole_none, better_part, better_with_map, better_segment, better_each}
+use Rattle.fast_canon.proofs.BetterParts.{IsBetter, IsBetterWhole, better_as, better_under, better_then, whole_then, whole_none, better_part, better_with_map, better_segment, better_each}
 
 -- ---- groups
 
@@ -34,48 +32,16 @@ group_bit Optional bit bits h none = absurd cc
 better_left_out : (p : Presence) (s t : State) (b : List ℕ) → HoldScalars s.dictionary → bit_for (is_optional p) s.bits ≡ false → t ≡ record s { bits = after_bit (is_optional p) s.bits }
     → IsBetter (λ s b t. (bit_for (is_optional p) s.bits ≡ false) × (b ≡ []) × (t ≡ record s { bits = after_bit (is_optional p) s.bits })) s b t
 better_left_out p s t b holds unset left =
-    let takes = is_optional p in
-    let after : t.dictionary ≡ s.dictionary = ap (λ t. t.dictionary) left in record {
-      asked = one_asked takes false;
-      bytes = [];
-      stands = λ bits begins. (
-        sym (asked_is takes false bits (group_bit p false s.bits unset) begins),
-        refl,
-        ap (λ d. with_bits d (behind (one_asked takes false) bits)) after ∙ ap (with_bits s.dictionary) (asked_left takes false bits),
-      );
-      below = asked_below takes false s.bits (λ h. refl);
-      left = ap (λ t. t.bits) left ∙ sym (asked_left takes false s.bits);
-      no_longer = omega arith;
-      holds = subst HoldScalars (sym after) holds;
-    }
-
-better_group : (p : Presence) (Best : Dictionary → List ℕ → Dictionary → Type 0) (s t : State) (b : List ℕ) → bit_for (is_optional p) s.bits ≡ true → t.bits ≡ after_bit (is_optional p) s.bits
-    → IsBetterWhole (λ x. Best s.dictionary x t.dictionary) b t.dictionary
-    → IsBetter (λ s b t. (bit_for (is_optional p) s.bits ≡ true) × (t.bits ≡ after_bit (is_optional p) s.bits) × Best s.dictionary b t.dictionary) s b t
-better_group p Best s t b set left h =
-    let takes = is_optional p in record {
-      asked = one_asked takes true;
-      bytes = h.bytes;
-      stands = λ bits begins. (sym (asked_is takes true bits (λ none. refl) begins), asked_left takes true bits, h.stands);
-      below = asked_below takes true s.bits (λ unset. absurd (let both : true ≡ false = sym set ∙ unset in cc));
-      left = left ∙ sym (asked_left takes true s.bits);
-      no_longer = h.no_longer;
-      holds = h.holds;
-    }
+    let after : t.dictionary ≡ s.dictionary = ap (λ t. t.dictionary) left in
+    better_as (λ s x t h. (h.0, h.2.0, λ i. record { dictionary = h.2.1 i; bits = h.1 i }))
+    (better_under (is_optional p) false (λ d x e. (x ≡ []) × (e ≡ d)) s t b unset (group_bit p false s.bits unset) (ap (λ t. t.bits) left)
+    (whole_none (λ x. (x ≡ []) × (t.dictionary ≡ s.dictionary)) b t.dictionary (refl, after) (subst HoldScalars (sym after) holds)))
 
 -- ---- elements, behind their length
 
 better_elements : (Best : Dictionary → List ℕ → Dictionary → Type 0) (s t : State) (b : List ℕ) → t.bits ≡ s.bits → IsBetterWhole (λ x. Best s.dictionary x t.dictionary) b t.dictionary
     → IsBetter (λ s b t. (t.bits ≡ s.bits) × Best s.dictionary b t.dictionary) s b t
-better_elements Best s t b left h = record {
-  asked = [];
-  bytes = h.bytes;
-  stands = λ bits begins. (refl, h.stands);
-  below = tt;
-  left = left;
-  no_longer = h.no_longer;
-  holds = h.holds;
-}
+better_elements Best s t b left h = better_as (λ s x t h. (h.1, h.2)) (better_under false true Best s t b refl (λ none. refl) left h)
 
 -- ---- instructions
 
@@ -90,7 +56,7 @@ mutual
       first (better_part mantissa (Some (I64 m)) h.between h.back t is.1 first.holds h.second)
   better_piece (group_of name number presence members) is (single None) s b t holds h = better_left_out presence s t b holds h.0 h.2
   better_piece (group_of name number presence members) is (group_items ns) s b t holds h =
-      better_group presence (λ d x e. SegmentBy IsShortestMap (has_map members) (λ u z v. BodyBy IsBest IsShortestMap members u z ns v) d x e) s t b h.0 h.1
+      better_under (is_optional presence) true (λ d x e. SegmentBy IsShortestMap (has_map members) (λ u z v. BodyBy IsBest IsShortestMap members u z ns v) d x e) s t b h.0 (λ none. refl) h.1
       (better_segment (has_map members) (λ u z v. BodyBy (Form Usual) (MapAt Usual) members u z ns v) (λ u z v. BodyBy IsBest IsShortestMap members u z ns v) s.dictionary b t.dictionary
       (λ bits left z o. better_body members is ns (with_bits s.dictionary bits) z (with_bits t.dictionary left) holds o) h.2)
   better_piece (sequence_of name number presence length members) is (single None) s b t holds h = better_part length None s b t is.0 holds h
@@ -110,15 +76,9 @@ mutual
   better_body : (members : Instructions) → EachPartIn IsFieldPart members → (ns : Items) (s : State) (b : List ℕ) (t : State) → HoldScalars s.dictionary → BodyBy (Form Usual) (MapAt Usual) members s b ns t
       → IsBetter (λ s b t. BodyBy IsBest IsShortestMap members s b ns t) s b t
   better_body no_instructions is no_items s b t holds h =
-      let after : t.dictionary ≡ s.dictionary = ap (λ t. t.dictionary) h.1 in record {
-        asked = [];
-        bytes = [];
-        stands = λ bits begins. (refl, ap (λ d. with_bits d bits) after);
-        below = tt;
-        left = ap (λ t. t.bits) h.1;
-        no_longer = omega arith;
-        holds = subst HoldScalars (sym after) holds;
-      }
+      let after : t.dictionary ≡ s.dictionary = ap (λ t. t.dictionary) h.1 in
+      better_as (λ s x t h. (h.1.0, λ i. record { dictionary = h.1.1 i; bits = h.0 i }))
+      (better_elements (λ d x e. (x ≡ []) × (e ≡ d)) s t b (ap (λ t. t.bits) h.1) (whole_none (λ x. (x ≡ []) × (t.dictionary ≡ s.dictionary)) b t.dictionary (refl, after) (subst HoldScalars (sym after) holds)))
   better_body (then_instruction i is) are (then_item n ns) s b t holds h =
       let first = better_piece i are.0 n s h.front h.between holds h.first in
       better_then (λ s x u. PieceBy IsBest IsShortestMap i s x n u) (λ u y t. BodyBy IsBest IsShortestMap is u y ns t) s h.between t b h.front h.back h.parts

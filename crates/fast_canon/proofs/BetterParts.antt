@@ -10,7 +10,7 @@ use Rattle.fast_field.specs.Fields.{Form}
 use Rattle.fast_field.specs.Best.{IsBest}
 use Rattle.fast_field.specs.Parts.{IsFieldPart}
 use Rattle.fast_field.proofs.BestValues.{form_has_best, none_shorter}
-use Rattle.fast_stream.specs.Bits.{bit_for}
+use Rattle.fast_stream.specs.Bits.{after_bit, bit_for}
 use Rattle.fast_stream.specs.Bodies.{State, Then, Each, WithMap, SegmentBy, PartBy, written}
 use Rattle.fast_stream.specs.Nodes.{Items, Elements, no_elements, then_element}
 use Rattle.fast_stream.specs.Streams.{MapAt}
@@ -98,6 +98,31 @@ better_part p v s b t is holds h =
       no_longer = least.1;
       holds = subst HoldScalars (sym after) (form_holds p s.dictionary (bit_for needs s.bits) b v is holds h.0);
     }
+
+-- what is to stand is said in other words
+pub better_as : {A B : Stage} {s t : State} {b : List ℕ} → ((s : State) (x : List ℕ) (t : State) → A s x t → B s x t) → IsBetter A s b t → IsBetter B s b t
+better_as {s = s} {t = t} same h = record {
+  asked = h.asked;
+  bytes = h.bytes;
+  stands = λ bits begins. same (with_bits s.dictionary bits) h.bytes (with_bits t.dictionary (behind h.asked bits)) (h.stands bits begins);
+  below = h.below;
+  left = h.left;
+  no_longer = h.no_longer;
+  holds = h.holds;
+}
+
+-- what takes one bit of the map around it, or none
+pub better_under : (takes bit : Bool) (Best : Dictionary → List ℕ → Dictionary → Type 0) (s t : State) (b : List ℕ) → bit_for takes s.bits ≡ bit → (takes ≡ false → bit ≡ true) → t.bits ≡ after_bit takes s.bits → IsBetterWhole (λ x. Best s.dictionary x t.dictionary) b t.dictionary
+    → IsBetter (λ s b t. (bit_for takes s.bits ≡ bit) × (t.bits ≡ after_bit takes s.bits) × Best s.dictionary b t.dictionary) s b t
+better_under takes bit Best s t b is own left h = record {
+  asked = one_asked takes bit;
+  bytes = h.bytes;
+  stands = λ bits begins. (sym (asked_is takes bit bits own begins), asked_left takes bit bits, h.stands);
+  below = asked_below takes bit s.bits (λ unset. sym is ∙ unset);
+  left = left ∙ sym (asked_left takes bit s.bits);
+  no_longer = h.no_longer;
+  holds = h.holds;
+}
 
 -- ---- a segment
 

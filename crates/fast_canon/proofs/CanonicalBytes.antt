@@ -27,11 +27,6 @@ no_longer mode set sound input bytes messages c canonical =
     let size = ap (λ (xs : List ℕ). length xs) c.parts ∙ length-append c.front c.rest in
     omega (arith, less, few, size)
 
-pub as_canonical : (mode : Mode) (set : List Resolved) (turns : ℕ) (left a b : Option (List ℕ)) (input : List ℕ) (f : CanonFault) → Passes IsCanonical mode set turns left a b input (Err f) → Canonicalises mode set turns left a b input (Err f)
-as_canonical mode set turns left a b input (refusal.Stream f) p = p
-as_canonical mode set turns left a b input refusal.Write p = p
-as_canonical mode set turns left a b input refusal.Memory p = p
-
 -- What a run answers of canonical bytes: they are counted exactly, being no more than the bytes read.
 pub canonicalised : (mode : Mode) (set : TemplateList) (turns : ℕ) (left a b : Option (List ℕ)) (input : List ℕ) (r : Result Summary CanonFault) → OnOk r (IsSound set) → ((n : ℕ) → n ≤ length input → counted_by 0 n ≡ n)
     → Passes IsCanonical mode (templates_in set) turns left a b input r → Canonicalises mode (templates_in set) turns left a b input r
@@ -46,7 +41,9 @@ canonicalised mode set turns left a b input (Ok summary) sound exact p =
       counts = p.counts ∙ ap (λ (n : ℕ). summary_by (length p.messages) (length input) n) (exact (length p.out) less);
       no_longer = less;
     }
-canonicalised mode set turns left a b input (Err f) sound exact p = as_canonical mode (templates_in set) turns left a b input f p
+canonicalised mode set turns left a b input (Err (refusal.Stream f)) sound exact p = p
+canonicalised mode set turns left a b input (Err refusal.Write) sound exact p = p
+canonicalised mode set turns left a b input (Err refusal.Memory) sound exact p = p
 
 -- Where nothing is written no write fails.
 pub checked : (mode : Mode) (set : List Resolved) (turns : ℕ) (left : Option (List ℕ)) (input : List ℕ) (r : Result Summary CanonFault) → 0 ≡ errors_after r 0

@@ -15,31 +15,24 @@ use Rattle.fast_canon.proofs.AskedBits.{Begins, behind, AreBelow, begins_at, non
 
 -- ---- how many bits there are up to the last 1
 
-used_of : (bits : List Bool) (n : ℕ) → (0 < n → bit_at bits (n - 1) ≡ true) → ((i : ℕ) → n ≤ i → bit_at bits i ≡ false) → IsUsed bits n
-used_of bits n last rest = record { last = last; rest = rest }
+past : (x : Bool) (bits : List Bool) (n : ℕ) → ((i : ℕ) → n ≤ i → bit_at bits i ≡ false) → (i : ℕ) → suc n ≤ i → bit_at (x ∷ bits) i ≡ false
+past x bits n rest zero le = absurd (omega arith)
+past x bits n rest (suc i) le = rest i (omega arith)
 
 used_more : (x : Bool) (bits : List Bool) (n : ℕ) → IsUsed bits n → (m : ℕ) × IsUsed (x ∷ bits) m
-used_more x bits (suc n) h = (suc (suc n), used_of (x ∷ bits) (suc (suc n)) (λ some. let e : suc (suc n) - 1 ≡ suc n = omega arith in let f : suc n - 1 ≡ n = omega arith in rw e (subst_last bits n f (h.last (omega arith)))) past)
+used_more x bits (suc n) h =
+    let e : suc (suc n) - 1 ≡ suc n = omega arith in
+    let f : suc n - 1 ≡ n = omega arith in
+    (suc (suc n), record { last = λ some. rw e (rw f at (h.last (omega arith))); rest = past x bits (suc n) h.rest })
+used_more true bits zero h = (1, record { last = λ some. refl; rest = past true bits 0 h.rest })
+used_more false bits zero h = (0, record { last = λ some. absurd (omega arith); rest = none })
   where
-    subst_last : (bits : List Bool) (n : ℕ) → suc n - 1 ≡ n → bit_at bits (suc n - 1) ≡ true → bit_at bits n ≡ true
-    subst_last bits n e set = sym (ap (bit_at bits) e) ∙ set
-
-    past : (i : ℕ) → suc (suc n) ≤ i → bit_at (x ∷ bits) i ≡ false
-    past zero le = absurd (omega arith)
-    past (suc i) le = h.rest i (omega arith)
-used_more true bits zero h = (1, used_of (true ∷ bits) 1 (λ some. refl) past)
-  where
-    past : (i : ℕ) → 1 ≤ i → bit_at (true ∷ bits) i ≡ false
-    past zero le = absurd (omega arith)
-    past (suc i) le = h.rest i (omega arith)
-used_more false bits zero h = (0, used_of (false ∷ bits) 0 (λ some. absurd (omega arith)) past)
-  where
-    past : (i : ℕ) → 0 ≤ i → bit_at (false ∷ bits) i ≡ false
-    past zero le = refl
-    past (suc i) le = h.rest i (omega arith)
+    none : (i : ℕ) → 0 ≤ i → bit_at (false ∷ bits) i ≡ false
+    none zero le = refl
+    none (suc i) le = h.rest i (omega arith)
 
 used_in : (bits : List Bool) → (n : ℕ) × IsUsed bits n
-used_in [] = (0, used_of [] 0 (λ some. absurd (omega arith)) (λ i le. refl))
+used_in [] = (0, record { last = λ some. absurd (omega arith); rest = λ i le. refl })
 used_in (x ∷ bits) = let u = used_in bits in used_more x bits u.0 u.1
 
 -- ---- a map of the bits asked for
@@ -99,9 +92,6 @@ map_of_asked asked bytes h =
       };
     }
 
-same_order : (x y : ℕ) → x ≤ y → y ≤ x → x ≡ y
-same_order x y p q = omega arith
-
 -- the bits asked for have one such map
 pub one_shortest : (asked p q : List Bool) (b c : List ℕ) → Begins asked p → Begins asked q → IsShortestMap p (behind asked p) b → IsShortestMap q (behind asked q) c → b ≡ c
 one_shortest asked p q b c front other h k =
@@ -110,4 +100,5 @@ one_shortest asked p q b c front other h k =
     let q_is : (i : ℕ) → bit_at (bits_of (groups c)) i ≡ bit_at q i = λ i. ap (λ (l : List Bool). bit_at l i) (sym k.form.value) in
     let b_long = h.least c (record { entity = k.form.entity; short = k.form.short; value = λ i. q_is i ∙ sym (same i) }) in
     let c_long = k.least b (record { entity = h.form.entity; short = h.form.short; value = λ i. p_is i ∙ same i }) in
-    one_map b c h.form.entity k.form.entity (same_order (length b) (length c) b_long c_long) (λ i. p_is i ∙ same i ∙ sym (q_is i))
+    let as_long : length b ≡ length c = omega (arith, b_long, c_long) in
+    one_map b c h.form.entity k.form.entity as_long (λ i. p_is i ∙ same i ∙ sym (q_is i))

@@ -21,27 +21,16 @@ use Rattle.fast_walk.proofs.Telling.{empty_holds}
 use Rattle.fast_canon.proofs.OneCanonical.{one_canonical}
 
 module _ (set : TemplateList) (sound : IsSound set) where
-  -- canonical bytes that are no longer than a stream
-  pub record IsCanonicalOf (stream : List ℕ) (messages : List Content) : Type 0 where
-    pub bytes : List ℕ
-    pub canonical : IsCanonical (templates_in set) messages bytes
-    pub no_longer : length bytes ≤ length stream
-
-  canonical_of : (mode : Mode) (stream : List ℕ) (messages : List Content) → Carries mode (templates_in set) stream messages → IsCanonicalOf stream messages
-  canonical_of mode stream messages h =
-      let usual = as_messages mode (templates_in set) stream messages h in
-      let better = better_stream (templates_in set) (parts_of_sets set sound) messages map.empty usual.0 usual.1.0 empty_holds usual.1.1 in
-      let less = better.no_longer in
-      let few = usual.2 in
-      record { bytes = better.bytes; canonical = (usual.1.0, better.stands); no_longer = omega (arith, less, few) }
-
   -- canonical bytes carry their messages in plain framing, at each level
   pub canonical_in_mode : (level : Level) (messages : List Content) (bytes : List ℕ) → IsCanonical (templates_in set) messages bytes → Carries (plainly level) (templates_in set) bytes messages
   canonical_in_mode level messages bytes h = in_mode level (templates_in set) bytes messages (canonical_carries level (templates_in set) messages bytes h)
 
   pub canonical_exists : (mode : Mode) (level : Level) (stream : List ℕ) (messages : List Content) → Carries mode (templates_in set) stream messages → (bytes : List ℕ) × IsCanonical (templates_in set) messages bytes × Carries (plainly level) (templates_in set) bytes messages
   canonical_exists mode level stream messages h =
-      let c = canonical_of mode stream messages h in (c.bytes, c.canonical, canonical_in_mode level messages c.bytes c.canonical)
+      let usual = as_messages mode (templates_in set) stream messages h in
+      let better = better_stream (templates_in set) (parts_of_sets set sound) messages map.empty usual.0 usual.1.0 empty_holds usual.1.1 in
+      let canonical : IsCanonical (templates_in set) messages better.bytes = (usual.1.0, better.stands) in
+      (better.bytes, canonical, canonical_in_mode level messages better.bytes canonical)
 
   one_of_messages : (messages : List Content) (b c : List ℕ) → IsCanonical (templates_in set) messages b → IsCanonical (templates_in set) messages c → b ≡ c
   one_of_messages messages b c h k = (one_canonical (templates_in set) messages map.empty map.empty h.0 k.0 b c refl h.1 k.1).0

@@ -34,13 +34,13 @@ pub follows_rebased : (fault : Option Fault) (framing : Framing) (left : ℕ) (t
     → FollowsAt BuilderHas BuilderStands BuilderStands fault framing left t (with_whole b v) d held waiting (map content_of whole) bytes messages
 follows_rebased fault framing left t b v d held waiting before bytes messages whole is f =
     subst (λ (xs : List Message). FollowsAt BuilderHas BuilderStands BuilderStands fault framing left t (with_whole b v) d held waiting (map content_of xs) bytes messages) is
-    (follows_behind BuilderHas BuilderStands BuilderStands fault framing left t b (with_whole b v) d held waiting before (map content_of v.items) bytes messages (λ o same h. built_behind b v o h) (λ set e h. refl) (λ set e h. refl) f)
+    (follows_behind BuilderHas BuilderStands BuilderStands t b d before (with_whole b v) (map content_of v.items) (λ o same h. built_behind b v o h) (λ set e h. refl) (λ set e h. refl) fault framing left held waiting bytes messages f)
 
 -- the messages before are those that are finished
 pub whole_of_follows : (fault : Option Fault) (framing : Framing) (left : ℕ) (t : Traversal) (b : Builder) (d : Dictionary) (held : List ℕ) (waiting : ℕ) (before : List Content) (bytes : List ℕ) (messages : List Content)
     → FollowsAt BuilderHas BuilderStands BuilderStands fault framing left t b d held waiting before bytes messages → before ≡ map content_of b.whole.items
 whole_of_follows fault framing left t b d held waiting before bytes messages f =
-    elim (has_kept BuilderHas BuilderStands BuilderStands fault framing left t b d held waiting before bytes messages f).1 [ inl is ↦ is | inr is ↦ is ]
+    elim (has_kept BuilderHas BuilderStands BuilderStands t b d before fault framing left held waiting bytes messages f).1 [ inl is ↦ is | inr is ↦ is ]
 
 -- no message is finished
 pub none_mapped : (xs : List Message) → [] ≡ map content_of xs → xs ≡ []

@@ -16,41 +16,26 @@ use Rattle.fast_stream.specs.declared.message.Message.{Message}
 use Rattle.fast_template.specs.TemplateSets.{templates_in}
 use Rattle.fast_dictionary.specs.declared.entries.Entries.{Ghosts}
 use Rattle.fast_stream.specs.Nodes.{Content, content_of}
-use Rattle.fast_machine.specs.Following.{Follows as HasFed, IsCutAt, mode_of}
+use Rattle.fast_machine.specs.Following.{IsCutAt, Refused, mode_of}
 use Rattle.fast_stream.specs.Blocks.{Stand, at_start}
 use Rattle.fast_stream.specs.Modes.{CarriesFrom, FirstFault}
-use Rattle.fast_machine.specs.Standing.{Carried, ReadsOn}
-use Rattle.fast_decoder.proofs.Builders.{BuilderHas, BuilderStands}
+use Rattle.fast_machine.specs.Standing.{Carried}
 use Rattle.fast_decoder.specs.Inputs.{Causes, Follows, HasReached, IsCaused, IsFaultOf, OnFault, Reader, Reads, RefusedBy, Refuses, Repeats, Stands, waiting_in}
-use Rattle.fast_machine.proofs.Standings.{carried_of}
+use Rattle.fast_machine.proofs.Runs.{carried_of}
 use Rattle.fast_machine.proofs.Followings.{all_carried}
 use Rattle.fast_stream.proofs.Causes.{IsOfBytes, of_mode}
 
-by_bytes : (c : Cause) (mode : Mode) (set : List Resolved) (turns : ℕ) (left : Option (List ℕ)) (bytes : List ℕ) (place : Place) → c ≢ cause.Truncated → (c ≢ cause.Memory → FirstFault mode set bytes place c)
+by_bytes : (c : Cause) (mode : Mode) (set : List Resolved) (turns : ℕ) (left : Option (List ℕ)) (bytes : List ℕ) (place : Place) → (c ≡ cause.Truncated → IsAtEnd left) → (c ≢ cause.Memory → FirstFault mode set bytes place c)
     → (c ≡ cause.Memory → (place.offset ≡ 0) × (place.template ≡ 0) × (place.instruction ≡ 0)) → RefusedBy c mode set turns left bytes place
-by_bytes cause.Truncated mode set turns left bytes place more first memory = absurd (more refl)
+by_bytes cause.Truncated mode set turns left bytes place more first memory = (first (λ e. absurd cc), more refl)
 by_bytes cause.Read mode set turns left bytes place more first memory = absurd (of_mode mode set bytes place cause.Read (first (λ e. absurd cc)))
 by_bytes cause.Turns mode set turns left bytes place more first memory = absurd (of_mode mode set bytes place cause.Turns (first (λ e. absurd cc)))
 by_bytes cause.Memory mode set turns left bytes place more first memory = memory refl
 by_bytes c mode set turns left bytes place more first memory = first (λ e. absurd cc)
 
--- a fault of the bytes, or want of memory
-pub refused_by_bytes : (f : Fault) (mode : Mode) (set : List Resolved) (turns : ℕ) (left : Option (List ℕ)) (bytes : List ℕ) (messages : List Content) → f.cause ≢ cause.Truncated → Carried mode set bytes messages
-    → f.place.message ≡ length messages + 1 → (f.cause ≢ cause.Memory → FirstFault mode set bytes f.place f.cause)
-    → (f.cause ≡ cause.Memory → (f.place.offset ≡ 0) × (f.place.template ≡ 0) × (f.place.instruction ≡ 0)) → Refuses mode set turns left bytes messages f
-refused_by_bytes f mode set turns left bytes messages more carried behind first memory =
-    record { carried = carried; behind = behind; refused = by_bytes f.cause mode set turns left bytes f.place more first memory }
-
-by_end : (c : Cause) (mode : Mode) (set : List Resolved) (turns : ℕ) (left : Option (List ℕ)) (bytes : List ℕ) (place : Place) → c ≡ cause.Truncated → IsAtEnd left → (c ≢ cause.Memory → FirstFault mode set bytes place c)
-    → RefusedBy c mode set turns left bytes place
-by_end cause.Truncated mode set turns left bytes place is ended first = (first (λ e. absurd cc), ended)
-by_end c mode set turns left bytes place is ended first = absurd cc
-
--- the reader has ended inside a message
-pub refused_by_end : (f : Fault) (mode : Mode) (set : List Resolved) (turns : ℕ) (left : Option (List ℕ)) (bytes : List ℕ) (messages : List Content) → f.cause ≡ cause.Truncated → IsAtEnd left → Carried mode set bytes messages
-    → f.place.message ≡ length messages + 1 → (f.cause ≢ cause.Memory → FirstFault mode set bytes f.place f.cause) → Refuses mode set turns left bytes messages f
-refused_by_end f mode set turns left bytes messages is ended carried behind first =
-    record { carried = carried; behind = behind; refused = by_end f.cause mode set turns left bytes f.place is ended first }
+-- a fault of the bytes, inside a message only where the reader has ended, or want of memory
+pub refused_by_bytes : (f : Fault) (mode : Mode) (set : List Resolved) (turns : ℕ) (left : Option (List ℕ)) (bytes : List ℕ) (messages : List Content) → (f.cause ≡ cause.Truncated → IsAtEnd left) → Refused f mode set bytes messages → Refuses mode set turns left bytes messages f
+refused_by_bytes f mode set turns left bytes messages more r = record { carried = r.0; behind = r.1; refused = by_bytes f.cause mode set turns left bytes f.place more r.2 r.3 }
 
 -- ---- what waits
 
@@ -58,24 +43,11 @@ pub pushed_waits : (old out new : List Message) (pushed : List Content) → old 
 pushed_waits old out new pushed none turned grown =
     ap waiting_in turned ∙ ap (map content_of) (reverse-reverse out) ∙ grown ∙ ap (λ (xs : List Message). map content_of xs ++ pushed) none
 
-pub goes_on_with : {E : Type 0} {ghosts : Ghosts E} (d : Decoder E ghosts) (bytes : List ℕ) (messages pushed waiting : List Content) → d.machine.fault ≡ None → waiting ≡ pushed
-    → HasFed d.machine [] bytes (messages ++ pushed) → Follows d bytes (messages ++ waiting)
-goes_on_with d bytes messages pushed waiting none same follows = rw same (record { goes_on = none; follows = follows })
-
 -- a first fault is none that bytes cannot have
 pub of_bytes : (f : Fault) (mode : Mode) (set : List Resolved) (bytes : List ℕ) → (f.cause ≢ cause.Memory → FirstFault mode set bytes f.place f.cause) → f.cause ≢ cause.Truncated
     → (f.cause ≢ cause.Truncated) × (f.cause ≢ cause.Read) × (f.cause ≢ cause.Turns)
 of_bytes f mode set bytes first more =
     (more, (λ e. subst (IsOfBytes mode.level) e (of_mode mode set bytes f.place f.cause (first (λ m. absurd cc)))), (λ e. subst (IsOfBytes mode.level) e (of_mode mode set bytes f.place f.cause (first (λ m. absurd cc)))))
-
-pub refused_with : {E : Type 0} {ghosts : Ghosts E} (d : Decoder E ghosts) (f : Fault) (turns : ℕ) (left : Option (List ℕ)) (bytes : List ℕ) (messages pushed waiting : List Content) → d.machine.fault ≡ Some f → f.cause ≢ cause.Truncated
-    → waiting ≡ pushed → HasFed d.machine [] bytes (messages ++ pushed)
-    → Refuses (mode_of d.machine) (templates_in d.machine.traversal.set.now) turns left bytes (messages ++ waiting) f × OnFault (reached.Fault f) (λ c. (c ≢ cause.Truncated) × (c ≢ cause.Read) × (c ≢ cause.Turns))
-refused_with d f turns left bytes messages pushed waiting is more same follows =
-    let mode = mode_of d.machine in
-    let set = templates_in d.machine.traversal.set.now in
-    let refused = (rw is at follows.at).0 in
-    rw same (refused_by_bytes f mode set turns left bytes (messages ++ pushed) more refused.0 refused.1 refused.2 refused.3, of_bytes f mode set bytes refused.2 more)
 
 -- ---- one read
 
@@ -134,11 +106,8 @@ caused_by_feed reached.Open old new some of same none = (same, none)
 caused_by_feed reached.End old new some of same none = absurd (some refl)
 caused_by_feed (reached.Fault f) old new some of same none = ((λ e. absurd (of.1 e)), (λ e. absurd (of.0 e)), (λ e. absurd (of.2 e)))
 
-pub caused_by_end : (at : Reached) (mode : Mode) (set : List Resolved) (turns : ℕ) (left : Option (List ℕ)) (bytes : List ℕ) (messages : List Content) (old new : Reader) → HasReached at ⊥ mode set turns left bytes messages
-    → OnFault at (λ c. c ≡ cause.Truncated) → new.ends ≡ counted old.ends → new.errors ≡ old.errors → IsCaused at ⊥ old new
-caused_by_end reached.Open mode set turns left bytes messages old new h of met none = absurd h
-caused_by_end reached.End mode set turns left bytes messages old new h of met none = (met, none)
-caused_by_end (reached.Fault f) mode set turns left bytes messages old new h of met none = ((λ e. absurd cc), (λ e. met), (λ e. absurd cc))
+pub caused_by_end : (f : Fault) (old new : Reader) → f.cause ≡ cause.Truncated → new.ends ≡ counted old.ends → IsCaused (reached.Fault f) ⊥ old new
+caused_by_end f old new of met = ((λ e. absurd cc), (λ e. met), (λ e. absurd cc))
 
 pub caused_by_read : (f : Fault) (old new : Reader) → f.cause ≡ cause.Read → new.errors ≡ counted old.errors → IsCaused (reached.Fault f) ⊥ old new
 caused_by_read f old new is failed = ((λ e. failed), (λ e. absurd cc), (λ e. absurd cc))
@@ -164,9 +133,9 @@ front_carried mode set bytes xs ys c =
 
 reached_carried : {E : Type 0} {ghosts : Ghosts E} (at : Reached) (d : Decoder E ghosts) (reads turns : ℕ) (left : Option (List ℕ)) (bytes : List ℕ) (messages : List Content)
     → HasReached at (Follows d bytes messages × (reads ≤ length bytes)) (mode_of d.machine) (templates_in d.machine.traversal.set.now) turns left bytes messages → Carried (mode_of d.machine) (templates_in d.machine.traversal.set.now) bytes messages
-reached_carried {ghosts = ghosts} reached.Open d reads turns left bytes messages h =
+reached_carried reached.Open d reads turns left bytes messages h =
     let at = rw (h.0.goes_on) at h.0.follows.at in
-    carried_of d.machine.framing d.machine.left (ReadsOn BuilderHas BuilderStands BuilderStands d.machine.traversal d.machine.receiver (ghosts.contents d.machine.entries) []) d.machine.traversal d.machine.held.items bytes messages at.0
+    carried_of at.0
 reached_carried reached.End d reads turns left bytes messages h = all_carried (mode_of d.machine) (templates_in d.machine.traversal.set.now) bytes messages h.carried
 reached_carried (reached.Fault f) d reads turns left bytes messages h = h.carried
 

@@ -21,11 +21,11 @@ use std::alloc::Global;
 /// Nothing but that piece is read again.
 #[derive(Drop)]
 pub struct Decoder<'a, E: Entries> {
-    machine: Machine<'a, Builder, E>,
+    pub(crate) machine: Machine<'a, Builder, E>,
 }
 
 impl<'a, E: Entries> Decoder<'a, E> {
-    ghost use Rattle.fast_machine.specs.Following.{Answers, Follows, IsCutAt, mode_of};
+    ghost use Rattle.fast_machine.specs.Following.{Answers, Follows, mode_of};
 
     /// A decoder of a set, at the beginning of a stream. The entries are reset. Takes no memory.
     pub fn new(alloc: Global, set: &'a TemplateSet, mode: Mode, entries: E) -> Decoder<'a, E>
@@ -125,24 +125,6 @@ impl<'a, E: Entries> Decoder<'a, E> {
         ensures fed { self.new.machine.fed ≡ self.old.machine.fed }
     {
         self.machine.finish()
-    }
-
-    /// The fault of a stream of which no more bytes come for this cause: where the next piece would begin.
-    pub(crate) fn cut(&mut self, cause: Cause) -> Fault
-        requires few { self.now.machine.fed ≤ 2 ^ 60 }
-        ensures cause { result.cause ≡ cause }
-        ensures place { self.old.machine.fault ≡ None → (fed : List ℕ)
-            (messages : List Content) → Follows self.old.machine [] fed messages
-            → IsCutAt (mode_of self.old.machine) (templates_in self.old.machine.traversal.set.now) fed messages result.place }
-        ensures kept { IfSome self.old.machine.fault (λ f. self.new ≡ self.old) }
-        ensures follows { self.old.machine.fault ≡ None → (fed : List ℕ)
-            (messages : List Content) → Follows self.old.machine [] fed messages
-            → Follows self.new.machine [] fed messages }
-        ensures set { self.new.machine.traversal.set ≡ self.old.machine.traversal.set }
-        ensures mode { mode_of self.new.machine ≡ mode_of self.old.machine }
-        ensures fed { self.new.machine.fed ≡ self.old.machine.fed }
-    {
-        self.machine.cut(cause)
     }
 
     /// Begins a new stream, with all entries undefined. Takes no memory.

@@ -45,50 +45,6 @@ pub struct MessageInputStream<'a, R: ByteInput, E: Entries> {
     ghost fits: { decoder.machine.fed ≤ 4096 * reads },
 }
 
-// Feeds what a read gave. The messages that it ends wait, the first one last.
-fn feed<E: Entries>(
-    decoder: &mut Decoder<'_, E>,
-    bytes: &[u8],
-    waiting: &mut Vec<Message>,
-) -> Reached
-    requires room { decoder.now.machine.fed + length bytes.now ≤ 2 ^ 60 }
-    requires none { waiting.now.items ≡ [] }
-    ensures follows { (fed : List ℕ) (messages : List Content) (turns : ℕ) (left : Option (List ℕ))
-        → Follows decoder.old fed messages
-        → HasReached result (Follows decoder.new (fed ++ bytes.now) (messages
-        ++ waiting_in waiting.new.items)) (mode_of decoder.new.machine) (templates_in decoder.new.machine.traversal.set.now) turns left
-        (fed ++ bytes.now) (messages ++ waiting_in waiting.new.items)
-        × OnFault result (λ c. (c ≢ Cause.Truncated) × (c ≢ Cause.Read) × (c ≢ Cause.Turns)) }
-    ensures end { result ≢ Reached.End }
-    ensures set { decoder.new.machine.traversal.set ≡ decoder.old.machine.traversal.set }
-    ensures mode { mode_of decoder.new.machine ≡ mode_of decoder.old.machine }
-    ensures fed { decoder.new.machine.fed ≤ decoder.old.machine.fed + length bytes.now }
-{
-    let fed = decoder.feed(bytes, waiting);
-    waiting.reverse();
-    match fed {
-        Ok(()) => Reached::Open,
-        Err(fault) => Reached::Fault(fault),
-    }
-}
-
-// Ends the stream where its reader has.
-fn end<E: Entries>(decoder: &mut Decoder<'_, E>) -> Reached
-    requires few { decoder.now.machine.fed ≤ 2 ^ 60 }
-    ensures follows { (fed : List ℕ) (messages : List Content) (turns : ℕ) (left : Option (List ℕ))
-        → Follows decoder.old fed messages → IsAtEnd left
-        → HasReached result ⊥ (mode_of decoder.new.machine) (templates_in decoder.new.machine.traversal.set.now) turns left fed messages
-        × OnFault result (λ c. c ≡ Cause.Truncated) }
-    ensures set { decoder.new.machine.traversal.set ≡ decoder.old.machine.traversal.set }
-    ensures mode { mode_of decoder.new.machine ≡ mode_of decoder.old.machine }
-    ensures fed { decoder.new.machine.fed ≡ decoder.old.machine.fed }
-{
-    match decoder.finish() {
-        Ok(()) => Reached::End,
-        Err(fault) => Reached::Fault(fault),
-    }
-}
-
 impl<'a, R: ByteInput, E: Entries> MessageInputStream<'a, R, E> {
     ghost use Rattle.fast_decoder.specs.Calls.{IsSameStream, ReadsOn, StandsAt, TellsAt};
 
@@ -138,7 +94,8 @@ impl<'a, R: ByteInput, E: Entries> MessageInputStream<'a, R, E> {
         }
     }
 
-    // Makes one read, and feeds what it gave.
+    // Makes one read, and feeds what it gave: the messages that it ends wait, the first one last. Ends the stream where its
+    // reader has.
     fn read_on(&mut self)
         requires reached { self.now.reached ≡ Reached.Open }
         requires none { self.now.waiting.items ≡ [] }
@@ -149,11 +106,19 @@ impl<'a, R: ByteInput, E: Entries> MessageInputStream<'a, R, E> {
         let mut chunk = [0u8; CHUNK];
         self.reads += 1;
         match self.reader.pull(&mut chunk) {
-            Ok(0) => self.reached = end(&mut self.decoder),
+            Ok(0) => match self.decoder.finish() {
+                Ok(()) => self.reached = Reached::End,
+                Err(fault) => self.reached = Reached::Fault(fault),
+            },
             Ok(count) => {
-                self.reached = feed(&mut self.decoder, &chunk[..count], &mut self.waiting);
+                let fed = self.decoder.feed(&chunk[..count], &mut self.waiting);
+                self.waiting.reverse();
+                match fed {
+                    Ok(()) => {}
+                    Err(first) => self.reached = Reached::Fault(first),
+                }
             }
-            Err(Failed) => self.reached = Reached::Fault(self.decoder.cut(Cause::Read)),
+            Err(Failed) => self.reached = Reached::Fault(self.decoder.machine.cut(Cause::Read)),
         }
     }
 
@@ -178,7 +143,7 @@ impl<'a, R: ByteInput, E: Entries> MessageInputStream<'a, R, E> {
             Reached::End => Ok(None),
             Reached::Fault(fault) => Err(fault),
             Reached::Open => {
-                let fault = self.decoder.cut(Cause::Turns);
+                let fault = self.decoder.machine.cut(Cause::Turns);
                 self.reached = Reached::Fault(fault);
                 Err(fault)
             }

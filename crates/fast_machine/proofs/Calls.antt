@@ -1,5 +1,5 @@
 -- What a machine follows behind a chunk more, behind a fault that it keeps, and behind a read of a message.
-use Rattle.std.proofs.Common.{◌≡◌, ◌≢◌, ◌≤◌, ◌<◌, ◌^◌, ◌+◌, ℕ, List, [], ◌++◌, Option, Some, None, Result, Ok, Err, length, length-append, arith, refl, sym, subst, inl, inr}
+use Rattle.std.proofs.Common.{min, ◌≡◌, ◌≢◌, ◌≤◌, ◌<◌, ◌^◌, ◌+◌, ℕ, List, [], ◌++◌, Option, Some, None, Result, Ok, Err, length, length-append, arith, refl, inl, inr, ◌∙◌, append_assoc}
 use Rattle.std.specs.FinMap as finite
 use Rattle.fast_wire.specs.Reader.{IsBytes}
 use Rattle.fast_template.specs.TemplateSets.{IsSound, templates_in}
@@ -20,9 +20,10 @@ use Rattle.fast_machine.specs.declared.machine.Machine.{Machine}
 use Rattle.fast_machine.specs.Runs.{Having, ReadsOn, Standing}
 use Rattle.fast_machine.specs.Standing.{Carried, HasAll, Stands, StopsBehind, framed_as}
 use Rattle.fast_machine.specs.Following.{Counts, Follows, Refused, Waits, mode_of}
-use Rattle.fast_machine.specs.Calls.{AnswersNone, FollowsBehind, IsFault, IsFaultOf, KeepsFault, ReadsNext, StandsAt, StaysAt}
-use Rattle.fast_machine.proofs.Standings.{carried_of, stands_first}
-use Rattle.fast_machine.proofs.Followings.{counts_fed, counts_pushed, few_messages, left_behind, memory_refused, stands_fed}
+use Rattle.fast_machine.specs.Calls.{AnswersNone, FollowsAll, FollowsBehind, IsFault, IsFaultOf, IsSameStream, KeepsFault, ReadsNext, StandsAt}
+use Rattle.fast_machine.proofs.Runs.{carried_of}
+use Rattle.fast_machine.proofs.Standings.{stands_first}
+use Rattle.fast_machine.proofs.Followings.{few_messages, left_behind, memory_refused, not_memory, stands_fed}
 
 -- ---- a chunk more
 
@@ -40,15 +41,20 @@ chunk_fed {receiver = receiver} {entries = entries} old chunk none few fits befo
     let at = rw (none) at follows.at in
     record {
       short = omega (arith, size, is, few);
-      counts = counts_fed old.fed old.messages fed chunk messages follows.counts;
+      counts = record { fed_is = omega (arith, size, is); count_is = follows.counts.count_is };
       held = at;
       stands = stands_fed old.framing old.left (ReadsOn receiver.has receiver.stands receiver.keeps old.traversal old.receiver (entries.contents old.entries) before) old.traversal old.held.items fed chunk messages fits at.0;
     }
 
--- where nothing but the bytes held changes, it stands as it stood
-pub stands_still : {R E : Type 0} {receiver : Receiving R} {entries : Ghosts E} {old new : Machine R E receiver entries} → StaysAt old new → new.receiver ≡ old.receiver
-    → (before : List Content) (unread fed : List ℕ) (messages : List Content) → StandsAt old.framing old before unread fed messages → StandsAt new.framing new before unread fed messages
-stands_still stays same before unread fed messages stands = rw (stays.traversal, stays.entries, stays.framing, stays.left, same) stands
+-- a chunk, and another
+pub all_on : {R E : Type 0} {receiver : Receiving R} {entries : Ghosts E} {a b c : Machine R E receiver entries} (xs ys : List ℕ) → FollowsAll a xs b → FollowsAll b ys c → FollowsAll a (xs ++ ys) c
+all_on xs ys f g = λ before fed messages follows.
+    let h = f before fed messages follows in
+    let r = g (before ++ h.0) (fed ++ xs) (messages ++ h.0) h.1 in
+    (h.0 ++ r.0, rw (← append_assoc before h.0 r.0, ← append_assoc messages h.0 r.0, ← append_assoc fed xs ys) r.1)
+
+pub same_on : {R E : Type 0} {receiver : Receiving R} {entries : Ghosts E} {a b c : Machine R E receiver entries} → IsSameStream a b → IsSameStream b c → IsSameStream a c
+same_on x y = record { set = y.set ∙ x.set; mode = y.mode ∙ x.mode; same_keys = y.same_keys ∙ x.same_keys }
 
 -- ---- a fault that is kept
 
@@ -63,15 +69,13 @@ pub follows_refused : {R E : Type 0} {receiver : Receiving R} {entries : Ghosts 
     → Counts old.fed old.messages fed messages → StandsAt old.framing old before unread fed messages → Refused fault (mode_of old) (templates_in old.traversal.set.now) fed messages → Follows new before fed messages
 follows_refused {receiver = receiver} {entries = entries} {old = old} {new = new} k before unread fed messages counts stands refused =
     follows_kept k before fed messages counts refused
-    (left_behind receiver.has receiver.stands receiver.keeps old.framing old.left old.traversal old.receiver new.receiver (entries.contents old.entries) before unread fed messages k.left stands)
+    (left_behind receiver.has receiver.stands receiver.keeps old.traversal old.receiver (entries.contents old.entries) before old.framing old.left new.receiver unread fed messages k.left stands)
 
 -- memory was refused
 pub follows_without_memory : {R E : Type 0} {receiver : Receiving R} {entries : Ghosts E} {old new : Machine R E receiver entries} {fault : Fault} → IsFault fault Memory old.messages 0 0 0 → KeepsFault old fault new
     → (before : List Content) (unread fed : List ℕ) (messages : List Content) → length fed < 2 ^ 61 → Counts old.fed old.messages fed messages → StandsAt old.framing old before unread fed messages → Follows new before fed messages
-follows_without_memory {receiver = receiver} {entries = entries} {old = old} {fault = fault} is k before unread fed messages short counts stands =
-    follows_refused k before unread fed messages counts stands
-    (memory_refused fault (mode_of old) (templates_in old.traversal.set.now) fed messages old.fed old.messages counts short
-    (carried_of old.framing old.left (ReadsOn receiver.has receiver.stands receiver.keeps old.traversal old.receiver (entries.contents old.entries) before) old.traversal unread fed messages stands) is)
+follows_without_memory {old = old} {fault = fault} is k before unread fed messages short counts stands =
+    follows_refused k before unread fed messages counts stands (memory_refused fault (mode_of old) (templates_in old.traversal.set.now) fed messages old.fed old.messages counts short (carried_of stands) is)
 
 -- ---- nothing is fed
 
@@ -94,8 +98,9 @@ abbrev pub StreamEnds : {R : Type 0} → Having R → Standing R → Standing R 
 StreamEnds has stands keeps None framing left t r d before unread bytes messages = Stands framing left (ReadsOn has stands keeps t r d before) t unread bytes messages
 StreamEnds has stands keeps (Some h) framing left t r d before unread bytes messages =
     Carried (framed_as framing t) (templates_in t.set.now) bytes messages
-    × (h.cause ≡ Truncated → StopsBehind (framed_as framing t) (templates_in t.set.now) bytes messages (stop_of t.template h unread) × Stands framing left (ReadsOn has stands keeps t r d before) t unread bytes messages)
-    × (h.cause ≢ Truncated → (h.cause ≢ Memory → StopsBehind (framed_as framing t) (templates_in t.set.now) bytes messages (stop_of t.template h unread)) × HasAll stands framing t r before bytes messages)
+    × (h.cause ≢ Memory → StopsBehind (framed_as framing t) (templates_in t.set.now) bytes messages (stop_of t.template h unread))
+    × (h.cause ≡ Truncated → Stands framing left (ReadsOn has stands keeps t r d before) t unread bytes messages)
+    × (h.cause ≢ Truncated → HasAll stands framing t r before bytes messages)
 
 -- so many messages ended, are counted, and leave this
 pub record Found (number fed count : ℕ) (bytes : List ℕ) (messages : List Content) (Leaves : List Content → Type 0) : Type 0 where
@@ -105,14 +110,18 @@ pub record Found (number fed count : ℕ) (bytes : List ℕ) (messages : List Co
   pub leaves : Leaves ended
 
 -- the messages that ended are counted
-pub found_of : (framing : Framing) (u : Traversal) (number fed_before count_before count : ℕ) (fed : List ℕ) (messages more : List Content) (Leaves : List Content → Type 0) → (count_before + number < 2 ^ 62 → count ≡ count_before + number) → length fed ≤ 2 ^ 60 → Counts fed_before count_before fed messages
+pub found_of : (framing : Framing) (u : Traversal) (count : ℕ) {number fed_before count_before : ℕ} {fed : List ℕ} {messages : List Content} (more : List Content) {Leaves : List Content → Type 0} → count ≡ min (count_before + number) 18446744073709551615 → length fed ≤ 2 ^ 60 → Counts fed_before count_before fed messages
     → length more ≡ number → Carried (framed_as framing u) (templates_in u.set.now) fed (messages ++ more) → Leaves more → Found number fed_before count fed messages Leaves
-found_of framing u number fed_before count_before count fed messages more Leaves counted short counts is carried leaves = record {
-  ended = more;
-  number_is = is;
-  counts = counts_pushed fed_before count_before number count fed messages more counts is counted (few_messages (framed_as framing u) (templates_in u.set.now) fed (messages ++ more) carried) short;
-  leaves = leaves;
-}
+found_of framing u count {fed = fed} {messages = messages} more counted short counts is carried leaves =
+    let few = few_messages (framed_as framing u) (templates_in u.set.now) fed (messages ++ more) carried in
+    let sizes = length-append messages more in
+    let same = counts.count_is in
+    record {
+      ended = more;
+      number_is = is;
+      counts = record { fed_is = counts.fed_is; count_is = omega (arith, counted, sizes, same, is, few, short) };
+      leaves = leaves;
+    }
 
 -- what a machine finds in bytes that it reads on in, up to those that are unread
 pub record Finds {R E : Type 0} {receiver : Receiving R} {entries : Ghosts E} (framing : Framing) (old : Machine R E receiver entries) (bytes : List ℕ) (number count : ℕ) (halt : Option Halt) (left : ℕ) (u : Traversal) (s : R) (e : Dictionary) (unread : List ℕ) : Type 0 where
@@ -120,10 +129,10 @@ pub record Finds {R E : Type 0} {receiver : Receiving R} {entries : Ghosts E} (f
       → Found number old.fed count fed messages (λ ended. StreamEnds receiver.has receiver.stands receiver.keeps halt framing left u s e (before ++ ended) unread fed (messages ++ ended))
 
 -- nothing ends in these bytes
-pub reads_none : {R E : Type 0} {receiver : Receiving R} {entries : Ghosts E} {framing : Framing} {new : Machine R E receiver entries} (old : Machine R E receiver entries) (bytes : List ℕ) (result : Result (Option ℕ) Fault)
+pub reads_none : {R E : Type 0} {receiver : Receiving R} {entries : Ghosts E} (framing : Framing) {new : Machine R E receiver entries} (old : Machine R E receiver entries) (bytes : List ℕ) (result : Result (Option ℕ) Fault)
     → AnswersNone result new.fault → FollowsBehind framing old bytes new → ReadsNext framing old bytes result new
-reads_none old bytes (Ok place) answer follows = rw (answer.0) (tt, (answer.1, follows))
-reads_none old bytes (Err f) answer follows = (answer.0, answer.1, follows)
+reads_none framing old bytes (Ok place) answer follows = rw (answer.0) (tt, (answer.1, follows))
+reads_none framing old bytes (Err f) answer follows = (answer.0, answer.1, follows)
 
 -- where bytes are wanted, those unread are held
 pub finds_waiting : {R E : Type 0} {receiver : Receiving R} {entries : Ghosts E} {framing : Framing} {old new : Machine R E receiver entries} {bytes : List ℕ} {number count : ℕ} {h : Halt} {left : ℕ} {u : Traversal} {s : R} {e : Dictionary} {unread rest : List ℕ} (result : Result (Option ℕ) Fault)
@@ -131,15 +140,11 @@ pub finds_waiting : {R E : Type 0} {receiver : Receiving R} {entries : Ghosts E}
     → ((before : List Content) (fed : List ℕ) (messages : List Content) → length fed < 2 ^ 61 → Counts old.fed count fed messages
     → Stands framing left (ReadsOn receiver.has receiver.stands receiver.keeps u s e before) u rest fed messages → Waits framing left u rest h.number fed messages → Follows new before fed messages)
     → AnswersNone result new.fault → ReadsNext framing old bytes result new
-finds_waiting {receiver = receiver} {framing = framing} {old = old} {bytes = bytes} {h = h} {left = left} {u = u} {s = s} {e = e} result finds is same held answer = reads_none old bytes result answer (λ before fed messages short counts stands.
+finds_waiting {receiver = receiver} {framing = framing} {old = old} {bytes = bytes} {h = h} {left = left} {u = u} {s = s} {e = e} result finds is same held answer = reads_none framing old bytes result answer (λ before fed messages short counts stands.
     let f = finds.found before fed messages short counts stands in
     let all = messages ++ f.ended in
-    let waits = f.leaves.1 is in (
-      f.ended,
-      held (before ++ f.ended) fed all (omega (arith, short)) f.counts
-          (subst (λ (xs : List ℕ). Stands framing left (ReadsOn receiver.has receiver.stands receiver.keeps u s e (before ++ f.ended)) u xs fed all) (sym same) waits.1)
-          (inr (subst (λ (xs : List ℕ). StopsBehind (framed_as framing u) (templates_in u.set.now) fed all (stop_of u.template (record { cause = Truncated; number = h.number; by = h.by }) xs)) (sym same) (rw is at waits.0))),
-    ))
+    let stops = rw (is) at (f.leaves.1 (not_memory h.cause is)) in
+    (f.ended, held (before ++ f.ended) fed all (omega (arith, short)) f.counts (rw (same) (f.leaves.2 is)) (rw (same) (inr stops))))
 
 -- another fault is the first
 pub finds_fault : {R E : Type 0} {receiver : Receiving R} {entries : Ghosts E} {framing now : Framing} {old : Machine R E receiver entries} {bytes : List ℕ} {number count : ℕ} {h : Halt} {left : ℕ} {u : Traversal} {s : R} {e : Dictionary} {unread : List ℕ} (fault : Fault) (size : ℕ)
@@ -148,10 +153,9 @@ pub finds_fault : {R E : Type 0} {receiver : Receiving R} {entries : Ghosts E} {
     → Found number old.fed count fed messages (λ ended. Refused fault (framed_as now u) (templates_in u.set.now) fed (messages ++ ended) × HasAll receiver.stands now u s (before ++ ended) fed (messages ++ ended))
 finds_fault {framing = framing} {u = u} {unread = unread} fault size same finds other sound is refused before fed messages short counts stands =
     let f = finds.found before fed messages short counts stands in
-    let faults = f.leaves.2 other in
     record {
       ended = f.ended;
       number_is = f.number_is;
       counts = f.counts;
-      leaves = rw (same) (refused (framed_as framing u) u unread fed (messages ++ f.ended) sound f.counts (omega (arith, short)) refl is f.leaves.0 faults.0, faults.1);
+      leaves = rw (same) (refused (framed_as framing u) u unread fed (messages ++ f.ended) sound f.counts (omega (arith, short)) refl is f.leaves.0 f.leaves.1, f.leaves.3 other);
     }

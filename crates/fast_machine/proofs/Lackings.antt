@@ -1,5 +1,6 @@
 -- Where the piece that is next still lacks bytes, the stream stops at it.
-use Rattle.std.proofs.Common.{◌≡◌, ◌<◌, ℕ, List, [], length, take, refl, sym, ap, subst, ◌∙◌, append-nil, arith}
+use Rattle.std.proofs.Common.{◌≡◌, ◌<◌, ℕ, List, [], ◌-◌, length, take, refl, sym, ◌∙◌, append-nil, arith}
+use Rattle.std.specs.Prelude.{false, nat_le}
 use Rattle.std.proofs.lemmas.List.{take_all}
 use Rattle.fast_template.specs.TemplateSets.{templates_in}
 use Rattle.fast_dictionary.specs.Dictionary.{Dictionary}
@@ -7,7 +8,6 @@ use Rattle.fast_stream.specs.declared.fault.Cause.TheVariants.{Truncated}
 use Rattle.fast_stream.specs.declared.mode.Framing.{Framing}
 use Rattle.fast_stream.specs.declared.mode.Framing.TheVariants.{Plain, Blocks}
 use Rattle.fast_stream.specs.Nodes.{Content}
-use Rattle.fast_stream.specs.Reading.{message_at}
 use Rattle.fast_walk.specs.OpenSegments.{Reading}
 use Rattle.fast_walk.specs.Lacks.{Lacks}
 use Rattle.fast_walk.specs.Traversals.{stop_of}
@@ -19,7 +19,8 @@ use Rattle.fast_walk.specs.declared.traversal.Traversal.{Traversal}
 use Rattle.fast_walk.proofs.Lacking.{lacking_stops}
 use Rattle.fast_machine.specs.Runs.{Having, ReadsOn, RunStops, Standing, Unfinished}
 use Rattle.fast_machine.specs.Standing.{Stands, StopsBehind, framed_as}
-use Rattle.fast_machine.proofs.BlockReads.{block_waits, open_stands}
+use Rattle.fast_machine.proofs.BlockReads.{block_stops, open_stands}
+use Rattle.fast_machine.proofs.Runs.{now_reads}
 use Rattle.fast_machine.proofs.PlainReads.{plain_stops}
 
 module _ {R : Type 0} (has : Having R) (stands keeps : Standing R) (t : Traversal) (r : R) (d : Dictionary) (before : List Content) (l : Lack) where
@@ -42,21 +43,19 @@ module _ {R : Type 0} (has : Having R) (stands keeps : Standing R) (t : Traversa
     ends = (
       u.some (inside lacks.0),
       u.fits,
-      ap (message_at t.level (templates_in t.set.now) start) (sym (append-nil rest)) ∙ u.reads [] ∙ ap u.read (append-nil unread)
-          ∙ lacking_stops has stands keeps t r (templates_in t.set.now) d start before u.read unread l u.goes lacks,
+      now_reads u ∙ lacking_stops has stands keeps t r (templates_in t.set.now) d start before u.read unread l u.goes lacks,
     );
   }
 
   pub still_waits : (framing : Framing) (left : ℕ) (unread fed : List ℕ) (messages : List Content) → Lacks t d unread l → (framing ≡ Blocks → length unread < left) → Stands framing left Goes t unread fed messages
       → StopsBehind (framed_as framing t) (templates_in t.set.now) fed messages (stop_of t.template halt unread)
   still_waits Plain left unread fed messages lacks room s =
-      subst (λ (ms : List Content). StopsBehind (framed_as Plain t) (templates_in t.set.now) fed ms (stop_of t.template halt unread)) (append-nil messages)
-      (plain_stops Goes t t left unread fed messages [] s refl refl (stop_of t.template halt unread) (message_stops unread s.start.dictionary s.rest lacks s.ends.0))
+      rw (append-nil messages) at (plain_stops t [] s refl refl (stop_of t.template halt unread) (message_stops unread s.start.dictionary s.rest lacks s.ends.0))
   still_waits Blocks left unread fed messages lacks room s =
       let short = room refl in
       let some : 0 < left = omega (arith, short) in
-      let b = open_stands Goes t t.level left left 0 unread fed messages refl (λ k. (refl, refl)) (λ none. absurd (omega (arith, none, some))) some s in
+      let b = open_stands left 0 refl (λ k. (refl, refl)) (λ none. absurd (omega (arith, none, some))) some s in
       let all : take left unread ≡ unread = take_all left unread (omega (arith, short)) in
-      let run = message_stops (take left unread) b.start.dictionary b.ends.within (subst (λ (xs : List ℕ). Lacks t d xs l) (sym all) lacks) b.ends.next in
-      subst (λ (ms : List Content). StopsBehind (framed_as Blocks t) (templates_in t.set.now) fed ms (stop_of t.template halt unread)) (append-nil messages)
-      (block_waits Goes t t left 0 unread (take left unread) fed messages [] b refl (omega arith) refl refl halt (omega (arith, short)) run)
+      let run = message_stops (take left unread) b.start.dictionary b.ends.within (rw (all) lacks) b.ends.next in
+      let some_lack : nat_le (left - 0) (length unread) ≡ false = grind (arith, short) in
+      rw (append-nil messages) at (block_stops t 0 [] b (omega arith) refl refl halt Truncated (rw (some_lack) refl) run)

@@ -1,8 +1,8 @@
 -- Where a message has ended: the bytes behind it are left out, and they are bytes of the last chunk.
-use Rattle.std.proofs.Common.{◌≡◌, ◌≤◌, ◌<◌, ◌+◌, ℕ, zero, suc, ◌-◌, length, take, drop, length-append, length-drop, get_or, arith, List, [], ◌∷◌, ◌++◌, Result, Ok, Err, refl, sym, ap, subst, ◌∙◌, append_assoc, append-nil, ◌⊎◌, inl, inr}
-use Rattle.std.proofs.lemmas.List.{append_cancel_right}
+use Rattle.std.proofs.Common.{◌≡◌, ◌≤◌, ◌<◌, ◌+◌, ℕ, ◌-◌, length, take, drop, length-append, length-drop, take-append-drop, arith, List, [], ◌∷◌, ◌++◌, Result, Ok, Err, refl, sym, ap, subst, ◌∙◌, append_assoc, append-nil, inl, inr}
+use Rattle.std.proofs.lemmas.Bool.{cases_lt}
+use Rattle.std.proofs.lemmas.List.{append_cancel_right, drop-drop, drop-take, drop_at, take-append-le, take-take, take_all, take_at}
 use Rattle.std.specs.List.{AllByRecursion}
-use Rattle.fast_wire.specs.Reader.{IsBytes}
 use Rattle.fast_wire.proofs.Readers.{ok_is}
 use Rattle.fast_template.specs.Resolved.{Resolved}
 use Rattle.fast_template.specs.TemplateSets.{HaveTypedParts, TemplateList, templates_in}
@@ -15,34 +15,20 @@ use Rattle.fast_stream.specs.Modes.{CarriesFrom, next_at}
 use Rattle.fast_stream.specs.Nodes.{Content}
 use Rattle.fast_stream.specs.Faults.{MessageStop}
 use Rattle.fast_stream.specs.Readers.{IsNextReader}
-use Rattle.fast_walk.specs.declared.traversal.Stage.{Stage}
 use Rattle.fast_walk.specs.declared.traversal.Stage.TheVariants as stage
 use Rattle.fast_walk.specs.declared.traversal.Traversal.{Traversal}
 use Rattle.fast_walk.specs.OpenSegments.{Reading}
-use Rattle.fast_walk.specs.Traversals.{ContinuesAt, begun_at, begun_of}
+use Rattle.fast_walk.specs.Traversals.{begun_at, begun_of}
 use Rattle.fast_machine.specs.Runs.{Having, ReadsOn, Standing, Unfinished}
 use Rattle.fast_machine.specs.Following.{Waits}
 use Rattle.fast_machine.specs.Standing.{GoesIn, Stands, framed_as}
 use Rattle.fast_stream.proofs.MessageReaders.{message_reader}
+use Rattle.fast_stream.proofs.BlockReaders.{fits_take}
 use Rattle.fast_stream.proofs.ModeReaders.{next_reader}
 use Rattle.fast_machine.proofs.Followings.{held_within}
 use Rattle.fast_machine.proofs.Runs.{all_unread, unfinished_between}
 
 -- ---- the bytes behind a message are left out
-
-fits_front : (xs ys : List ℕ) → IsBytes (xs ++ ys) → IsBytes xs
-fits_front [] ys h = tt
-fits_front (x ∷ xs) ys h = (h.0, fits_front xs ys h.1)
-
-none_taken : (n : ℕ) → ◌≡◌ {A = List ℕ} (take n []) []
-none_taken zero = refl
-none_taken (suc n) = refl
-
-stands_at : {R : Type 0} (has : Having R) (stands keeps : Standing R) (t : Traversal) (r : R) (set : List Resolved) (d start : Dictionary) (before : List Content) (read : List ℕ → Reading) (at : Stage) → at ≡ stage.Map
-    → ContinuesAt has stands keeps at t r set d before start read → stands r set before d × (start ≡ d)
-stands_at has stands keeps t r set d start before read stage.Map is c = (c.stands, c.start_is)
-stands_at has stands keeps t r set d start before read stage.Identifier is c = absurd cc
-stands_at has stands keeps t r set d start before read stage.Body is c = absurd cc
 
 module _ {R : Type 0} (has : Having R) (stands keeps : Standing R) (t : Traversal) (r : R) (d : Dictionary) (before : List Content) (at : t.stage ≡ stage.Map) where
   abbrev G : Dictionary → (List ℕ → Reading) → Type 0
@@ -51,8 +37,8 @@ module _ {R : Type 0} (has : Having R) (stands keeps : Standing R) (t : Traversa
   -- the next message, of which nothing has come
   next_of_none : (unread : List ℕ) (start : Dictionary) (rest : List ℕ) → Unfinished G t unread start rest → Unfinished G t [] start []
   next_of_none unread start rest u =
-      let between = stands_at has stands keeps t r (templates_in t.set.now) d start before u.read t.stage at u.goes in
-      unfinished_between has stands keeps t r d before [] start [] at between.0 between.1 refl tt
+      let c = rw (at) at u.goes in
+      unfinished_between has stands keeps t r d before [] start [] at c.stands c.start_is refl tt
 
   -- the rest of a stream without the bytes that are unread
   record Shorter (framing : Framing) (left : ℕ) (unread : List ℕ) (s : Stand) (rest : List ℕ) : Type 0 where
@@ -62,7 +48,7 @@ module _ {R : Type 0} (has : Having R) (stands keeps : Standing R) (t : Traversa
 
   shorter : (framing : Framing) (left : ℕ) (unread : List ℕ) (s : Stand) (rest : List ℕ) → GoesIn framing left G t unread s rest → Shorter framing left unread s rest
   unfolding next_of_none
-  shorter Plain left unread s rest h = record { back = []; parts = all_unread G t unread s.dictionary rest h.0 at; goes = (next_of_none unread s.dictionary rest h.0, h.1, h.2) }
+  shorter Plain left unread s rest h = record { back = []; parts = all_unread h.0 at; goes = (next_of_none unread s.dictionary rest h.0, h.1, h.2) }
   shorter Blocks left unread s rest (inl b) = record {
     back = [];
     parts = b.same;
@@ -70,6 +56,7 @@ module _ {R : Type 0} (has : Having R) (stands keeps : Standing R) (t : Traversa
   }
   shorter Blocks left unread s rest (inr i) =
       let parts : rest ≡ i.size ++ unread = i.parts ∙ ap (λ (xs : List ℕ). i.size ++ (xs ++ unread)) (i.next.between at) in
+      let none : take left [] ≡ [] = take_all {A = ℕ} left [] (omega arith) in
       record {
         back = i.size;
         parts = parts;
@@ -81,15 +68,15 @@ module _ {R : Type 0} (has : Having R) (stands keeps : Standing R) (t : Traversa
             read = u.read;
             goes = u.goes;
             fits = tt;
-            reads = λ more. u.reads more ∙ ap (λ (xs : List ℕ). u.read (xs ++ more)) (sym (none_taken left));
+            reads = λ more. u.reads more ∙ ap (λ (xs : List ℕ). u.read (xs ++ more)) (sym none);
             taken = [];
-            whole = sym (none_taken left);
+            whole = sym none;
             between = λ k. refl;
             some = u.some;
           };
           opens = subst (λ (xs : List ℕ). Opens t.level s.left i.size (length xs + left)) (i.next.between at) i.opens;
           parts = sym (append-nil i.size);
-          fits = fits_front i.size unread (subst (λ (xs : List ℕ). IsBytes xs) parts i.fits);
+          fits = rw (← take_at i.size unread (length i.size) refl) (fits_take (length i.size) (i.size ++ unread) (rw (parts) at i.fits));
         });
       }
 
@@ -111,18 +98,11 @@ module _ (mode : Mode) (set : List Resolved) (is : IsNextReader mode set) where
   abbrev Answer : Type 0
   Answer = Content × Stand × List ℕ
 
-  size_or : (a b : ℕ) → (a ≤ b) ⊎ (b < a)
-  size_or zero b = inl (omega arith)
-  size_or (suc a) zero = inr (omega arith)
-  size_or (suc a) (suc b) = elim (size_or a b) [ inl few ↦ inl (omega (arith, few)) | inr less ↦ inr (omega (arith, less)) ]
-
   -- a list that begins with each of two
-  begins_with : (xs ys zs ws : List ℕ) → xs ++ ys ≡ zs ++ ws → length xs ≤ length zs → (back : List ℕ) × (zs ≡ xs ++ back)
-  begins_with [] ys zs ws h few = (zs, refl)
-  begins_with (x ∷ xs) ys [] ws h few = absurd (omega (arith, few))
-  begins_with (x ∷ xs) ys (z ∷ zs) ws h few =
-      let rest = begins_with xs ys zs ws (ap (λ (l : List ℕ). drop 1 l) h) (omega (arith, few)) in
-      (rest.0, ap (λ (n : ℕ). n ∷ zs) (sym (ap (λ (l : List ℕ). get_or l 0 0) h)) ∙ ap (λ (l : List ℕ). x ∷ l) rest.1)
+  begins_with : (xs ys zs ws : List ℕ) → xs ++ ys ≡ zs ++ ws → length xs ≤ length zs → zs ≡ xs ++ drop (length xs) zs
+  begins_with xs ys zs ws h few =
+      let front : take (length xs) zs ≡ xs = sym (take-append-le (length xs) zs ws few) ∙ ap (take (length xs)) (sym h) ∙ take_at xs ys (length xs) refl in
+      sym (take-append-drop (length xs) zs) ∙ ap (λ (l : List ℕ). l ++ drop (length xs) zs) front
 
   stopped_or_read : (s : Stand) (bytes rest : List ℕ) (m : Content) (after : Stand) (stop : MessageStop) → next_at mode set s bytes ≡ Err stop → next_at mode set s bytes ≡ Ok (m, after, rest) → ⊥
   stopped_or_read s bytes rest m after stop e o = two (sym e ∙ o)
@@ -134,7 +114,7 @@ module _ (mode : Mode) (set : List Resolved) (is : IsNextReader mode set) where
   ends_beyond : (ms more : List Content) (m : Content) (s : Stand) (front rest : List ℕ) (stand : Stand) (stop : MessageStop) (whole back : List ℕ) (after : Stand) (chunk : List ℕ)
       → CarriesFrom mode set s front ms stand → next_at mode set stand rest ≡ Err stop → CarriesFrom mode set s whole (ms ++ m ∷ more) after → whole ++ back ≡ (front ++ rest) ++ chunk
       → length (front ++ rest) < length whole
-  ends_beyond [] more m s front rest stand stop whole back after chunk h e k same = of_size (size_or (length whole) (length rest))
+  ends_beyond [] more m s front rest stand stop whole back after chunk h e k same = elim (cases_lt (length rest) (length whole)) [ inl less ↦ rw (is_rest) less | inr few ↦ absurd (too_few few) ]
     where
       is_rest : front ++ rest ≡ rest
       is_rest = ap (λ (xs : List ℕ). xs ++ rest) h.0
@@ -142,14 +122,12 @@ module _ (mode : Mode) (set : List Resolved) (is : IsNextReader mode set) where
       stopped : next_at mode set s rest ≡ Err stop
       stopped = subst (λ (x : Stand). next_at mode set x rest ≡ Err stop) h.1 e
 
-      of_size : (length whole ≤ length rest) ⊎ (length rest < length whole) → length (front ++ rest) < length whole
-      of_size (inr less) = subst (λ (xs : List ℕ). length xs < length whole) (sym is_rest) less
-      of_size (inl few) =
-          let all : whole ++ back ≡ rest ++ chunk = same ∙ ap (λ (xs : List ℕ). xs ++ chunk) is_rest in
-          let b = begins_with whole back rest chunk all few in
-          let parts : rest ≡ k.front ++ (k.back ++ b.0) = b.1 ∙ ap (λ (xs : List ℕ). xs ++ b.0) k.parts ∙ append_assoc k.front k.back b.0 in
-          absurd (stopped_or_read s rest (k.back ++ b.0) m k.between stop stopped
-          (ap (λ (xs : List ℕ). next_at mode set s xs) parts ∙ is.again s k.front (k.back ++ b.0) m k.between k.first))
+      too_few : length whole ≤ length rest → ⊥
+      too_few few =
+          let behind = drop (length whole) rest in
+          let parts : rest ≡ k.front ++ (k.back ++ behind) = begins_with whole back rest chunk (same ∙ ap (λ (xs : List ℕ). xs ++ chunk) is_rest) few ∙ ap (λ (xs : List ℕ). xs ++ behind) k.parts ∙ append_assoc k.front k.back behind in
+          stopped_or_read s rest (k.back ++ behind) m k.between stop stopped
+          (ap (λ (xs : List ℕ). next_at mode set s xs) parts ∙ is.again s k.front (k.back ++ behind) m k.between k.first)
   ends_beyond (n ∷ ms) more m s front rest stand stop whole back after chunk h e k same =
       let one : next_at mode set s (h.front ++ ((h.back ++ rest) ++ chunk)) ≡ Ok (n, h.between, (h.back ++ rest) ++ chunk) = is.again s h.front ((h.back ++ rest) ++ chunk) n h.between h.first in
       let other : next_at mode set s (k.front ++ (k.back ++ back)) ≡ Ok (n, k.between, k.back ++ back) = is.again s k.front (k.back ++ back) n k.between k.first in
@@ -201,22 +179,10 @@ behind_held framing left after G H t u held waiting next fed chunk messages (m �
 
 -- the bytes behind those that were held
 pub drop_behind : (held chunk : List ℕ) (next : ℕ) → length held ≤ next → drop next (held ++ chunk) ≡ drop (next - length held) chunk
-drop_behind [] chunk next few = let same : next ≡ next - 0 = omega arith in ap (λ (n : ℕ). drop n chunk) same
-drop_behind (x ∷ xs) chunk zero few = absurd (omega (arith, few))
-drop_behind (x ∷ xs) chunk (suc next) few =
-    let same : next - length xs ≡ suc next - length (x ∷ xs) = omega arith in
-    drop_behind xs chunk next (omega (arith, few)) ∙ ap (λ (n : ℕ). drop n chunk) same
-
-pub none_before : (ys : List ℕ) → take 0 ys ≡ []
-none_before [] = refl
-none_before (y ∷ ys) = refl
+drop_behind held chunk next few =
+    let all : next ≡ length held + (next - length held) = omega (arith, few) in
+    ap (λ (n : ℕ). drop n (held ++ chunk)) all ∙ sym (drop-drop (next - length held) (length held) (held ++ chunk)) ∙ ap (drop (next - length held)) (drop_at held chunk (length held) refl)
 
 pub take_again : (n m : ℕ) (xs : List ℕ) → take n xs ++ take m (drop n xs) ≡ take (n + m) xs
-take_again zero m xs = let same : m ≡ 0 + m = omega arith in ap (λ (zs : List ℕ). zs ++ take m xs) (none_before xs) ∙ ap (λ (k : ℕ). take k xs) same
-take_again (suc n) m [] = none_taken m ∙ sym (none_taken (suc n + m))
-take_again (suc n) m (x ∷ xs) = let same : suc (n + m) ≡ suc n + m = omega arith in ap (λ (zs : List ℕ). x ∷ zs) (take_again n m xs) ∙ ap (λ (k : ℕ). take k (x ∷ xs)) same
-
-pub take_whole : (n : ℕ) (xs : List ℕ) → length xs ≤ n → take n xs ≡ xs
-take_whole n [] few = none_taken n
-take_whole zero (x ∷ xs) few = absurd (omega (arith, few))
-take_whole (suc n) (x ∷ xs) few = ap (λ (zs : List ℕ). x ∷ zs) (take_whole n xs (omega (arith, few)))
+take_again n m xs =
+    ap (λ (ys : List ℕ). take n xs ++ ys) (sym (drop-take n m xs)) ∙ ap (λ (ys : List ℕ). ys ++ drop n (take (n + m) xs)) (sym (take-take n (n + m) xs (omega arith))) ∙ take-append-drop n (take (n + m) xs)

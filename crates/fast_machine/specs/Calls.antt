@@ -1,5 +1,5 @@
 -- What the calls of a machine answer and leave.
-use Rattle.std.specs.Prelude.{◌≡◌, ◌≢◌, ◌≤◌, ◌<◌, ◌^◌, ℕ, ◌+◌, List, [], ◌++◌, length, take, drop, Option, Some, None, Result, Ok, Err, IfOk, IfErr, IfSome, IfNone, MatchOption}
+use Rattle.std.specs.Prelude.{◌≡◌, ◌≢◌, ◌≤◌, ◌<◌, ◌^◌, ℕ, ◌+◌, List, [], ◌++◌, length, take, drop, Option, Some, None, Result, Ok, Err, IfSome, IfNone, MatchOption}
 use Rattle.fast_stream.specs.declared.fault.Cause.{Cause}
 use Rattle.fast_stream.specs.declared.fault.Cause.TheVariants.{Truncated, Memory}
 use Rattle.fast_stream.specs.declared.fault.Fault.{Fault}
@@ -31,12 +31,8 @@ abbrev pub StandsAt : {R E : Type 0} {receiver : Receiving R} {entries : Ghosts 
 StandsAt {receiver = receiver} {entries = entries} framing m before unread fed messages =
     Stands framing m.left (ReadsOn receiver.has receiver.stands receiver.keeps m.traversal m.receiver (entries.contents m.entries) before) m.traversal unread fed messages
 
--- The machine stands there, and the bytes and the messages are counted.
-abbrev pub FollowsHolding : {R E : Type 0} {receiver : Receiving R} {entries : Ghosts E} → Machine R E receiver entries → List ℕ → Machine R E receiver entries → Type 0
-FollowsHolding old unread new = (before : List Content) (fed : List ℕ) (messages : List Content)
-    → length fed < 2 ^ 61 → Counts old.fed old.messages fed messages → StandsAt old.framing old before unread fed messages → Follows new before fed messages
-
--- the same where the stream stops at these bytes, at the instruction with this number
+-- The machine stands there, the bytes and the messages are counted, and the stream stops at these bytes, at the instruction
+-- with this number.
 abbrev pub FollowsWaiting : {R E : Type 0} {receiver : Receiving R} {entries : Ghosts E} → Machine R E receiver entries → List ℕ → ℕ → Machine R E receiver entries → Type 0
 FollowsWaiting old unread number new = (before : List Content) (fed : List ℕ) (messages : List Content)
     → length fed < 2 ^ 61 → Counts old.fed old.messages fed messages → StandsAt old.framing old before unread fed messages
@@ -88,10 +84,8 @@ FollowsAll old chunk new = (before : List Content) (fed : List ℕ) (messages : 
 
 -- up to a place in them, which is answered; a fault is behind them all
 abbrev pub FollowsTaken : {R E : Type 0} {receiver : Receiving R} {entries : Ghosts E} → Machine R E receiver entries → List ℕ → Result ℕ Fault → Machine R E receiver entries → Type 0
-FollowsTaken old chunk result new = (before : List Content) (fed : List ℕ) (messages : List Content) → Follows old before fed messages
-    → (ended : List Content)
-    × IfOk result (λ n. Follows new (before ++ ended) (fed ++ take n chunk) (messages ++ ended))
-    × IfErr result (λ f. Follows new (before ++ ended) (fed ++ chunk) (messages ++ ended))
+FollowsTaken old chunk (Ok n) new = FollowsAll old (take n chunk) new
+FollowsTaken old chunk (Err f) new = FollowsAll old chunk new
 
 -- what no call changes
 pub record IsSameStream {R E : Type 0} {receiver : Receiving R} {entries : Ghosts E} (old new : Machine R E receiver entries) : Type 0 where

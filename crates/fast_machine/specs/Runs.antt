@@ -17,14 +17,18 @@ use Rattle.fast_walk.specs.OpenSegments.{Reading}
 use Rattle.fast_walk.specs.Received.{Received}
 use Rattle.fast_walk.specs.Traversals.{Continues, stop_of}
 
--- message forms of the messages, from a dictionary, and behind them a rest of which this is so
-pub record Run (level : Level) (set : List Resolved) (origin : Dictionary) (bytes : List ℕ) (messages : List Content) (Ends : Dictionary → List ℕ → Type 0) : Type 0 where
+-- messages that stand one behind the other at the front of the bytes, from an origin, and behind them a rest of which this is so
+pub record Front {S : Type 0} (Stand : S → List ℕ → List Content → S → Type 0) (origin : S) (bytes : List ℕ) (messages : List Content) (Ends : S → List ℕ → Type 0) : Type 0 where
   pub front : List ℕ
   pub rest : List ℕ
-  pub start : Dictionary
+  pub start : S
   pub parts : bytes ≡ front ++ rest
-  pub carried : CarriesFrom level set origin front messages start
+  pub carried : Stand origin front messages start
   pub ends : Ends start rest
+
+-- as message forms, from a dictionary
+abbrev pub Run : Level → List Resolved → Dictionary → List ℕ → List Content → (Dictionary → List ℕ → Type 0) → Type 0
+Run level set origin bytes messages Ends = Front (CarriesFrom level set) origin bytes messages Ends
 
 -- a prefix of the bytes is the messages
 abbrev pub RunCarried : Level → List Resolved → Dictionary → List ℕ → List Content → Type 0

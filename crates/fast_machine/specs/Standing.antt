@@ -14,6 +14,7 @@ use Rattle.fast_stream.specs.Faults.{MessageStop}
 use Rattle.fast_walk.specs.declared.traversal.Stage.TheVariants as stage
 use Rattle.fast_walk.specs.declared.traversal.Traversal.{Traversal}
 use Rattle.fast_walk.specs.OpenSegments.{Reading}
+use Rattle.fast_machine.specs.Runs.{Front}
 pub use Rattle.fast_machine.specs.Runs.{Having, Standing, ReadsOn, Unfinished}
 
 -- a framing, at the level of a traversal
@@ -21,13 +22,11 @@ abbrev pub framed_as : Framing → Traversal → Mode
 framed_as framing t = record { level = t.level; framing = framing }
 
 -- the messages, each in its form, and behind them a rest of which this is so
-pub record Behind (mode : Mode) (set : List Resolved) (bytes : List ℕ) (messages : List Content) (Ends : Stand → List ℕ → Type 0) : Type 0 where
-  pub front : List ℕ
-  pub rest : List ℕ
-  pub start : Stand
-  pub parts : bytes ≡ front ++ rest
-  pub carried : CarriesFrom mode set at_start front messages start
-  pub ends : Ends start rest
+abbrev pub Onward : Mode → List Resolved → Stand → List ℕ → List Content → (Stand → List ℕ → Type 0) → Type 0
+Onward mode set s bytes messages Ends = Front (CarriesFrom mode set) s bytes messages Ends
+
+abbrev pub Behind : Mode → List Resolved → List ℕ → List Content → (Stand → List ℕ → Type 0) → Type 0
+Behind mode set bytes messages Ends = Onward mode set at_start bytes messages Ends
 
 -- a prefix of the bytes carries the messages
 abbrev pub Carried : Mode → List Resolved → List ℕ → List Content → Type 0

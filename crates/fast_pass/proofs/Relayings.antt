@@ -1,5 +1,6 @@
 -- Lemmas on a stream on its way through an output.
-use Rattle.std.proofs.Common.{◌≡◌, ℕ, ◌+◌, ◌-◌, min, List, [], ◌∷◌, ◌++◌, length, length-append, take, drop, append_assoc, append-nil, arith, Option, None, Ok, Err, refl, ap, sym, ◌∙◌, ◌⊎◌, inl, inr}
+use Rattle.std.proofs.Common.{◌≡◌, ◌≤◌, ℕ, ◌+◌, ◌-◌, min, List, [], ◌∷◌, ◌++◌, length, length-append, take, drop, append_assoc, append-nil, arith, Option, None, Result, Ok, Err, refl, ap, sym, ◌∙◌, ◌⊎◌, inl, inr}
+use Rattle.std.proofs.lemmas.List.{take_rest}
 use Rattle.fast_template.specs.Resolved.{Resolved}
 use Rattle.fast_template.specs.TemplateSets.{templates_in}
 use Rattle.fast_dictionary.specs.Dictionary.{Dictionary}
@@ -8,23 +9,26 @@ use Rattle.fast_decoder.specs.declared.input.Reached.{Reached}
 use Rattle.fast_decoder.specs.declared.input.Reached.TheVariants as reached
 use Rattle.fast_machine.specs.declared.machine.Machine.{Machine}
 use Rattle.fast_walk.specs.declared.receiver.Receiver.{Ghosts as Receiving}
-use Rattle.fast_decoder.specs.Inputs.{HasReached, Reader, Refuses}
+use Rattle.fast_decoder.specs.Inputs.{Reader, Reads, Refuses}
 use Rattle.fast_stream.specs.declared.fault.Fault.{Fault}
 use Rattle.fast_stream.specs.declared.mode.Mode.{Mode}
 use Rattle.fast_stream.specs.Nodes.{Content}
 use Rattle.fast_machine.specs.Calls.{FollowsTaken}
-use Rattle.fast_machine.specs.Standing.{Carried, ReadsOn}
+use Rattle.fast_machine.specs.Standing.{Carried}
 use Rattle.fast_machine.specs.Following.{Follows, mode_of}
-use Rattle.std.specs.Io.KnownBytes.{Appends, Keeps}
+use Rattle.std.specs.Io.KnownBytes.{Keeps}
 use Rattle.fast_io.specs.Counts.{counted_by}
 use Rattle.fast_io.specs.Traffic.{Taken}
 use Rattle.fast_io.proofs.Outputs.{Appends-kept, Appends-nil, Appends-trans}
-use Rattle.fast_machine.proofs.Followings.{all_carried, has_kept, slice_rest}
+use Rattle.fast_machine.proofs.Followings.{all_carried, has_kept}
 use Rattle.fast_machine.proofs.MessageEnds.{take_again}
-use Rattle.fast_machine.proofs.Standings.{carried_of}
-use Rattle.fast_pass.specs.Passed.{PassesBy, PassesFront}
-use Rattle.fast_pass.specs.Relays.{Break, GoesOn, Hands, Making, Relayed, Relays, Step, Way, farther, handing, outset}
+use Rattle.fast_machine.proofs.Runs.{carried_of}
+use Rattle.fast_pass.specs.Passed.{Passes, PassesBy, PassesFront}
+use Rattle.fast_pass.specs.Relays.{Break, HandsOn, Making, Relays, Step, Way, answer_of, farther, outset}
+use Rattle.fast_pass.specs.declared.fault.CanonFault.{CanonFault}
 use Rattle.fast_pass.specs.declared.fault.CanonFault.TheVariants as refusal
+use Rattle.fast_pass.specs.declared.stop.Stop.{Stop}
+use Rattle.fast_pass.specs.declared.stop.Stop.TheVariants as stop
 use Rattle.fast_pass.specs.declared.summary.Summary.{Summary}
 use Rattle.fast_walk.specs.Received.{handed_on}
 
@@ -45,20 +49,13 @@ taken_on {rest = rest} t ready behind parts same u = (
 
 -- ---- how many bytes were handed on
 
-counts_on : (m k x y z : ℕ) → m ≡ counted_by 0 x → k ≡ min (m + y) 18446744073709551615 → z ≡ x + y → k ≡ counted_by 0 z
-counts_on m k x y z e f same = omega (arith, e, f, same)
-
--- the bytes of one chunk more are counted
-pub counts_more : (m k y : ℕ) (handed more : List ℕ) → m ≡ counted_by 0 (length handed) → y ≡ length more → k ≡ min (m + y) 18446744073709551615 → k ≡ counted_by 0 (length (handed ++ more))
-counts_more m k y handed more before count e =
-    let size = length-append handed more in counts_on m k (length handed) y (length (handed ++ more)) before e (omega (arith, size, count))
-
--- and those that were counted apart
-counts_apart : (m k y : ℕ) (handed more : List ℕ) → m ≡ counted_by 0 (length handed) → y ≡ counted_by 0 (length more) → k ≡ min (m + y) 18446744073709551615 → k ≡ counted_by 0 (length (handed ++ more))
-counts_apart m k y handed more before apart e = of_sizes (length handed) (length more) (length (handed ++ more)) before apart e (length-append handed more)
+-- the bytes of one chunk more are counted, as many as they are or up to the greatest number that a count has
+pub counts_more : (m k y : ℕ) (handed more : List ℕ) → m ≡ counted_by 0 (length handed) → (y ≡ length more) ⊎ (y ≡ counted_by 0 (length more)) → k ≡ min (m + y) 18446744073709551615 → k ≡ counted_by 0 (length (handed ++ more))
+counts_more m k y handed more before count e = of_sizes (length handed) (length more) (length (handed ++ more)) before count e (length-append handed more)
   where
-    of_sizes : (a b c : ℕ) → m ≡ counted_by 0 a → y ≡ counted_by 0 b → k ≡ min (m + y) 18446744073709551615 → c ≡ a + b → k ≡ counted_by 0 c
-    of_sizes a b c h i j same = omega (arith, h, i, j, same)
+    of_sizes : (a b c : ℕ) → m ≡ counted_by 0 a → (y ≡ b) ⊎ (y ≡ counted_by 0 b) → k ≡ min (m + y) 18446744073709551615 → c ≡ a + b → k ≡ counted_by 0 c
+    of_sizes a b c h (inl i) j same = omega (arith, h, i, j, same)
+    of_sizes a b c h (inr i) j same = omega (arith, h, i, j, same)
 
 -- ---- what was read
 
@@ -70,7 +67,7 @@ IsMade {O = O} receiver waiting makes = (w : O) (set : List Resolved) (handed : 
 made_by : {O E : Type 0} {receiver : Receiving O} {entries : Ghosts E} (waiting : O → List ℕ) (makes : Making) → IsMade receiver waiting makes → (m : Machine O E receiver entries) (way : Way) → Follows m (handed_on way.handed ∷ way.messages) way.input way.messages
     → makes (templates_in m.traversal.set.now) way.messages (way.handed ++ waiting m.receiver)
 made_by {receiver = R} {entries = entries} waiting makes law m way f =
-    let kept = has_kept R.has R.stands R.keeps m.fault m.framing m.left m.traversal m.receiver (entries.contents m.entries) m.held.items m.waiting (handed_on way.handed ∷ way.messages) way.input way.messages f.at in
+    let kept = has_kept R.has R.stands R.keeps m.traversal m.receiver (entries.contents m.entries) (handed_on way.handed ∷ way.messages) m.fault m.framing m.left m.held.items m.waiting way.input way.messages f.at in
     law m.receiver (templates_in m.traversal.set.now) way.handed way.messages kept.0 kept.1
 
 -- a machine that follows its bytes goes on
@@ -85,9 +82,7 @@ stops {waiting = waiting} {makes = makes} law m turns left way f refuses g = rec
 
 carried_by : {O E : Type 0} {receiver : Receiving O} {entries : Ghosts E} {waiting : O → List ℕ} {makes : Making} {turns : ℕ} {left : Option (List ℕ)} (at : Reached) (m : Machine O E receiver entries) (way : Way)
     → Relays waiting makes at m turns left way → Carried (mode_of m) (templates_in m.traversal.set.now) way.input way.messages
-carried_by {receiver = R} {entries = entries} reached.Open m way r =
-    let f = rw (r.holds.unrefused) at r.holds.follows.at in
-    carried_of m.framing m.left (ReadsOn R.has R.stands R.keeps m.traversal m.receiver (entries.contents m.entries) (handed_on way.handed ∷ way.messages)) m.traversal m.held.items way.input way.messages f.0
+carried_by reached.Open m way r = let f = rw (r.holds.unrefused) at r.holds.follows.at in carried_of f.0
 carried_by reached.End m way r = all_carried (mode_of m) (templates_in m.traversal.set.now) way.input way.messages r.holds.carried
 carried_by (reached.Fault f) m way r = r.holds.carried
 
@@ -119,14 +114,14 @@ module _ {O E : Type 0} {receiver : Receiving O} {entries : Ghosts E} {waiting :
   }
 
   -- more was handed on
-  pub hands_on : {new : Machine O E receiver entries} {v : Option (List ℕ)} {more : List ℕ} {n k : ℕ} → Hands waiting makes m new u v more n → k ≡ min (size + n) 18446744073709551615
+  pub hands_on : {new : Machine O E receiver entries} {v : Option (List ℕ)} {more : List ℕ} {n k : ℕ} → HandsOn waiting makes m new u v more n → k ≡ min (size + n) 18446744073709551615
       → Step waiting makes before new turns left t v k way front B
   hands_on {more = more} {n = n} {k = k} h sum = record {
     more = s.more ++ more;
     ended = s.ended;
     relays = rw (← append_assoc way.handed s.more more) (h.relays before turns left behind s.relays);
     written = Appends-trans _ _ _ s.more more s.written h.written;
-    size_is = counts_apart size k n s.more more s.size_is h.size_is sum;
+    size_is = counts_more size k n s.more more s.size_is (inr h.size_is) sum;
     because = s.because;
   }
 
@@ -138,7 +133,7 @@ module _ {O E : Type 0} {receiver : Receiving O} {entries : Ghosts E} {waiting :
     ended = s.ended ++ r.ended;
     relays = rw (← append_assoc way.handed s.more r.more, ← append_assoc way.input front got, ← append_assoc way.messages s.ended r.ended) r.relays;
     written = Appends-trans _ _ _ s.more r.more s.written r.written;
-    size_is = counts_apart size k n s.more r.more s.size_is r.size_is sum;
+    size_is = counts_more size k n s.more r.more s.size_is (inr r.size_is) sum;
     because = because;
   }
 
@@ -170,59 +165,27 @@ pub feeds_on : {O E : Type 0} {receiver : Receiving O} {entries : Ghosts E} {wai
     → Step waiting makes reached.Open new turns left t u size way (take (k + n) bytes) B
 feeds_on {turns = turns} {left = left} law bytes k n new s none fed =
     let f = fed (handed_on (behind s).handed ∷ (behind s).messages) (behind s).input (behind s).messages s.relays.holds.follows in
-    let same = ap (λ (xs : List ℕ). take k bytes ++ take n xs) (slice_rest bytes k) ∙ take_again k n bytes in
+    let same = ap (λ (xs : List ℕ). take k bytes ++ take n xs) (take_rest bytes k) ∙ take_again k n bytes in
     reads_on s (take n (take (length bytes - k) (drop k bytes))) f.0 (goes_on law new turns left _ none f.1) s.because same
 
 -- ---- what is answered
 
-pub closed : (at : Reached) (P : Type 0) (mode : Mode) (set : List Resolved) (turns : ℕ) (left : Option (List ℕ)) (input : List ℕ) (messages : List Content) → (at ≡ reached.End) ⊎ ((f : Fault) × (at ≡ reached.Fault f))
-    → HasReached at P mode set turns left input messages → HasReached at ⊥ mode set turns left input messages
-closed reached.Open P mode set turns left input messages (inl e) h = absurd cc
-closed reached.Open P mode set turns left input messages (inr (f, e)) h = absurd cc
-closed reached.End P mode set turns left input messages other h = h
-closed (reached.Fault f) P mode set turns left input messages other h = h
-
 abbrev pub summary_by : ℕ → ℕ → ℕ → Summary
 summary_by m r w = record { messages = m; read = r; written = w }
-
-summary_is : (m n r s w x : ℕ) → m ≡ n → r ≡ s → w ≡ x → summary_by m r w ≡ summary_by n s x
-summary_is m n r s w x a b c = rw (a, b, c) refl
 
 -- what was written before the relay was kept from going on
 pub front_of : {makes : Making} {mode : Mode} {set : List Resolved} {t u : Option (List ℕ)} {input : List ℕ} → Break makes mode set t u outset input → PassesFront makes mode set t u input
 front_of b = record { messages = b.ended; front = b.more; rest = b.rest; carried = b.carried; made = b.made; written = b.written }
 
+-- whatever kept it from going on
+pub broke_off : {O E : Type 0} {receiver : Receiving O} {entries : Ghosts E} {makes : Making} {mode : Mode} {set : List Resolved} (turns : ℕ) {a b : Reader} {t u : Option (List ℕ)} (m : Machine O E receiver entries) (s : Stop) (count : ℕ) {input : List ℕ}
+    → Reads a b count input → count ≤ turns → PassesFront makes mode set t u input → PassesBy makes mode set turns a b t u (answer_of (Err s) m)
+broke_off turns m stop.Write count {input = input} reads few front = (count, input, reads, few, front, tt)
+broke_off turns m stop.Memory count {input = input} reads few front = (count, input, reads, few, front, tt)
+
 -- a flush behind a relay keeps what was written
-module _ {O E : Type 0} {receiver : Receiving O} {entries : Ghosts E} {makes : Making} {mode : Mode} {set : List Resolved} {m : Machine O E receiver entries} {turns : ℕ} {old new : Reader} {t u v : Option (List ℕ)} {size : ℕ} where
-  pub passes_front : {at : Reached} → Relayed makes mode set at m turns old new t u size → Keeps u v → PassesBy makes mode set turns old new t v (Err refusal.Write)
-  passes_front {at = at} r kept = (
-    r.count,
-    r.way.input,
-    r.reads,
-    r.bounded,
-    record { messages = r.way.messages; front = r.way.handed; rest = []; carried = carried at r.holds; made = rw (append-nil r.way.handed) r.made; written = Appends-kept _ _ _ r.way.handed r.written kept },
-    tt,
-  )
-    where
-      carried : (at : Reached) → HasReached at ⊥ mode set turns new.left r.way.input r.way.messages → Carried mode set r.way.input r.way.messages
-      carried reached.Open h = absurd h
-      carried reached.End h = all_carried mode set r.way.input r.way.messages h.carried
-      carried (reached.Fault f) h = h.carried
-
-  pub passes_before : {f : Fault} → Relayed makes mode set (reached.Fault f) m turns old new t u size → Keeps u v → PassesBy makes mode set turns old new t v (Err (refusal.Stream f))
-  passes_before r kept =
-      (r.count, r.way.input, r.reads, r.bounded, record { messages = r.way.messages; out = r.way.handed; refuses = r.holds; made = r.made; written = Appends-kept _ _ _ r.way.handed r.written kept }, r.caused)
-
-  pub passes_all : (at : Reached) → (at ≡ reached.End) ⊎ (at ≡ reached.Open) → Relayed makes mode set at m turns old new t u size → Keeps u v → PassesBy makes mode set turns old new t v (Ok (summary_by m.messages m.fed size))
-  passes_all reached.Open is r kept = absurd r.holds
-  passes_all reached.End is r kept =
-      let k = r.counts refl in (
-        r.count,
-        r.way.input,
-        r.reads,
-        r.bounded,
-        record { messages = r.way.messages; out = r.way.handed; ends = r.holds; made = r.made; written = Appends-kept _ _ _ r.way.handed r.written kept; counts = summary_is _ _ _ _ _ _ k.count_is k.fed_is r.size_is },
-        r.caused,
-      )
-  passes_all (reached.Fault f) (inl e) r kept = absurd cc
-  passes_all (reached.Fault f) (inr e) r kept = absurd cc
+pub passes_front : {makes : Making} {mode : Mode} {set : List Resolved} (turns : ℕ) (left u : Option (List ℕ)) {t v : Option (List ℕ)} {input : List ℕ} (r : Result Summary CanonFault) → Keeps u v → Passes makes mode set turns left t u input r → PassesFront makes mode set t v input
+passes_front {mode = mode} {set = set} turns left u {input = input} (Ok s) kept p =
+    record { messages = p.messages; front = p.out; rest = []; carried = all_carried mode set input p.messages p.ends.carried; made = rw (append-nil p.out) p.made; written = Appends-kept _ _ _ p.out p.written kept }
+passes_front turns left u (Err (refusal.Stream f)) kept p = record { messages = p.messages; front = p.out; rest = []; carried = p.refuses.carried; made = rw (append-nil p.out) p.made; written = Appends-kept _ _ _ p.out p.written kept }
+passes_front turns left u (Err f) kept p = record { messages = p.messages; front = p.front; rest = p.rest; carried = p.carried; made = p.made; written = Appends-kept _ _ _ p.front p.written kept }

@@ -1,7 +1,8 @@
 -- How a stream on its way through an output stands to the bytes read and to the bytes handed on.
-use Rattle.std.specs.Prelude.{◌≡◌, ◌≢◌, ◌≤◌, ℕ, List, [], ◌∷◌, ◌++◌, length, Option, None, Result, Ok, Err}
+use Rattle.std.specs.Prelude.{◌≡◌, ◌≢◌, ℕ, List, [], ◌∷◌, ◌++◌, length, Option, Some, None, Result, Ok, Err, MatchResult}
 use Rattle.std.specs.Io.KnownBytes.{Appends}
 use Rattle.fast_io.specs.Counts.{counted, counted_by}
+use Rattle.fast_io.specs.Traffic.{Taken}
 use Rattle.fast_template.specs.Resolved.{Resolved}
 use Rattle.fast_template.specs.TemplateSets.{templates_in}
 use Rattle.fast_dictionary.specs.declared.entries.Entries.{Ghosts}
@@ -10,14 +11,19 @@ use Rattle.fast_decoder.specs.declared.input.Reached.TheVariants as reached
 use Rattle.fast_machine.specs.declared.machine.Machine.{Machine}
 use Rattle.fast_walk.specs.declared.receiver.Receiver.{Ghosts as Receiving}
 use Rattle.fast_stream.specs.Nodes.{Content}
+use Rattle.fast_stream.specs.declared.fault.Fault.{Fault}
 use Rattle.fast_stream.specs.declared.fault.Cause.TheVariants.{Read, Truncated, Turns}
 use Rattle.fast_stream.specs.declared.mode.Mode.{Mode}
+use Rattle.fast_machine.specs.Calls.{IsSameStream}
 use Rattle.fast_machine.specs.Following.{Counts, Follows, mode_of}
-use Rattle.fast_decoder.specs.Inputs.{HasReached, IsCaused, OnFault, Reader, Reads}
+use Rattle.fast_decoder.specs.Inputs.{HasReached, OnFault}
 use Rattle.fast_machine.specs.Standing.{Carried}
 use Rattle.fast_walk.specs.Received.{handed_on}
+use Rattle.fast_pass.specs.declared.fault.CanonFault.{CanonFault}
+use Rattle.fast_pass.specs.declared.fault.CanonFault.TheVariants as refusal
 use Rattle.fast_pass.specs.declared.stop.Stop.{Stop}
 use Rattle.fast_pass.specs.declared.stop.Stop.TheVariants as stop
+use Rattle.fast_pass.specs.declared.summary.Summary.{Summary}
 
 -- what an output makes of messages of a set
 abbrev pub Making : Type 1
@@ -52,20 +58,6 @@ pub record Relays {O E : Type 0} {receiver : Receiving O} {entries : Ghosts E} (
   pub made : makes (templates_in m.traversal.set.now) way.messages (way.handed ++ waiting m.receiver)
   pub counts : at ≡ reached.End → Counts m.fed m.messages way.input way.messages
 
--- A stream of this mode and set was read to its end, to a fault or as often as asked for, in no more reads than that, and
--- all that was made of it was handed on.
-pub record Relayed {O E : Type 0} {receiver : Receiving O} {entries : Ghosts E} (makes : Making) (mode : Mode) (set : List Resolved) (at : Reached) (m : Machine O E receiver entries) (turns : ℕ) (old new : Reader) (taken_old taken_new : Option (List ℕ)) (size : ℕ) : Type 0 where
-  pub count : ℕ
-  pub way : Way
-  pub reads : Reads old new count way.input
-  pub bounded : count ≤ turns
-  pub written : Appends taken_old taken_new way.handed
-  pub holds : HasReached at ⊥ mode set turns new.left way.input way.messages
-  pub made : makes set way.messages way.handed
-  pub counts : at ≡ reached.End → Counts m.fed m.messages way.input way.messages
-  pub size_is : size ≡ counted_by 0 (length way.handed)
-  pub caused : IsCaused at (count ≡ turns) old new
-
 -- ---- a step
 
 -- Behind a way these bytes more were read, and this is so; and more was handed on, of this size.
@@ -76,11 +68,6 @@ pub record Step {O E : Type 0} {receiver : Receiving O} {entries : Ghosts E} (wa
   pub written : Appends taken_old taken_new more
   pub size_is : size ≡ counted_by 0 (length more)
   pub because : Because
-
--- and from a machine that goes on, wherever its stream is
-abbrev pub Steps : {O E : Type 0} {receiver : Receiving O} {entries : Ghosts E} → (O → List ℕ) → Making → Reached → Machine O E receiver entries → Machine O E receiver entries → Option (List ℕ) → Option (List ℕ) → Option (List ℕ) → Option (List ℕ) → ℕ → List ℕ → Type 0 → Type 0
-Steps waiting makes at old new left later taken_old taken_new size got Because =
-    (turns : ℕ) (way : Way) → Relays waiting makes reached.Open old turns left way → Step waiting makes at new turns later taken_old taken_new size way got Because
 
 -- the bytes of one read end no stream, and are refused for what they are
 abbrev pub IsOfBytes : Reached → Type 0
@@ -95,33 +82,44 @@ pub record Break (makes : Making) (mode : Mode) (set : List Resolved) (taken_old
   pub made : makes set (way.messages ++ ended) ((way.handed ++ more) ++ rest)
   pub written : Appends taken_old taken_new more
 
--- and from a machine that goes on, wherever its stream is
-abbrev pub BreaksOff : {O E : Type 0} {receiver : Receiving O} {entries : Ghosts E} → (O → List ℕ) → Making → Machine O E receiver entries → Machine O E receiver entries → Option (List ℕ) → Option (List ℕ) → Option (List ℕ) → List ℕ → Type 0
-BreaksOff waiting makes old new left taken_old taken_new got =
-    (turns : ℕ) (way : Way) → Relays waiting makes reached.Open old turns left way → Break makes (mode_of new) (templates_in new.traversal.set.now) taken_old taken_new way got
+-- What comes of these bytes, from a machine that goes on, wherever its stream is: a step to what is reached, for which there
+-- is a cause, or a break.
+abbrev pub Goes : {O E : Type 0} {receiver : Receiving O} {entries : Ghosts E} → (O → List ℕ) → Making → Result (Reached × ℕ) Stop → Machine O E receiver entries → Machine O E receiver entries → Option (List ℕ) → Option (List ℕ) → Option (List ℕ) → Option (List ℕ) → List ℕ → (Reached → Type 0) → Type 0
+Goes waiting makes result old new left later taken_old taken_new got Because = MatchResult result
+    (λ x. (turns : ℕ) (way : Way) → Relays waiting makes reached.Open old turns left way → Step waiting makes x.0 new turns later taken_old taken_new x.1 way got (Because x.0))
+    (λ s. (turns : ℕ) (way : Way) → Relays waiting makes reached.Open old turns left way → Break makes (mode_of new) (templates_in new.traversal.set.now) taken_old taken_new way got)
 
 -- ---- what is handed on
 
 -- These bytes of an output, of this size, are handed on, wherever the stream is.
-pub record Hands {O E : Type 0} {receiver : Receiving O} {entries : Ghosts E} (waiting : O → List ℕ) (makes : Making) (old new : Machine O E receiver entries) (taken_old taken_new : Option (List ℕ)) (more : List ℕ) (size : ℕ) : Type 0 where
+pub record HandsOn {O E : Type 0} {receiver : Receiving O} {entries : Ghosts E} (waiting : O → List ℕ) (makes : Making) (old new : Machine O E receiver entries) (taken_old taken_new : Option (List ℕ)) (more : List ℕ) (size : ℕ) : Type 0 where
   pub written : Appends taken_old taken_new more
   pub size_is : size ≡ counted_by 0 (length more)
   pub relays : (at : Reached) (turns : ℕ) (left : Option (List ℕ)) (way : Way) → Relays waiting makes at old turns left way → Relays waiting makes at new turns left (handing way more)
 
+-- some are, or a front of what waits
+abbrev pub Hands : {O E : Type 0} {receiver : Receiving O} {entries : Ghosts E} → (O → List ℕ) → Making → Result ℕ Stop → Machine O E receiver entries → Machine O E receiver entries → Option (List ℕ) → Option (List ℕ) → Type 0
+Hands waiting makes (Ok size) old new taken_old taken_new = (more : List ℕ) × HandsOn waiting makes old new taken_old taken_new more size
+Hands waiting makes (Err s) old new taken_old taken_new = (rest : List ℕ) × Taken taken_old taken_new (waiting old.receiver) rest
+
 -- nothing was read, and no fault is new
 pub record StandsStill {O E : Type 0} {receiver : Receiving O} {entries : Ghosts E} (old new : Machine O E receiver entries) : Type 0 where
   pub fault : new.fault ≡ old.fault
-  pub traversal : new.traversal ≡ old.traversal
-  pub mode : mode_of new ≡ mode_of old
+  pub same : IsSameStream old new
   pub fed : new.fed ≡ old.fed
+
+-- ---- what is answered
+
+-- a stream that was read to its end, of which so many bytes were handed on, or to a fault, or what kept its relay from going on
+abbrev pub answer_of : {O E : Type 0} {receiver : Receiving O} {entries : Ghosts E} → Result (Option Fault × ℕ) Stop → Machine O E receiver entries → Result Summary CanonFault
+answer_of (Ok (None, size)) m = Ok (record { messages = m.messages; read = m.fed; written = size })
+answer_of (Ok (Some fault, size)) m = Err (refusal.Stream fault)
+answer_of (Err stop.Write) m = Err refusal.Write
+answer_of (Err stop.Memory) m = Err refusal.Memory
 
 -- ---- the calls of the writer
 
 -- a call of the writer failed where a failed write keeps the relay from going on, and only there
-abbrev pub errors_at : Stop → ℕ → ℕ
-errors_at stop.Write old = counted old
-errors_at stop.Memory old = old
-
 abbrev pub errors_behind : {T : Type 0} → Result T Stop → ℕ → ℕ
-errors_behind (Ok x) old = old
-errors_behind (Err s) old = errors_at s old
+errors_behind (Err stop.Write) old = counted old
+errors_behind r old = old

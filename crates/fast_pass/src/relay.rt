@@ -1,14 +1,14 @@
 //! Streams on their way through an output: what it makes of the messages of one is handed on.
 
-ghost use Rattle.std.specs.Prelude.{◌≡◌, ◌≢◌, ◌≤◌, ◌<◌, ◌+◌, ◌∷◌, ◌^◌, [], true, false, ℕ, List, Option, OnOk, IfOk, MatchResult, None, length};
+ghost use Rattle.std.specs.Prelude.{◌≡◌, ◌≤◌, ◌<◌, ◌+◌, ◌∷◌, ◌^◌, [], ℕ, List, Option, OnOk, None, length};
 ghost use Rattle.std.specs.FinMap as finite;
-ghost use Rattle.fast_io.specs.Traffic.{Taken};
 ghost use Rattle.fast_template.specs.TemplateSets.{IsSound, templates_in};
 ghost use Rattle.fast_walk.specs.Received.{handed_on};
 ghost use Rattle.fast_decoder.specs.Inputs.{IsCaused, Reads, reader_by};
 ghost use Rattle.fast_decoder.specs.declared.input.Reached.TheVariants as reached;
 ghost use Rattle.fast_pass.specs.Passed.{FlushesOnce, PassesBy, errors_after};
-ghost use Rattle.fast_pass.specs.Relays.{BreaksOff, Hands, IsOfBytes, Relayed, Relays, StandsStill, Steps, errors_behind, outset};
+ghost use Rattle.fast_pass.specs.Relays.{Goes, Hands, IsOfBytes, Relays, StandsStill, answer_of, errors_behind, outset};
+ghost use Rattle.fast_machine.specs.Calls.{IsSameStream};
 ghost use Rattle.fast_machine.specs.Following.{mode_of};
 
 use crate::fault::CanonFault;
@@ -18,7 +18,7 @@ use fast_decoder::Reached;
 use fast_dictionary::{Entries, SlotEntries};
 use fast_io::{ByteInput, ByteOutput, Failed, push_all};
 use fast_machine::Machine;
-use fast_stream::{Cause, Mode};
+use fast_stream::{Cause, Fault, Mode};
 use fast_template::TemplateSet;
 use fast_walk::Output;
 use std::alloc::Global;
@@ -35,10 +35,8 @@ fn hand_on<O: Output, W: ByteOutput, E: Entries>(
     alloc: Global,
     writer: &mut W,
 ) -> Result<u64, Stop>
-    ensures hands { MatchResult result
-        (λ n. Hands O.waiting O.makes machine.old machine.new (W.taken writer.old) (W.taken writer.new)
-        (O.waiting machine.old.receiver) n × (O.waiting machine.new.receiver ≡ []))
-        (λ s. (rest : List ℕ) × Taken (W.taken writer.old) (W.taken writer.new) (O.waiting machine.old.receiver) rest) }
+    ensures hands { Hands O.waiting O.makes result machine.old machine.new (W.taken writer.old) (W.taken writer.new) }
+    ensures empty { OnOk result (O.waiting machine.new.receiver ≡ []) }
     ensures failed { W.errors writer.new ≡ errors_behind result (W.errors writer.old) }
     ensures flushes { W.flushes writer.new ≡ W.flushes writer.old }
     ensures still { StandsStill machine.old machine.new }
@@ -66,10 +64,7 @@ fn hand_on_many<O: Output, W: ByteOutput, E: Entries>(
     alloc: Global,
     writer: &mut W,
 ) -> Result<u64, Stop>
-    ensures hands { MatchResult result
-        (λ n. (more : List ℕ) × Hands O.waiting O.makes machine.old machine.new (W.taken writer.old)
-        (W.taken writer.new) more n)
-        (λ s. (rest : List ℕ) × Taken (W.taken writer.old) (W.taken writer.new) (O.waiting machine.old.receiver) rest) }
+    ensures hands { Hands O.waiting O.makes result machine.old machine.new (W.taken writer.old) (W.taken writer.new) }
     ensures failed { W.errors writer.new ≡ errors_behind result (W.errors writer.old) }
     ensures flushes { W.flushes writer.new ≡ W.flushes writer.old }
     ensures still { StandsStill machine.old machine.new }
@@ -90,17 +85,11 @@ fn take_in<O: Output, W: ByteOutput, E: Entries>(
 ) -> Result<(Reached, u64), Stop>
     requires fault { machine.now.fault ≡ None }
     requires room { machine.now.fed + length bytes.now ≤ 2 ^ 60 }
-    ensures takes { (left : Option (List ℕ)) → MatchResult result
-        (λ x. Steps O.waiting O.makes x.0 machine.old machine.new left left (W.taken writer.old)
-        (W.taken writer.new) x.1 bytes.now (IsOfBytes x.0))
-        (λ s. BreaksOff O.waiting O.makes machine.old machine.new left (W.taken writer.old) (W.taken writer.new)
-        bytes.now) }
-    ensures open { IfOk result (λ x. x.0 ≡ reached.Open → machine.new.fault ≡ None) }
+    ensures takes { (left later : Option (List ℕ)) → Goes O.waiting O.makes result machine.old machine.new left later
+        (W.taken writer.old) (W.taken writer.new) bytes.now IsOfBytes }
     ensures failed { W.errors writer.new ≡ errors_behind result (W.errors writer.old) }
     ensures flushes { W.flushes writer.new ≡ W.flushes writer.old }
-    ensures set { machine.new.traversal.set ≡ machine.old.traversal.set }
-    ensures mode { mode_of machine.new ≡ mode_of machine.old }
-    ensures fed { machine.new.fed ≤ machine.old.fed + length bytes.now }
+    ensures same { IsSameStream machine.old machine.new }
 {
     let mut at = 0;
     let mut written = 0u64;
@@ -127,20 +116,14 @@ fn read_on<O: Output, R: ByteInput, W: ByteOutput, E: Entries>(
     ensures read { (got : List ℕ)
         × Reads (reader_by R.left R.calls R.errors R.ends reader.old)
         (reader_by R.left R.calls R.errors R.ends reader.new) 1 got
-        × MatchResult result
-        (λ x. (x.0 ≡ reached.Open → 0 < length got)
-        × Steps O.waiting O.makes x.0 machine.old machine.new (R.left reader.old) (R.left reader.new)
-        (W.taken writer.old) (W.taken writer.new) x.1 got
-        (IsCaused x.0 ⊥ (reader_by R.left R.calls R.errors R.ends reader.old)
-        (reader_by R.left R.calls R.errors R.ends reader.new)))
-        (λ s. BreaksOff O.waiting O.makes machine.old machine.new (R.left reader.old) (W.taken writer.old)
-        (W.taken writer.new) got) }
-    ensures open { IfOk result (λ x. x.0 ≡ reached.Open → machine.new.fault ≡ None) }
+        × Goes O.waiting O.makes result machine.old machine.new (R.left reader.old) (R.left reader.new)
+        (W.taken writer.old) (W.taken writer.new) got
+        (λ at. (at ≡ reached.Open → 0 < length got)
+        × IsCaused at ⊥ (reader_by R.left R.calls R.errors R.ends reader.old)
+        (reader_by R.left R.calls R.errors R.ends reader.new)) }
     ensures failed { W.errors writer.new ≡ errors_behind result (W.errors writer.old) }
     ensures flushes { W.flushes writer.new ≡ W.flushes writer.old }
-    ensures set { machine.new.traversal.set ≡ machine.old.traversal.set }
-    ensures mode { mode_of machine.new ≡ mode_of machine.old }
-    ensures fed { machine.new.fed ≤ machine.old.fed + CHUNK }
+    ensures same { IsSameStream machine.old machine.new }
 {
     match reader.pull(chunk) {
         Ok(0) => match machine.finish() {
@@ -152,59 +135,41 @@ fn read_on<O: Output, R: ByteInput, W: ByteOutput, E: Entries>(
     }
 }
 
-fn is_open(reached: Reached) -> bool
-    ensures yes { result ≡ true → reached ≡ Reached.Open }
-    ensures no { result ≡ false → reached ≢ Reached.Open }
-{
-    match reached {
-        Reached::Open => true,
-        Reached::End | Reached::Fault(_) => false,
-    }
-}
-
-/// Reads to the end, the first fault or the last of the reads, and hands on what is made of each chunk; answers which
-/// of them it was, and how many bytes were handed on.
+/// Reads to the end, the first fault or the last of the reads, and hands on what is made of each chunk; answers the
+/// fault, if it is one, and how many bytes were handed on.
 fn relay<O: Output, R: ByteInput, W: ByteOutput, E: Entries>(
     machine: &mut Machine<'_, O, E>,
     alloc: Global,
     reader: &mut R,
     writer: &mut W,
     turns: u64,
-) -> Result<(Reached, u64), Stop>
+) -> Result<(Option<Fault>, u64), Stop>
     requires turns { turns ≤ 2 ^ 40 }
-    requires fed { machine.now.fed ≡ 0 }
-    requires fault { machine.now.fault ≡ None }
     requires empty { O.waiting machine.now.receiver ≡ [] }
-    ensures relayed { Relays O.waiting O.makes reached.Open machine.old turns (R.left reader.old) outset
-        → MatchResult result
-        (λ x. Relayed O.makes (mode_of machine.new) (templates_in machine.new.traversal.set.now) x.0 machine.new turns
-        (reader_by R.left R.calls R.errors R.ends reader.old)
-        (reader_by R.left R.calls R.errors R.ends reader.new) (W.taken writer.old) (W.taken writer.new) x.1)
-        (λ s. PassesBy O.makes (mode_of machine.new) (templates_in machine.new.traversal.set.now) turns
+    requires relays { Relays O.waiting O.makes reached.Open machine.now turns (R.left reader.now) outset }
+    ensures answer { PassesBy O.makes (mode_of machine.old) (templates_in machine.old.traversal.set.now) turns
         (reader_by R.left R.calls R.errors R.ends reader.old)
         (reader_by R.left R.calls R.errors R.ends reader.new) (W.taken writer.old) (W.taken writer.new)
-        (Err CanonFault.Write)) }
+        (answer_of result machine.new) }
     ensures failed { W.errors writer.new ≡ errors_behind result (W.errors writer.old) }
     ensures flushes { W.flushes writer.new ≡ W.flushes writer.old }
-    ensures set { machine.new.traversal.set ≡ machine.old.traversal.set }
-    ensures mode { mode_of machine.new ≡ mode_of machine.old }
 {
-    let mut reached = Reached::Open;
     let mut reads = 0;
     let mut written = 0u64;
     // (one for all reads, since to make one anew is to fill it)
     let mut chunk = [0u8; CHUNK];
-    'reads: while is_open(reached) && reads < turns {
+    'reads: while reads < turns {
         let (came, count) = read_on(machine, alloc, reader, writer, &mut chunk)?;
-        reached = came;
         written = written.saturating_add(count);
         reads += 1;
         written = written.saturating_add(hand_on(machine, alloc, writer)?);
+        match came {
+            Reached::Open => {}
+            Reached::End => return Ok((None, written)),
+            Reached::Fault(fault) => return Ok((Some(fault), written)),
+        }
     }
-    match reached {
-        Reached::Open => Ok((Reached::Fault(machine.cut(Cause::Turns)), written)),
-        Reached::End | Reached::Fault(_) => Ok((reached, written)),
-    }
+    Ok((Some(machine.cut(Cause::Turns)), written))
 }
 
 /// Passes a stream through a machine that has read nothing, to its end, the first fault or the last of the reads, and
@@ -217,8 +182,6 @@ fn pass_by<O: Output, R: ByteInput, W: ByteOutput, E: Entries>(
     turns: u64,
 ) -> Result<Summary, CanonFault>
     requires turns { turns ≤ 2 ^ 40 }
-    requires fed { machine.now.fed ≡ 0 }
-    requires fault { machine.now.fault ≡ None }
     requires empty { O.waiting machine.now.receiver ≡ [] }
     requires relays { Relays O.waiting O.makes reached.Open machine.now turns (R.left reader.now) outset }
     ensures answer { PassesBy O.makes (mode_of machine.old) (templates_in machine.old.traversal.set.now) turns
@@ -230,16 +193,16 @@ fn pass_by<O: Output, R: ByteInput, W: ByteOutput, E: Entries>(
     match relay(machine, alloc, reader, writer, turns) {
         Err(Stop::Write) => Err(CanonFault::Write),
         Err(Stop::Memory) => Err(CanonFault::Memory),
-        Ok((reached, written)) => match writer.flush() {
+        Ok((fault, written)) => match writer.flush() {
             Err(_) => Err(CanonFault::Write),
-            Ok(()) => match reached {
-                Reached::Fault(fault) => {
+            Ok(()) => match fault {
+                Some(fault) => {
                     if machine.receiver_refused() {
                         return Err(CanonFault::Memory);
                     }
                     Err(CanonFault::Stream(fault))
                 }
-                Reached::End | Reached::Open => Ok(Summary {
+                None => Ok(Summary {
                     messages: machine.messages(),
                     read: machine.fed(),
                     written,

@@ -9,7 +9,7 @@ ghost use Rattle.fast_stream.specs.Modes.{Carries};
 ghost use Rattle.fast_walk.specs.declared.traversal.Stage.TheVariants as stage;
 ghost use Rattle.fast_walk.specs.Lacks.{AreUnstopped, Lacks};
 ghost use Rattle.fast_walk.specs.Traversals.{CanGoOn, ServesAll, begun_of};
-ghost use Rattle.fast_machine.specs.Calls.{AnswersNone, FollowsAll, FollowsHolding, FollowsOn, FollowsTaken, FollowsWaiting, HoldsNothing, IsBehind, IsFault, IsFaultOf, IsSameStream, KeepsFault, ReadsNext, StandsAt, StaysAt, StillFollows};
+ghost use Rattle.fast_machine.specs.Calls.{AnswersNone, FollowsAll, FollowsOn, FollowsTaken, FollowsWaiting, HoldsNothing, IsBehind, IsFault, IsFaultOf, IsSameStream, KeepsFault, ReadsNext, StandsAt, StaysAt, StillFollows};
 ghost use Rattle.fast_machine.specs.Following.{Counts, IsHeld};
 ghost use Rattle.fast_machine.specs.Runs.{Retains};
 
@@ -25,13 +25,6 @@ use std::mem;
 
 /// The most bytes that are held.
 const HELD_LIMIT: usize = 65_554;
-
-// So many more; the count stops at the greatest number.
-fn counted(count: u64, more: u64) -> u64
-    ensures { count + more < 2 ^ 62 → result ≡ count + more }
-{
-    count.saturating_add(more)
-}
 
 // A fault of a piece of which so many of the bytes fed are left, in the message behind so many.
 fn fault_at(
@@ -294,31 +287,13 @@ impl<'a, R: Receiver, E: Entries> Machine<'a, R, E> {
         fits && !(self.until_stop && has_stop(chunk))
     }
 
-    // Holds these bytes too, of a piece that lacks more than these: its end stays where it is known to be.
-    #[tactic(auto, using(crate::proofs::Ends::long_behind))]
-    #[inline(always)]
-    fn hold_as_known(&mut self, chunk: &[u8]) -> Result<(), AllocError>
-        requires fault { self.now.fault ≡ None }
-        requires few { length (self.now.held.items ++ chunk.now) < self.now.end }
-        requires unstopped { self.now.until_stop ≡ true → AreUnstopped chunk.now }
-        requires room { self.now.framing ≡ Framing.Blocks
-            → length (self.now.held.items ++ chunk.now) < self.now.left }
-        ensures follows { OnOk result (FollowsHolding self.old (self.old.held.items ++ chunk.now) self.new) }
-        ensures held { OnErr result (self.new.held.items ≡ self.old.held.items) }
-        ensures fault { self.new.fault ≡ None }
-        ensures receiver { self.new.receiver ≡ self.old.receiver }
-        ensures stays { StaysAt self.old self.new }
-    {
-        append(&mut self.held, chunk)?;
-        Ok(())
-    }
-
     /// Takes the next bytes of the stream, where the piece lacks more than these (`lacks_more`): they are held, and nothing
     /// is read.
     ///
     /// # Errors
     ///
     /// As `feed`: memory for them was refused.
+    #[tactic(auto, using(crate::proofs::Ends::long_behind))]
     #[inline(always)]
     pub fn hold_on(&mut self, chunk: &[u8]) -> Result<(), Fault>
         requires fault { self.now.fault ≡ None }
@@ -336,26 +311,10 @@ impl<'a, R: Receiver, E: Entries> Machine<'a, R, E> {
         ensures fed { self.new.fed ≡ self.old.fed + length chunk.now }
     {
         self.fed += chunk.len() as u64;
-        match self.hold_as_known(chunk) {
+        // (the piece's end stays where it is known to be)
+        match append(&mut self.held, chunk) {
             Err(_) => Err(self.refuse()),
             Ok(()) => Ok(()),
-        }
-    }
-
-    // What the piece lacks that begins with these bytes, which do not end its first entity.
-    #[inline(always)]
-    fn opening_lacking(&self, chunk: &[u8]) -> Option<Lack>
-        requires held { self.now.held.items ≡ [] }
-        requires unstopped { AreUnstopped chunk.now }
-        ensures { IfSome result (Lacks self.now.traversal (E.contents self.now.entries) chunk.now) }
-    {
-        match self.traversal.opening() {
-            Some(lack) if chunk.len() <= lack.most => Some(Lack {
-                most: lack.most - chunk.len(),
-                number: lack.number,
-                until_stop: true,
-            }),
-            _ => None,
         }
     }
 
@@ -384,34 +343,21 @@ impl<'a, R: Receiver, E: Entries> Machine<'a, R, E> {
         if !fits {
             return None;
         }
+        // (where these bytes do not end its first entity)
         if !has_stop(chunk) {
-            return self.opening_lacking(chunk);
+            return match self.traversal.opening() {
+                Some(lack) if count <= lack.most => Some(Lack {
+                    most: lack.most - count,
+                    number: lack.number,
+                    until_stop: true,
+                }),
+                _ => None,
+            };
         }
         match chunk {
             [_] => self.traversal.lack_of_rest(&self.entries, chunk),
             _ => None,
         }
-    }
-
-    // Holds these bytes too, behind which the piece that is not whole still lacks some.
-    #[inline(always)]
-    fn hold_more(&mut self, lack: Lack, chunk: &[u8]) -> Result<(), AllocError>
-        requires fault { self.now.fault ≡ None }
-        requires lacks { Lacks self.now.traversal (E.contents self.now.entries) (self.now.held.items ++ chunk.now) lack }
-        requires few { length (self.now.held.items ++ chunk.now) ≤ 65554 }
-        requires room { self.now.framing ≡ Framing.Blocks
-            → length (self.now.held.items ++ chunk.now) < self.now.left }
-        ensures follows { OnOk result (FollowsHolding self.old (self.old.held.items ++ chunk.now) self.new) }
-        ensures held { OnErr result (self.new.held.items ≡ self.old.held.items) }
-        ensures fault { self.new.fault ≡ None }
-        ensures receiver { self.new.receiver ≡ self.old.receiver }
-        ensures stays { StaysAt self.old self.new }
-    {
-        self.end = 0;
-        append(&mut self.held, chunk)?;
-        self.waiting = lack.number;
-        self.know(lack);
-        Ok(())
     }
 
     /// Takes the next bytes of the stream, behind which the piece that is not whole still lacks some, as `first_lacking`
@@ -437,9 +383,14 @@ impl<'a, R: Receiver, E: Entries> Machine<'a, R, E> {
         ensures fed { self.new.fed ≡ self.old.fed + length chunk.now }
     {
         self.fed += chunk.len() as u64;
-        match self.hold_more(lack, chunk) {
+        self.end = 0;
+        match append(&mut self.held, chunk) {
             Err(_) => Err(self.refuse()),
-            Ok(()) => Ok(()),
+            Ok(()) => {
+                self.waiting = lack.number;
+                self.know(lack);
+                Ok(())
+            }
         }
     }
 
@@ -462,7 +413,7 @@ impl<'a, R: Receiver, E: Entries> Machine<'a, R, E> {
             &mut self.entries,
             bytes,
         );
-        self.messages = counted(self.messages, progress.messages);
+        self.messages = self.messages.saturating_add(progress.messages);
         let rest = &bytes[progress.at..];
         let template = self.traversal.template();
         match progress.halt {
@@ -479,26 +430,6 @@ impl<'a, R: Receiver, E: Entries> Machine<'a, R, E> {
         }
     }
 
-    // Stops at the size of a block, with which the bytes begin: holds it where it is not whole, or keeps its fault.
-    fn stop_at_size(&mut self, cause: Cause, bytes: &[u8]) -> Result<Option<usize>, Fault>
-        requires nothing { HoldsNothing self.now }
-        requires framing { self.now.framing ≡ Framing.Blocks }
-        requires few { cause ≡ Cause.Truncated → length bytes.now ≤ 9 }
-        requires outside { self.now.left ≡ 0 }
-        requires some { (0 < length bytes.now) ⊎ (begun_of self.now.traversal ≡ 1) }
-        requires stops { size_at self.now.traversal.level bytes.now ≡ Err cause }
-        ensures reads { ReadsNext Framing.Blocks self.old bytes.now result self.new }
-        ensures answer { AnswersNone result self.new.fault }
-        ensures same { IsSameStream self.old self.new }
-        ensures fed { self.new.fed ≡ self.old.fed }
-    {
-        self.traversal.set_is_sound();
-        match cause {
-            Cause::Truncated => self.hold(0, bytes),
-            _ => Err(self.keep(cause, 0, bytes.len())),
-        }
-    }
-
     // Reads on in the block that the bytes go on with, or begin with, to the end of its next message at most, and answers
     // the place behind it; none where they are all read or held.
     fn read_block(&mut self, bytes: &[u8]) -> Result<Option<usize>, Fault>
@@ -512,7 +443,14 @@ impl<'a, R: Receiver, E: Entries> Machine<'a, R, E> {
     {
         let (left, at) = match open_block(self.traversal.level(), self.left, bytes) {
             Ok(opened) => opened,
-            Err(cause) => return self.stop_at_size(cause, bytes),
+            // the size stops: it is held where it is not whole, or its fault is kept
+            Err(cause) => {
+                self.traversal.set_is_sound();
+                return match cause {
+                    Cause::Truncated => self.hold(0, bytes),
+                    _ => Err(self.keep(cause, 0, bytes.len())),
+                };
+            }
         };
         let room = within(left, bytes.len() - at);
         let progress = read_if_any(
@@ -522,7 +460,7 @@ impl<'a, R: Receiver, E: Entries> Machine<'a, R, E> {
             &mut self.entries,
             &bytes[at..at + room],
         );
-        self.messages = counted(self.messages, progress.messages);
+        self.messages = self.messages.saturating_add(progress.messages);
         self.left = left - progress.at as u128;
         let at = at + progress.at;
         let rest = &bytes[at..];
@@ -562,27 +500,6 @@ impl<'a, R: Receiver, E: Entries> Machine<'a, R, E> {
             Framing::Plain => self.read_plain(bytes),
             Framing::Blocks => self.read_block(bytes),
         }
-    }
-
-    // Where a message has ended, the bytes behind it are not fed yet.
-    #[inline(always)]
-    fn end_behind(&mut self, left: usize)
-        requires fault { self.now.fault ≡ None }
-        requires held { self.now.held.items ≡ [] }
-        requires between { self.now.traversal.stage ≡ stage.Map }
-        requires few { left ≤ self.now.fed }
-        ensures follows { (before : List Content) (fed rest : List ℕ) (messages : List Content)
-            → length rest ≡ left
-            → Counts self.old.fed self.old.messages (fed ++ rest) messages
-            → StandsAt self.old.framing self.old before rest (fed ++ rest) messages → Follows self.new before fed messages }
-        ensures fault { self.new.fault ≡ None }
-        ensures traversal { self.new.traversal ≡ self.old.traversal }
-        ensures entries { self.new.entries ≡ self.old.entries }
-        ensures framing { self.new.framing ≡ self.old.framing }
-        ensures fed { self.new.fed ≡ self.old.fed - left }
-    {
-        self.fed -= left as u64;
-        self.waiting = 0;
     }
 
     // Reads on in these bytes, behind those that are held, to the end of the next message at most, and answers the place
@@ -634,7 +551,9 @@ impl<'a, R: Receiver, E: Entries> Machine<'a, R, E> {
             Some(next) => {
                 // (a message ends behind the bytes that were held, since no piece was whole in these)
                 let taken = next.saturating_sub(held).max(1).min(chunk.len());
-                self.end_behind(chunk.len() - taken);
+                // (the bytes behind it are not fed yet)
+                self.fed -= (chunk.len() - taken) as u64;
+                self.waiting = 0;
                 Ok(taken)
             }
         }
@@ -655,9 +574,7 @@ impl<'a, R: Receiver, E: Entries> Machine<'a, R, E> {
         ensures open { IfOk result (λ n. self.new.fault ≡ None) }
         ensures refused { IfErr result (λ f. self.new.fault ≡ Some f) }
         ensures cause { self.old.fault ≡ None → IfErr result (λ f. f.cause ≢ Cause.Truncated) }
-        ensures set { self.new.traversal.set ≡ self.old.traversal.set }
-        ensures mode { mode_of self.new ≡ mode_of self.old }
-        ensures same_keys { E.serves self.new.entries ≡ E.serves self.old.entries }
+        ensures same { IsSameStream self.old self.new }
         ensures fed { self.old.fault ≡ None → IfOk result (λ n. self.new.fed ≡ self.old.fed + n)
             × IfErr result (λ f. self.new.fed ≡ self.old.fed + length chunk.now) }
     {
@@ -688,9 +605,7 @@ impl<'a, R: Receiver, E: Entries> Machine<'a, R, E> {
         ensures follows { self.old.fault ≡ None → FollowsAll self.old chunk.now self.new }
         ensures answer { Answers result self.new.fault }
         ensures cause { self.old.fault ≡ None → IfErr result (λ f. f.cause ≢ Cause.Truncated) }
-        ensures set { self.new.traversal.set ≡ self.old.traversal.set }
-        ensures mode { mode_of self.new ≡ mode_of self.old }
-        ensures same_keys { E.serves self.new.entries ≡ E.serves self.old.entries }
+        ensures same { IsSameStream self.old self.new }
         ensures fed { self.old.fault ≡ None → self.new.fed ≡ self.old.fed + length chunk.now }
     {
         let mut at = 0;
@@ -712,9 +627,7 @@ impl<'a, R: Receiver, E: Entries> Machine<'a, R, E> {
         ensures follows { self.old.fault ≡ None → FollowsAll self.old chunk.now self.new }
         ensures answer { Answers result self.new.fault }
         ensures cause { self.old.fault ≡ None → IfErr result (λ f. f.cause ≢ Cause.Truncated) }
-        ensures set { self.new.traversal.set ≡ self.old.traversal.set }
-        ensures mode { mode_of self.new ≡ mode_of self.old }
-        ensures same_keys { E.serves self.new.entries ≡ E.serves self.old.entries }
+        ensures same { IsSameStream self.old self.new }
         ensures fed { self.old.fault ≡ None → self.new.fed ≡ self.old.fed + length chunk.now }
     {
         if let Some(kept) = self.fault {
@@ -745,8 +658,7 @@ impl<'a, R: Receiver, E: Entries> Machine<'a, R, E> {
             → Follows self.new before fed messages)) }
         ensures left { Retains R.stands R.keeps self.old.receiver self.new.receiver }
         ensures answer { Answers result self.new.fault }
-        ensures set { self.new.traversal.set ≡ self.old.traversal.set }
-        ensures mode { mode_of self.new ≡ mode_of self.old }
+        ensures same { IsSameStream self.old self.new }
         ensures fed { self.new.fed ≡ self.old.fed }
     {
         if let Some(fault) = self.fault {
@@ -772,8 +684,7 @@ impl<'a, R: Receiver, E: Entries> Machine<'a, R, E> {
         ensures kept { IfSome self.old.fault (λ f. self.new ≡ self.old) }
         ensures follows { self.old.fault ≡ None → StillFollows self.old self.new }
         ensures left { Retains R.stands R.keeps self.old.receiver self.new.receiver }
-        ensures set { self.new.traversal.set ≡ self.old.traversal.set }
-        ensures mode { mode_of self.new ≡ mode_of self.old }
+        ensures same { IsSameStream self.old self.new }
         ensures fed { self.new.fed ≡ self.old.fed }
     {
         let place = match self.finish() {
@@ -791,9 +702,7 @@ impl<'a, R: Receiver, E: Entries> Machine<'a, R, E> {
     /// Begins a new stream, with all entries undefined; the receiver stays. Takes no memory.
     #[tactic(auto, using(crate::proofs::Calls::kept_first))]
     pub fn reset(&mut self)
-        ensures set { self.new.traversal.set ≡ self.old.traversal.set }
-        ensures mode { mode_of self.new ≡ mode_of self.old }
-        ensures same_keys { E.serves self.new.entries ≡ E.serves self.old.entries }
+        ensures same { IsSameStream self.old self.new }
         ensures fault { self.new.fault ≡ None }
         ensures receiver { self.new.receiver ≡ self.old.receiver }
         ensures undefined { E.contents self.new.entries ≡ finite.empty }

@@ -1,4 +1,4 @@
-use Rattle.std.proofs.Common.{◌∷◌, ◌++◌, ◌∙◌, ℕ, List, [], length, append_assoc, append-nil, ap, refl, sym, subst}
+use Rattle.std.proofs.Common.{◌∷◌, ◌++◌, ◌∙◌, ℕ, List, [], length, append_assoc, append-nil, ap, refl, sym, subst, inl}
 use Rattle.fast_template.specs.TemplateSets.{templates_in}
 use Rattle.fast_machine.specs.Following.{mode_of}
 use Rattle.fast_machine.proofs.Followings.{follows_behind}
@@ -11,7 +11,7 @@ use Rattle.fast_pass.proofs.relay.hand_on.Goals as goal
 
 pub fronts-init : goal.fronts-init
 fronts-init g c = record {
-  still = record { fault = refl; traversal = refl; mode = refl; fed = refl };
+  still = record { fault = refl; same = record { set = refl; mode = refl; same_keys = refl }; fed = refl };
   errors = refl;
   flushes = refl;
   ended = λ e. absurd cc;
@@ -43,7 +43,7 @@ fronts-preserved g c =
     let rest = λ (xs : List ℕ). ap (λ (ys : List ℕ). xs ++ ys) h.rest ∙ sym (append_assoc xs ready (O.waiting new)) in
     let pushed = rw (c.finished-front.ensures.bytes) at c.in-Ok.ensures.written in
     record {
-      still = record { fault = v.still.fault; traversal = v.still.traversal; mode = v.still.mode; fed = v.still.fed };
+      still = record { fault = v.still.fault; same = record { set = v.still.same.set; mode = v.still.same.mode; same_keys = v.still.same.same_keys }; fed = v.still.fed };
       errors = c.in-Ok.ensures.failed ∙ v.errors;
       flushes = c.in-Ok.ensures.flushes ∙ v.flushes;
       ended = h.none;
@@ -51,7 +51,7 @@ fronts-preserved g c =
         record { front = t.front ++ ready; parts = t.parts ∙ rest t.front; appended = Appends-trans _ _ _ t.front ready t.appended pushed },
         record {
           written = Appends-trans _ _ _ t.front ready t.appended pushed;
-          size_is = counts_more c.fronts.count _ _ t.front ready v.fronts.1.size_is (ap (λ (xs : List ℕ). length xs) c.finished-front.ensures.bytes) c.saturating_add-count.ensures;
+          size_is = counts_more c.fronts.count _ _ t.front ready v.fronts.1.size_is (inl (ap (λ (xs : List ℕ). length xs) c.finished-front.ensures.bytes)) c.saturating_add-count.ensures;
           relays = λ at turns left way r.
               let b = v.fronts.1.relays at turns left way r in
               let before = way.handed ++ t.front in
@@ -60,9 +60,8 @@ fronts-preserved g c =
                     (λ go. record {
                       unrefused = go.unrefused;
                       follows = record {
-                        at = follows_behind R.has R.stands R.keeps old.fault old.framing old.left old.traversal old.receiver new (g.E.Entries.contents old.entries) old.held.items old.waiting
-                            (handed_on before ∷ way.messages) (handed_on (before ++ ready) ∷ way.messages) way.input way.messages
-                            (λ o same has. h.has o before way.messages _ same has) (λ x e stands. h.stands x before way.messages e stands) (λ x e keeps. h.keeps x before way.messages e keeps) go.follows.at;
+                        at = follows_behind R.has R.stands R.keeps old.traversal old.receiver (g.E.Entries.contents old.entries) (handed_on before ∷ way.messages) new (handed_on (before ++ ready) ∷ way.messages)
+                            (λ o same has. h.has o before way.messages _ same has) (λ x e stands. h.stands x before way.messages e stands) (λ x e keeps. h.keeps x before way.messages e keeps) old.fault old.framing old.left old.held.items old.waiting way.input way.messages go.follows.at;
                         counts = go.follows.counts;
                       };
                     }) b.holds;
@@ -74,8 +73,4 @@ fronts-preserved g c =
     }
 
 pub returns-clause-hands : goal.returns-clause-hands
-returns-clause-hands g c =
-    let v = c.fronts.invariant in
-    let t = v.fronts.0 in
-    let none = v.ended c.fronts-test.false in
-    (rw (t.parts, none, append-nil t.front) v.fronts.1, none)
+returns-clause-hands g c = let f = c.fronts.invariant.fronts in (f.0.front, f.1)

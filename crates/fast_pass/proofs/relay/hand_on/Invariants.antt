@@ -1,6 +1,6 @@
 use Rattle.std.proofs.Common.{◌≡◌, ◌+◌, [], false, cond}
 use Rattle.fast_io.specs.Traffic.{Taken}
-use Rattle.fast_pass.specs.Relays.{Hands, StandsStill}
+use Rattle.fast_pass.specs.Relays.{HandsOn, StandsStill}
 use Rattle.fast_pass.proofs.relay.hand_on.Given as goal
 
 abbrev pub invariant-fronts : goal.invariant-fronts
@@ -16,7 +16,7 @@ invariant-fronts g l =
       ended : l.more ≡ false → O.waiting new.receiver ≡ [];
       -- a front of what waited is handed on, and the rest still waits
       fronts : (t : Taken (W.taken l.fn.writer) (W.taken l.writer) (O.waiting old.receiver) (O.waiting new.receiver))
-          × Hands O.waiting O.makes old new (W.taken l.fn.writer) (W.taken l.writer) t.front l.count;
+          × HandsOn O.waiting O.makes old new (W.taken l.fn.writer) (W.taken l.writer) t.front l.count;
     }
 
 abbrev pub decreases-fronts : goal.decreases-fronts

@@ -1,10 +1,6 @@
 use Rattle.std.proofs.Common.{[], refl, append-nil}
-use Rattle.std.proofs.lemmas.Result.{MatchResult-weaker}
 use Rattle.fast_io.proofs.Outputs.{Appends-nil}
 use Rattle.fast_pass.proofs.relay.hand_on_many.Goals as goal
 
 pub returns-then-finished-lt-MANY-clause-hands : goal.returns-then-finished-lt-MANY-clause-hands
 returns-then-finished-lt-MANY-clause-hands g c = ([], record { written = Appends-nil _; size_is = refl; relays = λ at turns left way r. rw (append-nil way.handed) r })
-
-pub returns-clause-hands : goal.returns-clause-hands
-returns-clause-hands g c = MatchResult-weaker c.hand_on.result c.hand_on.ensures.hands (λ n h. (g.O.Output.waiting c.args.machine.now.receiver, h.0)) (λ s h. h)

@@ -1,12 +1,16 @@
-use Rattle.std.proofs.Common.{◌<◌, ◌∷◌, [], ℕ, take, refl, sym, subst, arith, length-take}
+use Rattle.std.proofs.Common.{◌<◌, ◌∷◌, [], take, sym, subst, arith, length-take}
 use Rattle.std.proofs.lemmas.Result.{MatchResult-weaker}
 use Rattle.fast_decoder.specs.declared.input.Reached.TheVariants as reached
-use Rattle.fast_decoder.specs.Inputs.{reader_by}
-use Rattle.fast_decoder.proofs.Inputs.{caused_by_end, caused_by_feed, caused_by_read, empty_read, failed_read, one_read, refused_by_end, refused_by_read}
+use Rattle.fast_decoder.specs.Inputs.{Reader, reader_by}
+use Rattle.fast_decoder.proofs.Inputs.{caused_by_end, caused_by_feed, caused_by_read, empty_read, failed_read, one_read, refused_by_bytes, refused_by_read}
 use Rattle.fast_walk.specs.Received.{handed_on}
 use Rattle.fast_pass.specs.Relays.{Relays}
 use Rattle.fast_pass.proofs.Relayings.{stays, stops}
+use Rattle.fast_pass.proofs.relay.read_on.Given as given
 use Rattle.fast_pass.proofs.relay.read_on.Goals as goal
+
+abbrev read_by : (g : given.Over) → g.row.R.Denot → Reader
+read_by g r = reader_by g.R.ByteInput.left g.R.ByteInput.calls g.R.ByteInput.errors g.R.ByteInput.ends r
 
 pub returns-in-Ok-finish-clause-read : goal.returns-in-Ok-finish-clause-read
 returns-in-Ok-finish-clause-read g c =
@@ -15,73 +19,52 @@ returns-in-Ok-finish-clause-read g c =
     let ok = c.in-Ok-finish.ensures.ok in (
       [],
       empty_read _ _ _ _ p.call p.bytes.1 zero,
-      (
-        (λ h. absurd cc),
-        λ turns way r. stays _ (subst (λ m. Relays g.O.Output.waiting g.O.Output.makes reached.End m turns (g.R.ByteInput.left c.pull.new.self) way) (sym ok.0) (record {
-          holds = record { carried = ok.1 (handed_on way.handed ∷ way.messages) way.input way.messages r.holds.follows; ended = p.bytes.2 zero (omega arith) };
-          made = r.made;
-          counts = λ e. r.holds.follows.counts;
-        })) (p.end.0 zero (omega arith), p.error),
-      ),
+      λ turns way r. stays _ (subst (λ m. Relays g.O.Output.waiting g.O.Output.makes reached.End m turns (g.R.ByteInput.left c.pull.new.self) way) (sym ok.0) (record {
+        holds = record { carried = ok.1 (handed_on way.handed ∷ way.messages) way.input way.messages r.holds.follows; ended = p.bytes.2 zero (omega arith) };
+        made = r.made;
+        counts = λ e. r.holds.follows.counts;
+      })) ((λ h. absurd cc), (p.end.0 zero (omega arith), p.error)),
     )
 
 pub returns-in-Err-finish-clause-read : goal.returns-in-Err-finish-clause-read
 returns-in-Err-finish-clause-read g c =
-    let R = g.R.ByteInput in
-    let a = reader_by R.left R.calls R.errors R.ends c.args.reader.now in
-    let b = reader_by R.left R.calls R.errors R.ends c.pull.new.self in
     let zero = c.in-Ok-eq0.field-0-test in
     let p = c.in-Ok-eq0.ensures in
     let few = c.requires.room in (
       [],
       empty_read _ _ _ _ p.call p.bytes.1 zero,
-      (
-        (λ h. absurd cc),
-        λ turns way r.
-            let t = c.in-Err-finish.ensures.truncated r.holds.unrefused in
-            let after = t.1 (handed_on way.handed ∷ way.messages) way.input way.messages (omega (arith, few)) r.holds.follows in
-            let at = (rw (c.in-Err-finish.ensures.answer) at after.at).0 in
-            let refuses = refused_by_end c.in-Err-finish.fault _ _ turns (g.R.ByteInput.left c.pull.new.self) _ _ t.0 (p.bytes.2 zero (omega arith)) at.0 at.1 at.2 in
-            stays _ (stops g.met.O.Output.made c.finish.new.self turns _ way c.in-Err-finish.fault refuses after)
-            (caused_by_end (reached.Fault c.in-Err-finish.fault) _ _ turns _ _ _ a b refuses t.0 (p.end.0 zero (omega arith)) p.error),
-      ),
+      λ turns way r.
+          let t = c.in-Err-finish.ensures.truncated r.holds.unrefused in
+          let after = t.1 (handed_on way.handed ∷ way.messages) way.input way.messages (omega (arith, few)) r.holds.follows in
+          let at = (rw (c.in-Err-finish.ensures.answer) at after.at).0 in
+          let refuses = refused_by_bytes c.in-Err-finish.fault _ _ turns (g.R.ByteInput.left c.pull.new.self) _ _ (λ e. p.bytes.2 zero (omega arith)) at in
+          stays _ (stops g.met.O.Output.made c.finish.new.self turns _ way c.in-Err-finish.fault refuses after) ((λ h. absurd cc), caused_by_end c.in-Err-finish.fault (read_by g c.args.reader.now) (read_by g c.pull.new.self) t.0 (p.end.0 zero (omega arith))),
     )
 
 pub returns-in-Ok-clause-read : goal.returns-in-Ok-clause-read
 returns-in-Ok-clause-read g c =
     let R = g.R.ByteInput in
-    let a = reader_by R.left R.calls R.errors R.ends c.args.reader.now in
-    let b = reader_by R.left R.calls R.errors R.ends c.pull.new.self in
     let p = c.in-Ok.ensures in
     let some : 0 < c.in-Ok.count = omega arith in
     let taken = length-take c.in-Ok.count c.pull.new.buf in
     let few = p.bytes.0 in (
       take c.in-Ok.count c.pull.new.buf,
       one_read _ _ _ _ p.call p.bytes.1 (omega arith),
-      MatchResult-weaker c.take_in.result (c.take_in.ensures.takes (R.left c.pull.new.self)) (λ came steps. (
-        (λ h. omega (arith, some, taken, few)),
-        λ turns way r.
-            let s = steps turns way (record { holds = r.holds; made = r.made; counts = r.counts }) in
-            record { more = s.more; ended = s.ended; relays = s.relays; written = s.written; size_is = s.size_is; because = caused_by_feed came.0 a b s.because.0 s.because.1 p.error (p.end.1 some) },
-      )) (λ e breaks turns way r. breaks turns way (record { holds = r.holds; made = r.made; counts = r.counts })),
+      MatchResult-weaker c.take_in.result (c.take_in.ensures.takes (R.left c.args.reader.now) (R.left c.pull.new.self)) (λ x goes turns way r.
+          let s = goes turns way r in
+          record { more = s.more; ended = s.ended; relays = s.relays; written = s.written; size_is = s.size_is; because = ((λ h. omega (arith, some, taken, few)), caused_by_feed x.0 (read_by g c.args.reader.now) (read_by g c.pull.new.self) s.because.0 s.because.1 p.error (p.end.1 some)) }) (λ e breaks. breaks),
     )
 
 pub returns-in-Err-clause-read : goal.returns-in-Err-clause-read
 returns-in-Err-clause-read g c =
-    let R = g.R.ByteInput in
-    let a = reader_by R.left R.calls R.errors R.ends c.args.reader.now in
-    let b = reader_by R.left R.calls R.errors R.ends c.pull.new.self in
     let p = c.in-Err.ensures in
     let cut = c.cut.ensures in (
       [],
       failed_read _ _ p.call p.bytes,
-      (
-        (λ h. absurd cc),
-        λ turns way r.
-            let before = handed_on way.handed ∷ way.messages in
-            let go = r.holds in
-            stays _ (stops g.met.O.Output.made c.cut.new.self turns _ way c.cut.result
-            (rw (cut.set, cut.mode) (refused_by_read c.cut.result _ _ _ _ _ _ cut.cause (cut.place go.unrefused before way.input way.messages go.follows)))
-            (cut.follows go.unrefused before way.input way.messages go.follows)) (caused_by_read c.cut.result a b cut.cause p.error),
-      ),
+      λ turns way r.
+          let before = handed_on way.handed ∷ way.messages in
+          let go = r.holds in
+          stays _ (stops g.met.O.Output.made c.cut.new.self turns _ way c.cut.result
+          (rw (cut.same.set, cut.same.mode) (refused_by_read c.cut.result _ _ _ _ _ _ cut.cause (cut.place go.unrefused before way.input way.messages go.follows)))
+          (cut.follows go.unrefused before way.input way.messages go.follows)) ((λ h. absurd cc), caused_by_read c.cut.result (read_by g c.args.reader.now) (read_by g c.pull.new.self) cut.cause p.error),
     )

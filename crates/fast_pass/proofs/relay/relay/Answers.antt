@@ -1,120 +1,129 @@
-use Rattle.std.proofs.Common.{◌≡◌, ◌≤◌, ◌+◌, ◌++◌, ◌∷◌, [], length-append, arith, append-nil, ap, ◌∙◌}
+use Rattle.std.proofs.Common.{◌≡◌, ◌≤◌, ◌+◌, ◌++◌, ◌∷◌, [], length, length-append, arith, append-nil, refl, ◌∙◌}
 use Rattle.std.proofs.lemmas.Result.{err_from_is_err_and}
-use Rattle.fast_template.specs.TemplateSets.{templates_in}
 use Rattle.fast_decoder.specs.declared.input.Reached.TheVariants as reached
-use Rattle.fast_decoder.specs.Inputs.{reader_by}
-use Rattle.fast_decoder.proofs.Inputs.{causes_end, causes_on, causes_weaker, more_read, refused_by_turns}
+use Rattle.fast_decoder.specs.Inputs.{IsCaused, Reader, reader_by}
+use Rattle.fast_decoder.proofs.Inputs.{causes_on, causes_weaker, more_read, refused_by_turns}
 use Rattle.fast_walk.specs.Received.{handed_on}
-use Rattle.fast_machine.specs.Following.{mode_of}
-use Rattle.fast_pass.specs.Relays.{GoesOn}
-use Rattle.fast_pass.proofs.Relayings.{behind, breaks, breaks_on, closed, front_of, goes_farther, hands_on}
-use Rattle.fast_pass.proofs.relay.relay.Goals.{then-reads-test+else-reads-turns, else-reads-test}
+use Rattle.fast_machine.specs.Calls.{IsSameStream}
+use Rattle.fast_machine.proofs.Calls.{same_on}
+use Rattle.fast_pass.specs.Relays.{Step, outset}
+use Rattle.fast_pass.proofs.Relayings.{behind, breaks, breaks_on, broke_off, front_of, goes_farther, hands_on}
+use Rattle.fast_pass.proofs.relay.relay.Given as given
 use Rattle.fast_pass.proofs.relay.relay.Goals as goal
+use Rattle.fast_pass.proofs.relay.relay.Goals.{After-saturating_add-written-in-reads}
+
+abbrev read_by : (g : given.Over) → g.row.R.Denot → Reader
+read_by g r = reader_by g.R.ByteInput.left g.R.ByteInput.calls g.R.ByteInput.errors g.R.ByteInput.ends r
+
+-- one read more, and what is made of it handed on
+stepped : (g : given.Over) (c : After-saturating_add-written-in-reads g) {Because : Type 0} → Because
+    → Step g.O.Output.waiting g.O.Output.makes c.in_ok-came.came c.hand_on.new.machine c.args.turns (g.R.ByteInput.left c.read_on.new.reader) (g.W.ByteOutput.taken c.args.writer.now) (g.W.ByteOutput.taken c.hand_on.new.writer) c.saturating_add-written-in-reads.result outset
+    (c.reads.invariant.relays.0 ++ c.in_ok-came.ensures.read.0) Because
+stepped g c because =
+    let s = c.reads.invariant.relays.2 in
+    hands_on (goes_farther s (c.in_ok-came.ensures.read.2 c.args.turns (behind s) s.relays) c.saturating_add-written.ensures because) c.in_ok-hand_on.ensures.hands.1 c.saturating_add-written-in-reads.ensures
+
+caused : (g : given.Over) (c : After-saturating_add-written-in-reads g) → IsCaused c.in_ok-came.came ⊥ (read_by g c.args.reader.now) (read_by g c.read_on.new.reader)
+caused g c =
+    let s = c.reads.invariant.relays.2 in
+    causes_on reached.Open reached.Open c.in_ok-came.came (read_by g c.args.reader.now) (read_by g c.reads.reader) (read_by g c.read_on.new.reader) refl s.because.1 (c.in_ok-came.ensures.read.2 c.args.turns (behind s) s.relays).because.1
+
+same : (g : given.Over) (c : After-saturating_add-written-in-reads g) → IsSameStream c.args.machine.now c.hand_on.new.machine
+same g c = same_on c.reads.invariant.same (same_on c.in_ok-came.ensures.same c.in_ok-hand_on.ensures.still.same)
 
 pub reads-preserved : goal.reads-preserved
 reads-preserved g c =
-    let l = c.reads in
-    let v = l.invariant in
-    let R = g.R.ByteInput in
-    let a = reader_by R.left R.calls R.errors R.ends c.args.reader.now in
-    let b = reader_by R.left R.calls R.errors R.ends l.reader in
-    let d = reader_by R.left R.calls R.errors R.ends c.read_on.new.reader in
+    let at = (goal.at.reads-preserved g c).After-saturating_add-written-in-reads in
+    let v = c.reads.invariant in
     let r = c.in_ok-came.ensures in
     let h = c.in_ok-hand_on.ensures in
-    let opened = c.is_open.ensures.yes c.reads-test.true in
-    let fed = v.fed in
-    let more_fed = r.fed in
-    let kept_fed = h.still.fed in
+    let i = v.relays in
+    let size = length-append i.0 r.read.0 in
+    let gave = i.2.because.0 in
+    let some = (r.read.2 c.args.turns (behind i.2) i.2.relays).because.0 c.in-Open.is in
+    let because : (c.reads.reads + 1 ≤ length (i.0 ++ r.read.0)) × IsCaused reached.Open ⊥ (read_by g c.args.reader.now) (read_by g c.read_on.new.reader) = (omega (arith, some, gave, size), rw (c.in-Open.is) at (caused g at)) in
     record {
       few = omega arith;
-      fed = omega (arith, fed, more_fed, kept_fed);
-      unrefused = λ e. h.still.fault ∙ r.open e;
-      empty = h.hands.1;
-      set = ap (λ t. t.set) h.still.traversal ∙ r.set ∙ v.set;
-      mode = h.still.mode ∙ r.mode ∙ v.mode;
+      empty = h.empty;
+      same = same g at;
       errors = h.failed ∙ r.failed ∙ v.errors;
       flushes = h.flushes ∙ r.flushes ∙ v.flushes;
-      relays = λ start.
-          let i = v.relays start in
-          let got = r.read.0 in
-          let s = r.read.2.1 c.args.turns (behind i.2) (rw (opened) at i.2.relays) in
-          let size = length-append i.0 got in
-          let gave = i.2.because.0 opened in (
-            i.0 ++ got,
-            more_read _ _ _ l.reads i.0 got i.1 r.read.1,
-            hands_on (goes_farther i.2 s c.saturating_add-written.ensures
-                ((λ k. let some = r.read.2.0 k in omega (arith, some, gave, size)), causes_on reached.Open l.reached c.in_ok-came.came a b d opened i.2.because.1 s.because)) h.hands.0 c.saturating_add-written-in-reads.ensures,
-          );
+      relays = (i.0 ++ r.read.0, more_read _ _ _ c.reads.reads i.0 r.read.0 i.1 r.read.1, rw (c.in-Open.is) at (stepped g at because));
     }
 
-pub returns-in_err-came-clause-relayed : goal.returns-in_err-came-clause-relayed
-returns-in_err-came-clause-relayed g c =
+pub returns-in_err-came-clause-answer : goal.returns-in_err-came-clause-answer
+returns-in_err-came-clause-answer g c =
     let p = err_from_is_err_and c.from_residual.result c.from_residual.ensures.1 in
-    rw (p.1) (λ start.
     let r = c.in_err-came.ensures in
-    let i = c.reads.invariant.relays start in
-    let e = r.read.2 c.args.turns (behind i.2) (rw (c.is_open.ensures.yes c.reads-test.true) at i.2.relays) in
-    (c.reads.reads + 1, i.0 ++ r.read.0, more_read _ _ _ c.reads.reads i.0 r.read.0 i.1 r.read.1, omega arith, front_of (breaks_on i.2 e), tt))
+    let i = c.reads.invariant.relays in
+    let all = same_on c.reads.invariant.same r.same in
+    rw (p.1, ← all.mode, ← all.set)
+    (broke_off c.args.turns c.read_on.new.machine p.0 (c.reads.reads + 1) (more_read _ _ _ c.reads.reads i.0 r.read.0 i.1 r.read.1) (omega arith) (front_of (breaks_on i.2 (r.read.2 c.args.turns (behind i.2) i.2.relays))))
 
-pub returns-in_err-hand_on-clause-relayed : goal.returns-in_err-hand_on-clause-relayed
-returns-in_err-hand_on-clause-relayed g c =
+pub returns-in_err-hand_on-clause-answer : goal.returns-in_err-hand_on-clause-answer
+returns-in_err-hand_on-clause-answer g c =
     let p = err_from_is_err_and c.from_residual-in_err-hand_on.result c.from_residual-in_err-hand_on.ensures.1 in
-    rw (p.1) (λ start.
-    let l = c.reads in
     let r = c.in_ok-came.ensures in
     let h = c.in_err-hand_on.ensures in
-    let i = l.invariant.relays start in
-    let s = r.read.2.1 c.args.turns (behind i.2) (rw (c.is_open.ensures.yes c.reads-test.true) at i.2.relays) in
-    let all = goes_farther i.2 s c.saturating_add-written.ensures s.because in
-    rw (h.still.mode, h.still.traversal)
-    (l.reads + 1, i.0 ++ r.read.0, more_read _ _ _ l.reads i.0 r.read.0 i.1 r.read.1, omega arith, front_of (breaks all h.hands.0 [] h.hands.1 (append-nil (i.0 ++ r.read.0))), tt))
+    let i = c.reads.invariant.relays in
+    let s = goes_farther i.2 (r.read.2 c.args.turns (behind i.2) i.2.relays) c.saturating_add-written.ensures (tt {0}) in
+    let all = same_on c.reads.invariant.same r.same in
+    rw (p.1, ← all.mode, ← all.set)
+    (broke_off c.args.turns c.hand_on.new.machine p.0 (c.reads.reads + 1) (more_read _ _ _ c.reads.reads i.0 r.read.0 i.1 r.read.1) (omega arith) (front_of (breaks s h.hands.0 [] h.hands.1 (append-nil (i.0 ++ r.read.0)))))
 
-pub returns-in-Open-clause-relayed : goal.returns-in-Open-clause-relayed
-returns-in-Open-clause-relayed g c = λ start.
+pub returns-in-End-clause-answer : goal.returns-in-End-clause-answer
+returns-in-End-clause-answer g c =
+    let at = (goal.at.returns-in-End-clause-answer g c).After-saturating_add-written-in-reads in
+    let r = c.in_ok-came.ensures in
+    let i = c.reads.invariant.relays in
+    let s = rw (c.in-End.is) at (stepped g at (caused g at)) in
+    let k = s.relays.counts refl in
+    let all = same g at in (
+      c.reads.reads + 1,
+      i.0 ++ r.read.0,
+      more_read _ _ _ c.reads.reads i.0 r.read.0 i.1 r.read.1,
+      omega arith,
+      rw (← all.mode, ← all.set) (record {
+        messages = s.ended;
+        out = s.more;
+        ends = s.relays.holds;
+        made = rw (c.in_ok-hand_on.ensures.empty, append-nil s.more) at s.relays.made;
+        written = s.written;
+        counts = λ i. record { messages = k.count_is i; read = k.fed_is i; written = s.size_is i };
+      }),
+      s.because,
+    )
+
+pub returns-in-Fault-clause-answer : goal.returns-in-Fault-clause-answer
+returns-in-Fault-clause-answer g c =
+    let at = (goal.at.returns-in-Fault-clause-answer g c).After-saturating_add-written-in-reads in
+    let r = c.in_ok-came.ensures in
+    let i = c.reads.invariant.relays in
+    let s = rw (c.in-Fault.is) at (stepped g at (caused g at)) in
+    let all = same g at in (
+      c.reads.reads + 1,
+      i.0 ++ r.read.0,
+      more_read _ _ _ c.reads.reads i.0 r.read.0 i.1 r.read.1,
+      omega arith,
+      rw (← all.mode, ← all.set) (record { messages = s.ended; out = s.more; refuses = s.relays.holds; made = rw (c.in_ok-hand_on.ensures.empty, append-nil s.more) at s.relays.made; written = s.written }),
+      causes_weaker reached.Open (reached.Fault c.in-Fault.fault) (c.reads.reads + 1 ≡ c.args.turns) (read_by g c.args.reader.now) (read_by g c.read_on.new.reader) s.because,
+    )
+
+pub returns-clause-answer : goal.returns-clause-answer
+returns-clause-answer g c =
     let l = c.reads in
-    let R = g.R.ByteInput in
-    let a = reader_by R.left R.calls R.errors R.ends c.args.reader.now in
-    let b = reader_by R.left R.calls R.errors R.ends l.reader in
     let v = l.invariant in
+    let i = v.relays in
+    let s = i.2 in
     let cut = c.cut.ensures in
-    let i = v.relays start in
-    let s = i.2 in
-    let go = (rw (c.in-Open.is) at s.relays).holds in
-    let place = cut.place go.unrefused (handed_on s.more ∷ s.ended) i.0 s.ended go.follows in
-    let used : c.args.turns ≤ l.reads = elim c.reads-test.branch [ then-reads-test+else-reads-turns w ↦ w.if-reads-turns.false | else-reads-test w ↦ absurd (c.is_open.ensures.no w.reads-test.false c.in-Open.is) ] in
+    let place = cut.place s.relays.holds.unrefused (handed_on s.more ∷ s.ended) i.0 s.ended s.relays.holds.follows in
     let few = v.few in
-    let gave = s.because.0 c.in-Open.is in
-    let all : l.reads ≡ c.args.turns = omega (arith, used, few) in
-    record {
-      count = l.reads;
-      way = behind s;
-      reads = i.1;
-      bounded = few;
-      written = s.written;
-      holds = rw (cut.set, cut.mode) (refused_by_turns c.cut.result (mode_of l.machine) (templates_in l.machine.traversal.set.now) c.args.turns _ i.0 s.ended cut.cause place (omega (arith, used, gave)));
-      made = rw (cut.set) (rw (v.empty, append-nil s.more) at s.relays.made);
-      counts = λ e. absurd cc;
-      size_is = s.size_is;
-      caused = causes_end reached.Open l.reached (reached.Fault c.cut.result) (l.reads ≡ c.args.turns) a b s.because.1 (λ e. all) (λ e. cut.cause) (λ other. absurd (other c.in-Open.is));
-    }
-
-pub returns-in-End-clause-relayed : goal.returns-in-End-clause-relayed
-returns-in-End-clause-relayed g c = λ start.
-    let l = c.reads in
-    let R = g.R.ByteInput in
-    let a = reader_by R.left R.calls R.errors R.ends c.args.reader.now in
-    let b = reader_by R.left R.calls R.errors R.ends l.reader in
-    let i = l.invariant.relays start in
-    let s = i.2 in
-    record {
-      count = l.reads;
-      way = behind s;
-      reads = i.1;
-      bounded = l.invariant.few;
-      written = s.written;
-      holds = closed l.reached (GoesOn l.machine (behind s)) (mode_of l.machine) (templates_in l.machine.traversal.set.now) c.args.turns _ i.0 s.ended c.in-End.is s.relays.holds;
-      made = rw (l.invariant.empty, append-nil s.more) at s.relays.made;
-      counts = s.relays.counts;
-      size_is = s.size_is;
-      caused = causes_weaker reached.Open l.reached (l.reads ≡ c.args.turns) a b s.because.1;
-    }
+    let gave = s.because.0 in
+    let all : l.reads ≡ c.args.turns = omega (arith, few, c.reads-test.false) in (
+      l.reads,
+      i.0,
+      i.1,
+      few,
+      rw (← v.same.mode, ← v.same.set) (record { messages = s.ended; out = s.more; refuses = refused_by_turns c.cut.result _ _ c.args.turns _ i.0 s.ended cut.cause place (omega (arith, all, gave)); made = rw (v.empty, append-nil s.more) at s.relays.made; written = s.written }),
+      ((λ e. absurd cc), (λ e. absurd cc), (λ e. (all, s.because.1.1))),
+    )

@@ -1,8 +1,8 @@
-use Rattle.std.proofs.Common.{◌≡◌, ◌≤◌, ◌-◌, ◌*◌, ℕ, List, None, [], length}
+use Rattle.std.proofs.Common.{◌≡◌, ◌≤◌, ◌-◌, ℕ, List, [], length}
 use Rattle.fast_decoder.specs.Inputs.{IsCaused, Reads, reader_by}
 use Rattle.fast_decoder.specs.declared.input.Reached.TheVariants as reached
-use Rattle.fast_machine.specs.Following.{mode_of}
-use Rattle.fast_pass.specs.Relays.{Relays, Step, outset}
+use Rattle.fast_machine.specs.Calls.{IsSameStream}
+use Rattle.fast_pass.specs.Relays.{Step, outset}
 use Rattle.fast_pass.proofs.relay.relay.Given as goal
 
 abbrev pub invariant-reads : goal.invariant-reads
@@ -14,17 +14,12 @@ invariant-reads g l =
     let b = reader_by R.left R.calls R.errors R.ends l.reader in
     record {
       few : l.reads ≤ l.turns;
-      fed : l.machine.fed ≤ 4096 * l.reads;
-      unrefused : l.reached ≡ reached.Open → l.machine.fault ≡ None;
       empty : O.waiting l.machine.receiver ≡ [];
-      set : l.machine.traversal.set ≡ l.fn.machine.traversal.set;
-      mode : mode_of l.machine ≡ mode_of l.fn.machine;
+      same : IsSameStream l.fn.machine l.machine;
       errors : W.errors l.writer ≡ W.errors l.fn.writer;
       flushes : W.flushes l.writer ≡ W.flushes l.fn.writer;
-      relays : Relays O.waiting O.makes reached.Open l.fn.machine l.turns (R.left l.fn.reader) outset
-          → (input : List ℕ) × Reads a b l.reads input
-          × Step O.waiting O.makes l.reached l.machine l.turns (R.left l.reader) (W.taken l.fn.writer) (W.taken l.writer) l.written outset input
-          ((l.reached ≡ reached.Open → l.reads ≤ length input) × IsCaused l.reached ⊥ a b);
+      relays : (input : List ℕ) × Reads a b l.reads input
+          × Step O.waiting O.makes reached.Open l.machine l.turns (R.left l.reader) (W.taken l.fn.writer) (W.taken l.writer) l.written outset input ((l.reads ≤ length input) × IsCaused reached.Open ⊥ a b);
     }
 
 abbrev pub decreases-reads : goal.decreases-reads

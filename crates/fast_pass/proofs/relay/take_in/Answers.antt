@@ -1,8 +1,8 @@
 use Rattle.std.proofs.Common.{◌++◌, ◌∷◌, ◌-◌, ◌+◌, ◌∙◌, ℕ, List, length, length-drop, take, drop, take-append-drop, refl, arith, ap}
+use Rattle.std.proofs.lemmas.List.{take_all, take_rest}
 use Rattle.std.proofs.lemmas.Result.{err_from_is_err_and}
 use Rattle.fast_decoder.proofs.Inputs.{of_bytes, refused_by_bytes}
-use Rattle.fast_machine.proofs.Followings.{slice_rest}
-use Rattle.fast_machine.proofs.MessageEnds.{none_before, take_whole}
+use Rattle.fast_machine.proofs.Calls.{same_on}
 use Rattle.fast_walk.specs.Received.{handed_on}
 use Rattle.fast_pass.proofs.Relayings.{behind, breaks, feeds_on, hands_on, reads_on, stays, stops}
 use Rattle.fast_pass.proofs.relay.take_in.Goals as goal
@@ -12,25 +12,24 @@ messages-init g c = record {
   place = omega arith;
   fault = c.requires.fault;
   fed = omega arith;
-  set = refl;
-  mode = refl;
+  same = record { set = refl; mode = refl; same_keys = refl };
   errors = refl;
   flushes = refl;
-  steps = λ left turns way r. rw (none_before c.args.bytes.now) (stays _ r ((λ e. absurd cc), tt));
+  goes = λ left later turns way r. stays _ (record { holds = r.holds; made = r.made; counts = r.counts }) ((λ e. absurd cc), tt);
 }
 
 pub returns-in-Err-clause-takes : goal.returns-in-Err-clause-takes
-returns-in-Err-clause-takes g c = λ left turns way r.
+returns-in-Err-clause-takes g c = λ left later turns way r.
     let l = c.messages in
     let bytes = c.args.bytes.now in
     let slice = take (length bytes - l.at) (drop l.at bytes) in
-    let s = l.invariant.steps left turns way r in
+    let s = l.invariant.goes left later turns way r in
     let b = behind s in
     let f = c.in-Err.ensures.follows l.invariant.fault (handed_on b.handed ∷ b.messages) b.input b.messages s.relays.holds.follows in
-    let at = (rw (c.in-Err.ensures.refused) at f.2.at).0 in
+    let at = (rw (c.in-Err.ensures.refused) at f.1.at).0 in
     let more = c.in-Err.ensures.cause l.invariant.fault in
-    let whole = ap (λ (xs : List ℕ). take l.at bytes ++ xs) (slice_rest bytes l.at) ∙ take-append-drop l.at bytes in
-    reads_on s slice f.0 (stops g.met.O.Output.made c.feed_message.new.self turns left _ c.in-Err.fault (refused_by_bytes c.in-Err.fault _ _ turns left _ _ more at.0 at.1 at.2 at.3) f.2)
+    let whole = ap (λ (xs : List ℕ). take l.at bytes ++ xs) (take_rest bytes l.at) ∙ take-append-drop l.at bytes in
+    reads_on s slice f.0 (stops g.met.O.Output.made c.feed_message.new.self turns later _ c.in-Err.fault (refused_by_bytes c.in-Err.fault _ _ turns later _ _ (λ e. absurd (more e)) at) f.1)
     ((λ e. absurd cc), of_bytes c.in-Err.fault _ _ _ at.2 more) whole
 
 pub messages-preserved : goal.messages-preserved
@@ -38,33 +37,32 @@ messages-preserved g c =
     let l = c.messages in
     let v = l.invariant in
     let bytes = c.args.bytes.now in
-    let size = ap (λ (xs : List ℕ). length xs) (slice_rest bytes l.at) ∙ length-drop l.at bytes in
+    let size = ap (λ (xs : List ℕ). length xs) (take_rest bytes l.at) ∙ length-drop l.at bytes in
     let fed = c.in-Ok.ensures in
     let h = c.in_ok-hand_on_many.ensures in
     record {
       place = let few = fed.taken.1 in let before = v.place in omega (arith, few, size, before);
       fault = h.still.fault ∙ fed.open;
       fed = let more = (fed.fed v.fault).0 in let before = v.fed in let same = h.still.fed in omega (arith, more, before, same);
-      set = ap (λ t. t.set) h.still.traversal ∙ fed.set ∙ v.set;
-      mode = h.still.mode ∙ fed.mode ∙ v.mode;
+      same = same_on (same_on v.same fed.same) h.still.same;
       errors = h.failed ∙ v.errors;
       flushes = h.flushes ∙ v.flushes;
-      steps = λ left turns way r.
-          hands_on (feeds_on g.met.O.Output.made bytes l.at c.in-Ok.taken c.feed_message.new.self (v.steps left turns way r) fed.open (fed.follows v.fault)) h.hands.1 c.saturating_add-written.ensures;
+      goes = λ left later turns way r.
+          hands_on (feeds_on g.met.O.Output.made bytes l.at c.in-Ok.taken c.feed_message.new.self (v.goes left later turns way r) fed.open (fed.follows v.fault)) h.hands.1 c.saturating_add-written.ensures;
     }
 
 pub returns-in_err-hand_on_many-clause-takes : goal.returns-in_err-hand_on_many-clause-takes
 returns-in_err-hand_on_many-clause-takes g c =
     let p = err_from_is_err_and c.from_residual.result c.from_residual.ensures.1 in
-    rw (p.1) (λ left turns way r.
+    rw (p.1) (λ left later turns way r.
     let l = c.messages in
     let v = l.invariant in
     let bytes = c.args.bytes.now in
     let next = l.at + c.in-Ok.taken in
     let h = c.in_err-hand_on_many.ensures in
-    rw (h.still.mode, h.still.traversal) (breaks
-    (feeds_on g.met.O.Output.made bytes l.at c.in-Ok.taken c.feed_message.new.self (v.steps left turns way r) c.in-Ok.ensures.open (c.in-Ok.ensures.follows v.fault))
+    rw (h.still.same.mode, h.still.same.set) (breaks
+    (feeds_on g.met.O.Output.made bytes l.at c.in-Ok.taken c.feed_message.new.self (v.goes left later turns way r) c.in-Ok.ensures.open (c.in-Ok.ensures.follows v.fault))
     h.hands.0 (drop next bytes) h.hands.1 (take-append-drop next bytes)))
 
 pub returns-clause-takes : goal.returns-clause-takes
-returns-clause-takes g c = λ left turns way r. rw (take_whole c.messages.at c.args.bytes.now (omega (arith, c.messages-test.false))) at (c.messages.invariant.steps left turns way r)
+returns-clause-takes g c = λ left later turns way r. rw (take_all c.messages.at c.args.bytes.now (omega (arith, c.messages-test.false))) at (c.messages.invariant.goes left later turns way r)

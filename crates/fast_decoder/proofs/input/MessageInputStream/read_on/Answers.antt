@@ -1,11 +1,30 @@
-use Rattle.std.proofs.Common.{◌≤◌, ◌<◌, ◌+◌, ◌++◌, [], length, take, refl, arith, append-nil, length-append, length-take}
+use Rattle.std.proofs.Common.{◌<◌, ◌++◌, [], take, refl, arith, append-nil, length-append, length-take}
 use Rattle.fast_decoder.specs.Calls.{reader_of}
-use Rattle.fast_decoder.specs.Inputs.{Follows, reader_by, waiting_in}
-use Rattle.fast_decoder.proofs.Inputs.{caused_by_end, caused_by_feed, caused_by_read, empty_read, failed_read, one_read, reached_with, refused_by_read}
+use Rattle.fast_decoder.specs.Inputs.{Reader, reader_by, waiting_in}
+use Rattle.fast_decoder.specs.declared.input.Reached.TheVariants as reached
+use Rattle.fast_decoder.proofs.Inputs.{caused_by_end, caused_by_feed, caused_by_read, empty_read, failed_read, of_bytes, one_read, pushed_waits, refused_by_bytes, refused_by_read}
+use Rattle.fast_decoder.proofs.input.MessageInputStream.read_on.Given as given
 use Rattle.fast_decoder.proofs.input.MessageInputStream.read_on.Goals as goal
 
-pub returns-in-Ok-eq0-clause-reads : goal.returns-in-Ok-eq0-clause-reads
-returns-in-Ok-eq0-clause-reads g c =
+abbrev read_by : (g : given.Over) → g.row.R.Denot → Reader
+read_by g r = reader_by g.R.ByteInput.left g.R.ByteInput.calls g.R.ByteInput.errors g.R.ByteInput.ends r
+
+pub returns-in-Ok-finish-clause-reads : goal.returns-in-Ok-finish-clause-reads
+returns-in-Ok-finish-clause-reads g c =
+    let zero = c.in-Ok-eq0.field-0-test in
+    let p = c.in-Ok-eq0.ensures in
+    record {
+      got = [];
+      gave = empty_read _ _ _ _ p.call p.bytes.1 zero;
+      counted = refl;
+      stands = λ bytes answered stands.
+          let at = rw (c.requires.reached) at stands in
+          let carried = c.in-Ok-finish.ensures.ok.1 bytes (answered ++ waiting_in c.args.self.now.waiting.items) at.0.follows in
+          rw (append-nil bytes, c.requires.reached, c.finish.ensures.mode, c.finish.ensures.set) (record { carried = carried; ended = p.bytes.2 zero (omega arith) }, (p.end.0 zero (omega arith), p.error));
+    }
+
+pub returns-in-Err-finish-clause-reads : goal.returns-in-Err-finish-clause-reads
+returns-in-Err-finish-clause-reads g c =
     let old = c.args.self.now in
     let zero = c.in-Ok-eq0.field-0-test in
     let p = c.in-Ok-eq0.ensures in
@@ -15,13 +34,14 @@ returns-in-Ok-eq0-clause-reads g c =
       counted = refl;
       stands = λ bytes answered stands.
           let at = rw (c.requires.reached) at stands in
-          let f = c.end-self.ensures.follows bytes (answered ++ waiting_in old.waiting.items) old.turns (g.R.ByteInput.left c.pull.new.self) at.0 (p.bytes.2 zero (omega arith)) in
-          rw (append-nil bytes, c.requires.reached) (reached_with _ _ _ _ _ _ _ _ _ (λ none. absurd none) f.0, caused_by_end _ _ _ _ _ _ _ _ _ f.0 f.1 (p.end.0 zero (omega arith)) p.error);
+          let t = c.in-Err-finish.ensures.truncated at.0.goes_on in
+          let after = t.1 bytes (answered ++ waiting_in old.waiting.items) (omega (arith, old.fits, old.limited, old.bounded)) at.0.follows in
+          let refused = (rw (c.in-Err-finish.ensures.answer) at after.at).0 in
+          rw (append-nil bytes, c.requires.reached) (refused_by_bytes c.in-Err-finish.fault _ _ old.turns _ bytes _ (λ e. p.bytes.2 zero (omega arith)) refused, caused_by_end c.in-Err-finish.fault (reader_of old) (read_by g c.pull.new.self) t.0 (p.end.0 zero (omega arith)));
     }
 
-pub returns-in-Ok-clause-reads : goal.returns-in-Ok-clause-reads
-returns-in-Ok-clause-reads g c =
-    let old = c.args.self.now in
+pub returns-in-Ok-fed-clause-reads : goal.returns-in-Ok-fed-clause-reads
+returns-in-Ok-fed-clause-reads g c =
     let p = c.in-Ok.ensures in
     let got = take c.in-Ok.count c.pull.new.buf in
     let some : 0 < c.in-Ok.count = omega arith in
@@ -31,12 +51,34 @@ returns-in-Ok-clause-reads g c =
       counted = refl;
       stands = λ bytes answered stands.
           let at = rw (c.requires.reached, c.requires.none, append-nil answered) at stands in
-          let f = c.feed-self.ensures.follows bytes answered old.turns (g.R.ByteInput.left c.pull.new.self) at.0 in
+          let e = c.in-Ok-fed.ensures.follows at.0.goes_on bytes answered at.0.follows in
+          let same = pushed_waits c.args.self.now.waiting.items c.feed-fed.new.out.items c.reverse.new.self.items e.0 c.requires.none c.reverse.ensures.items e.1 in
           let before = at.1 in
           let size = length-append bytes got in
           let taken = length-take c.in-Ok.count c.pull.new.buf in
           let few = p.bytes.0 in
-          rw (c.requires.reached) (reached_with _ _ (Follows c.feed-self.new.decoder (bytes ++ got) (answered ++ waiting_in c.feed-self.new.waiting.items) × (old.reads + 1 ≤ length (bytes ++ got))) _ _ _ _ _ _ (λ follows. (follows, omega (arith, before, size, taken, few, some))) f.0, caused_by_feed c.feed-self.result _ _ c.feed-self.ensures.end f.1 p.error (p.end.1 some));
+          rw (c.requires.reached, same) ((record { goes_on = c.in-Ok-fed.ensures.answer; follows = e.2 }, omega (arith, before, size, taken, few, some)), (p.error, p.end.1 some));
+    }
+
+pub returns-in-Err-fed-clause-reads : goal.returns-in-Err-fed-clause-reads
+returns-in-Err-fed-clause-reads g c =
+    let p = c.in-Ok.ensures in
+    let some : 0 < c.in-Ok.count = omega arith in
+    record {
+      got = take c.in-Ok.count c.pull.new.buf;
+      gave = one_read _ _ _ _ p.call p.bytes.1 (omega arith);
+      counted = refl;
+      stands = λ bytes answered stands.
+          let at = rw (c.requires.reached, c.requires.none, append-nil answered) at stands in
+          let e = c.in-Err-fed.ensures.follows at.0.goes_on bytes answered at.0.follows in
+          let same = pushed_waits c.args.self.now.waiting.items c.feed-fed.new.out.items c.reverse.new.self.items e.0 c.requires.none c.reverse.ensures.items e.1 in
+          let f = c.in-Err-fed.first in
+          let more = c.in-Err-fed.ensures.cause at.0.goes_on in
+          let refused = (rw (c.in-Err-fed.ensures.answer) at e.2.at).0 in
+          rw (c.requires.reached, same) (
+            refused_by_bytes f _ _ c.args.self.now.turns _ _ _ (λ is. absurd (more is)) refused,
+            caused_by_feed (reached.Fault f) (reader_of c.args.self.now) (read_by g c.pull.new.self) (λ e. absurd cc) (of_bytes f _ _ _ refused.2 more) p.error (p.end.1 some),
+          );
     }
 
 pub returns-in-Err-clause-reads : goal.returns-in-Err-clause-reads
@@ -49,6 +91,7 @@ returns-in-Err-clause-reads g c =
       counted = refl;
       stands = λ bytes answered stands.
           let at = rw (c.requires.reached) at stands in
-          let cut = c.cut.ensures.place at.0.goes_on bytes (answered ++ waiting_in old.waiting.items) at.0.follows in
-          rw (append-nil bytes, c.requires.reached, c.cut.ensures.set, c.cut.ensures.mode) (refused_by_read c.cut.result _ _ _ _ _ _ c.cut.ensures.cause cut, caused_by_read c.cut.result (reader_of old) (reader_by g.R.ByteInput.left g.R.ByteInput.calls g.R.ByteInput.errors g.R.ByteInput.ends c.pull.new.self) c.cut.ensures.cause p.error);
+          let e = c.cut.ensures in
+          let cut = e.place at.0.goes_on [] bytes (answered ++ waiting_in old.waiting.items) at.0.follows in
+          rw (append-nil bytes, c.requires.reached, e.same.set, e.same.mode) (refused_by_read c.cut.result _ _ _ _ _ _ e.cause cut, caused_by_read c.cut.result (reader_of old) (read_by g c.pull.new.self) e.cause p.error);
     }

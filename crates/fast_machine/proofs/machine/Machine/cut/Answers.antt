@@ -1,7 +1,7 @@
-use Rattle.std.proofs.Common.{ap, refl, arith}
+use Rattle.std.proofs.Common.{ap, inl, refl, arith}
 use Rattle.fast_template.specs.TemplateSets.{templates_in}
 use Rattle.fast_machine.specs.Following.{mode_of}
-use Rattle.fast_machine.proofs.Followings.{cut_between}
+use Rattle.fast_machine.proofs.Followings.{cut_between, not_memory}
 use Rattle.fast_machine.proofs.machine.Machine.cut.Goals as goal
 
 pub returns-in-Ok-clause-place : goal.returns-in-Ok-clause-place
@@ -12,3 +12,11 @@ returns-in-Ok-clause-place g c = λ none before fed messages follows.
     let count = ap (λ d. d.messages) ok.0 in
     cut_between (mode_of old) (templates_in old.traversal.set.now) fed messages old.fed old.messages (record { message = c.saturating_add.result; offset = c.finish.new.self.fed; template = 0; instruction = 0 }) follows.counts c.requires.few (ok.1 before fed messages follows)
     (λ small. omega (arith, sum, count, small)) c.in-Ok.ensures.fed refl refl
+
+pub returns-in-Err-clause-place : goal.returns-in-Err-clause-place
+returns-in-Err-clause-place g c = λ none before fed messages follows.
+    let e = c.in-Err.ensures in
+    let t = e.truncated none in
+    let after = t.1 before fed messages c.requires.few follows in
+    let r = (rw (e.answer, e.same.set, e.same.mode) at after.at).0 in
+    record { carried = r.0; behind = r.1; at = inl (rw (t.0) at (r.2 (not_memory c.in-Err.fault.cause t.0))) }

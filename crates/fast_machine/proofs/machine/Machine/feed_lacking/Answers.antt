@@ -1,6 +1,7 @@
-use Rattle.std.proofs.Common.{◌++◌, arith}
+use Rattle.std.proofs.Common.{◌++◌, inr, arith}
 use Rattle.fast_wire.proofs.Calls.{all_bytes}
-use Rattle.fast_machine.proofs.Calls.{chunk_fed, follows_without_memory, stands_still}
+use Rattle.fast_machine.proofs.Calls.{chunk_fed, follows_without_memory}
+use Rattle.fast_machine.proofs.Lackings.{still_waits}
 use Rattle.fast_machine.proofs.machine.Machine.feed_lacking.Goals as goal
 
 pub returns-in-Err-clause-follows : goal.returns-in-Err-clause-follows
@@ -8,13 +9,13 @@ returns-in-Err-clause-follows g c = λ before fed messages follows.
     let old = c.args.self.now in
     let chunk = c.args.chunk.now in
     let f = chunk_fed old chunk c.requires.fault c.requires.size (all_bytes chunk (λ k. omega (arith, c.type_inv.chunk k))) before fed messages follows in
-    let m = c.hold_more.ensures in
-    let unread = old.held.items ++ chunk in
-    follows_without_memory c.refuse.ensures.fault c.refuse.ensures.keeps before unread (fed ++ chunk) messages (omega (arith, f.short))
-    (rw (m.stays.fed, m.stays.messages) f.counts) (stands_still m.stays m.receiver before unread (fed ++ chunk) messages f.stands)
+    follows_without_memory c.refuse.ensures.fault c.refuse.ensures.keeps before (old.held.items ++ chunk) (fed ++ chunk) messages (omega (arith, f.short)) f.counts f.stands
 
 pub returns-in-Ok-clause-follows : goal.returns-in-Ok-clause-follows
 returns-in-Ok-clause-follows g c = λ before fed messages follows.
+    let old = c.args.self.now in
     let chunk = c.args.chunk.now in
-    let f = chunk_fed c.args.self.now chunk c.requires.fault c.requires.size (all_bytes chunk (λ k. omega (arith, c.type_inv.chunk k))) before fed messages follows in
-    c.in-Ok.ensures.follows before (fed ++ chunk) messages (omega (arith, f.short)) f.counts f.stands
+    let R = g.R.Receiver in
+    let f = chunk_fed old chunk c.requires.fault c.requires.size (all_bytes chunk (λ k. omega (arith, c.type_inv.chunk k))) before fed messages follows in
+    let waits = still_waits R.has R.stands R.keeps old.traversal old.receiver (g.E.Entries.contents old.entries) before c.args.lack old.framing old.left (old.held.items ++ chunk) (fed ++ chunk) messages c.requires.lacks c.requires.room f.stands in
+    c.know.ensures.follows before (fed ++ chunk) messages (record { at = rw (c.requires.fault, c.in-Ok.ensures.items) (f.stands, inr waits); counts = f.counts })

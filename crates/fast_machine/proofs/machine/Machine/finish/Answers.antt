@@ -1,9 +1,10 @@
 use Rattle.std.proofs.Common.{◌≡◌, [], ℕ, List, length, refl, ap, subst, arith}
+use Rattle.std.proofs.lemmas.List.{nil_from_length}
 use Rattle.fast_walk.specs.declared.traversal.Stage.TheVariants as stage
 use Rattle.fast_machine.specs.Standing.{ReadsOn, Stands}
 use Rattle.fast_machine.proofs.Runs.{none_begun}
 use Rattle.fast_machine.proofs.Calls.{follows_refused}
-use Rattle.fast_machine.proofs.Followings.{carries_all, ends_inside, none_of}
+use Rattle.fast_machine.proofs.Followings.{carries_all, ends_inside}
 use Rattle.fast_machine.proofs.machine.Machine.finish.Goals.{then-has_begun-via-then-has_begun, then-has_begun-via-else-has_begun+then-held-gt0, then-has_begun-via-else-has_begun+else-held-gt0+then-self-gt0}
 use Rattle.fast_machine.proofs.machine.Machine.finish.Goals as goal
 
@@ -31,7 +32,7 @@ returns-clause-ok g c =
     let old = c.args.self.now in
     let R = g.R.Receiver in
     let size = c.held-held.ensures.held in
-    let none = none_of old.held.items (omega (arith, size, c.if-held-gt0.false)) in (
+    let none = nil_from_length old.held.items (omega (arith, size, c.if-held-gt0.false)) in (
       refl,
       λ before fed messages follows.
           let G = ReadsOn R.has R.stands R.keeps old.traversal old.receiver (g.E.Entries.contents old.entries) before in

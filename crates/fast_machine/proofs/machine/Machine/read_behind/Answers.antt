@@ -1,7 +1,9 @@
 use Rattle.std.proofs.Common.{◌≡◌, ◌++◌, ℕ, List, [], Option, Some, None, IfNone, length, ap, sym, subst, arith, rules, append-nil}
+use Rattle.std.proofs.lemmas.List.{nil_from_length}
+use Rattle.std.proofs.lemmas.Result.{err_from_is_err_and}
 use Rattle.fast_machine.specs.Calls.{ReadsNext}
 use Rattle.fast_machine.proofs.Calls.{follows_without_memory}
-use Rattle.fast_machine.proofs.Followings.{none_of, not_memory}
+use Rattle.fast_machine.proofs.Followings.{not_memory}
 use Rattle.fast_machine.proofs.machine.Machine.read_behind.Goals as goal
 
 pub returns-in-Err-clause-reads : goal.returns-in-Err-clause-reads
@@ -20,8 +22,13 @@ pub returns-then-is_empty-clause-reads : goal.returns-then-is_empty-clause-reads
 returns-then-is_empty-clause-reads g c =
     let old = c.args.self.now in
     let zero : length old.held.items ≡ 0 = search rules in
-    let all = ap (λ (xs : List ℕ). xs ++ c.args.chunk.now) (none_of old.held.items zero) in
+    let all = ap (λ (xs : List ℕ). xs ++ c.args.chunk.now) (nil_from_length old.held.items zero) in
     subst (λ (xs : List ℕ). ReadsNext old.framing old xs c.read.result c.read.new.self) (sym all) c.read.ensures.reads
+
+pub returns-in_err-next-in-Ok-clause-reads : goal.returns-in_err-next-in-Ok-clause-reads
+returns-in_err-next-in-Ok-clause-reads g c =
+    let p = err_from_is_err_and c.from_residual.result c.from_residual.ensures.1 in
+    rw (p.1, p.2) (rw (c.deref.ensures.value, c.in-Ok.ensures.items, c.replace-bytes.ensures.value) at c.in_err-next-in-Ok.ensures.reads)
 
 then_none : {A B : Type 0} (place : Option ℕ) → (A → B) → IfNone place A → IfNone place B
 then_none None f a = f a

@@ -1,24 +1,25 @@
-use Rattle.std.proofs.Common.{◌≢◌, ◌∙◌, ℕ, List, Some, drop, length, sym, ap, refl, arith}
+use Rattle.std.proofs.Common.{◌≢◌, ◌∙◌, ℕ, List, None, Some, drop, length, sym, ap, refl, arith}
+use Rattle.std.proofs.lemmas.List.{take_rest}
 use Rattle.fast_stream.specs.declared.fault.Cause.TheVariants.{Truncated}
 use Rattle.fast_stream.specs.declared.mode.Framing.TheVariants.{Plain}
 use Rattle.fast_stream.specs.Nodes.{Content}
 use Rattle.fast_machine.proofs.Calls.{Finds, finds_fault, finds_waiting}
-use Rattle.fast_machine.proofs.Followings.{not_truncated, slice_rest}
-use Rattle.fast_machine.proofs.PlainReads.{plain_goes, plain_halts}
+use Rattle.fast_machine.proofs.Followings.{not_truncated}
+use Rattle.fast_machine.proofs.PlainReads.{plain_goes}
 use Rattle.fast_machine.proofs.machine.Machine.read_plain.Given as given
 use Rattle.fast_machine.proofs.machine.Machine.read_plain.Goals as goal
 use Rattle.fast_machine.proofs.machine.Machine.read_plain.Goals.{In-Some}
 
 -- what the read found where it stopped
-halted : (g : given.Over) (c : In-Some g) → Finds Plain c.args.self.now c.args.bytes.now c.read_message-progress.result.messages c.counted-self.result (Some c.in-Some.halt) c.args.self.now.left
+halted : (g : given.Over) (c : In-Some g) → Finds Plain c.args.self.now c.args.bytes.now c.read_message-progress.result.messages c.saturating_add-self.result (Some c.in-Some.halt) c.args.self.now.left
     c.read_message-progress.new.traversal c.read_message-progress.new.receiver (g.E.Entries.contents c.read_message-progress.new.entries) (drop c.read_message-progress.result.at c.args.bytes.now)
-halted g c = let p = c.read_message-progress in plain_halts c.args.self.now c.counted-self.result p.ensures.leaves p.ensures.ended c.counted-self.ensures c.in-Some.halt c.in-Some.is
+halted g c = let p = c.read_message-progress in plain_goes c.args.self.now c.saturating_add-self.result p.ensures.leaves p.ensures.ended c.saturating_add-self.ensures (Some c.in-Some.halt) c.in-Some.is
 
 pub returns-in-None-clause-reads : goal.returns-in-None-clause-reads
 returns-in-None-clause-reads g c = (
   λ before fed messages short counts stands.
       let p = c.read_message-progress in
-      let f = (plain_goes c.args.self.now c.counted-self.result p.ensures.leaves p.ensures.ended c.counted-self.ensures c.in-None.is).found before fed messages short counts stands in
+      let f = (plain_goes c.args.self.now c.saturating_add-self.result p.ensures.leaves p.ensures.ended c.saturating_add-self.ensures None c.in-None.is).found before fed messages short counts stands in
       let none = (rw (c.in-None.is) at p.ensures.leaves.ends).none in
       (f.ended, f.counts, (λ h. let zero = ap (λ (xs : List Content). length xs) h in let count = f.number_is in let empty = none (omega (arith, zero, count)) in empty.0 ∙ sym empty.1), f.leaves),
   tt,
@@ -26,7 +27,7 @@ returns-in-None-clause-reads g c = (
 
 pub returns-in-Truncated-clause-reads : goal.returns-in-Truncated-clause-reads
 returns-in-Truncated-clause-reads g c =
-    finds_waiting _ (halted g (goal.at.returns-in-Truncated-clause-reads g c).In-Some) c.in-Truncated.is (slice_rest c.args.bytes.now c.read_message-progress.result.at) (rw (c.requires.framing) at c.hold.ensures.follows) c.hold.ensures.answer
+    finds_waiting _ (halted g (goal.at.returns-in-Truncated-clause-reads g c).In-Some) c.in-Truncated.is (take_rest c.args.bytes.now c.read_message-progress.result.at) (rw (c.requires.framing) at c.hold.ensures.follows) c.hold.ensures.answer
 
 pub returns-in_default-clause-reads : goal.returns-in_default-clause-reads
 returns-in_default-clause-reads g c =
@@ -35,6 +36,6 @@ returns-in_default-clause-reads g c =
       not_truncated c.fault_of-fault.result.cause c.in-Some.halt.cause c.fault_of-fault.ensures.cause other,
       λ before fed messages short counts stands.
           let f = finds_fault c.fault_of-fault.result _ c.requires.framing (halted g (goal.at.returns-in_default-clause-reads g c).In-Some) other c.read_message-progress.ensures.leaves.sound
-          (ap (λ (xs : List ℕ). length xs) (sym (slice_rest c.args.bytes.now c.read_message-progress.result.at))) (rw (c.template-template.ensures) at c.fault_of-fault.ensures.refused) before fed messages short counts stands in
+          (ap (λ (xs : List ℕ). length xs) (sym (take_rest c.args.bytes.now c.read_message-progress.result.at))) (rw (c.template-template.ensures) at c.fault_of-fault.ensures.refused) before fed messages short counts stands in
           (f.ended, record { at = (f.leaves.0, c.requires.nothing.held, f.leaves.1); counts = f.counts }),
     )

@@ -1,14 +1,14 @@
-use Rattle.std.proofs.Common.{◌≡◌, ◌++◌, ◌-◌, ◌∙◌, ℕ, List, length, length-append, length-drop, take, drop, take-append-drop, arith, ap, sym, subst, append_assoc}
+use Rattle.std.proofs.Common.{◌≡◌, ◌++◌, ◌-◌, ◌∙◌, ℕ, List, length, length-append, length-drop, take, drop, take-append-drop, arith, ap, sym, append_assoc}
 use Rattle.std.proofs.Math.Seq.{take-length}
 use Rattle.std.proofs.lemmas.Result.{err_from_is_err_and}
 use Rattle.fast_wire.proofs.Calls.{all_bytes}
 use Rattle.fast_wire.specs.declared.level.Level.{Level}
 use Rattle.fast_stream.specs.declared.mode.Framing.{Framing}
 use Rattle.fast_stream.specs.declared.mode.Mode.{Mode}
-use Rattle.fast_machine.specs.Following.{Counts}
 use Rattle.fast_machine.specs.Standing.{ReadsOn, Stands}
 use Rattle.fast_machine.proofs.Calls.{chunk_fed}
-use Rattle.fast_machine.proofs.MessageEnds.{behind_held, drop_behind}
+use Rattle.fast_machine.proofs.Followings.{waits_behind}
+use Rattle.fast_machine.proofs.MessageEnds.{behind_held, drop_behind, ends_here}
 use Rattle.fast_machine.proofs.machine.Machine.take_message.Goals as goal
 
 abbrev framed_by : Level → Framing → Mode
@@ -18,19 +18,15 @@ pub returns-in_err-read_behind-clause-follows : goal.returns-in_err-read_behind-
 returns-in_err-read_behind-clause-follows g c =
     let p = err_from_is_err_and c.from_residual.result c.from_residual.ensures.1 in
     rw (p.1) (λ none before fed messages follows.
-    let old = c.args.self.now in
     let chunk = c.args.chunk.now in
-    let f = chunk_fed old chunk none c.requires.room (all_bytes chunk (λ k. omega (arith, c.type_inv.chunk k))) before fed messages follows in
-    let r = c.in_err-read_behind.ensures.reads.2 before (fed ++ chunk) messages f.short f.counts f.stands in
-    (r.0, tt, r.1))
+    let f = chunk_fed c.args.self.now chunk none c.requires.room (all_bytes chunk (λ k. omega (arith, c.type_inv.chunk k))) before fed messages follows in
+    c.in_err-read_behind.ensures.reads.2 before (fed ++ chunk) messages f.short f.counts f.stands)
 
 pub returns-in-None-clause-follows : goal.returns-in-None-clause-follows
 returns-in-None-clause-follows g c = λ none before fed messages follows.
-    let old = c.args.self.now in
     let chunk = c.args.chunk.now in
-    let f = chunk_fed old chunk none c.requires.room (all_bytes chunk (λ k. omega (arith, c.type_inv.chunk k))) before fed messages follows in
-    let r = (rw (c.in-None.is) at c.in_ok-read_behind.ensures.reads).1.1 before (fed ++ chunk) messages f.short f.counts f.stands in
-    (r.0, rw (take-length chunk) r.1, tt)
+    let f = chunk_fed c.args.self.now chunk none c.requires.room (all_bytes chunk (λ k. omega (arith, c.type_inv.chunk k))) before fed messages follows in
+    rw (take-length chunk) ((rw (c.in-None.is) at c.in_ok-read_behind.ensures.reads).1.1 before (fed ++ chunk) messages f.short f.counts f.stands)
 
 pub returns-in-Some-clause-follows : goal.returns-in-Some-clause-follows
 returns-in-Some-clause-follows g c = λ none before fed messages follows.
@@ -58,12 +54,15 @@ returns-in-Some-clause-follows g c = λ none before fed messages follows.
     let rest : drop next (held ++ chunk) ≡ drop taken chunk = drop_behind held chunk next (omega (arith, beyond)) ∙ ap (λ (n : ℕ). drop n chunk) (sym exact) in
     let parts : fed ++ chunk ≡ (fed ++ take taken chunk) ++ drop taken chunk = ap (λ (xs : List ℕ). fed ++ xs) (sym (take-append-drop taken chunk)) ∙ sym (append_assoc fed (take taken chunk) (drop taken chunk)) in
     let ended = messages ++ r.0 in
-    let left = length-drop taken chunk in (
+    let left = length-drop taken chunk in
+    let size = ap (λ (xs : List ℕ). length xs) parts ∙ length-append (fed ++ take taken chunk) (drop taken chunk) in
+    let fed_is = r.1.fed_is in
+    let none : new.traversal.template ≡ 0 = rw (place.between) at (new.ready place.fault) in
+    let stands : Stands new.framing new.left H new.traversal (drop taken chunk) ((fed ++ take taken chunk) ++ drop taken chunk) ended = rw (← parts, ← rest, ap (λ (m : Mode). m.framing) o.ensures.same.mode) r.3 in
+    let here = ends_here R.has R.stands R.keeps new.traversal new.receiver (g.E.Entries.contents new.entries) (before ++ r.0) place.between new.framing new.left (drop taken chunk) (fed ++ take taken chunk) ended stands in (
       r.0,
-      c.end_behind.ensures.follows (before ++ r.0) (fed ++ take taken chunk) (drop taken chunk) ended left
-          (subst (λ (xs : List ℕ). Counts new.fed new.messages xs ended) parts r.1)
-          (subst (λ (xs : List ℕ). Stands new.framing new.left H new.traversal (drop taken chunk) xs ended) parts
-          (subst (λ (xs : List ℕ). Stands new.framing new.left H new.traversal xs (fed ++ chunk) ended) rest
-          (subst (λ (f : Framing). Stands f new.left H new.traversal (drop next (held ++ chunk)) (fed ++ chunk) ended) (sym (ap (λ (m : Mode). m.framing) o.ensures.same.mode)) r.3))),
-      tt,
+      record {
+        at = rw (place.fault, place.held) (here, waits_behind new.framing new.left H new.traversal (fed ++ take taken chunk) ended place.between none here);
+        counts = record { fed_is = omega (arith, size, left, fed_is); count_is = r.1.count_is };
+      },
     )
