@@ -73,7 +73,7 @@ zero_needs operator.Increment i e cut b v f none = absurd cc
 zero_needs operator.Delta i e cut b v f none = absurd f
 zero_needs operator.Tail i e cut b v f none = absurd cc
 
-best_needs : {i : FieldPart} {e : Entry} {b : List ℕ} {v : Option Scalar} (bit : Bool) → IsBest i e bit b v → part_needs_bit i ≡ false → bit ≡ true
+pub best_needs : {i : FieldPart} {e : Entry} {b : List ℕ} {v : Option Scalar} (bit : Bool) → IsBest i e bit b v → part_needs_bit i ≡ false → bit ≡ true
 best_needs true best none = refl
 best_needs {i} {e} {b} {v} false best none = zero_needs i.operator i e best.cut b v best.form.row none
 
@@ -118,7 +118,7 @@ relays_under {p = p} {bit = bit} {best = best} {v = v} {l = l} {k = k} is put ne
   place = r.place;
   took = took_of is put r.relayed.entry r.relayed.read;
   spelt = subst (λ (x : Entry). Spelt p x v l k) is (spelt_entry needs r.relayed.form asked);
-  room = λ left left_is room. asked_room (part_needs_bit p) bit best l k left left_is r.lower (rw (needs) at asked.bits) asked.own room;
+  room = λ around left is room. asked_room (part_needs_bit p) bit best l k left around is r.lower (rw (needs) at asked.bits) asked.own room;
 }
 
 pub stops_under : (level : Level) (p : FieldPart) (d e : Dictionary) (old new : Entry) (bit : Bool) (bytes : List ℕ) (l : Segment) (after : List ℕ) (f : FieldFault)

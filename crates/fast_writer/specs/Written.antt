@@ -111,9 +111,10 @@ Chain g [] [] Inner = Inner g
 Chain g (w ∷ ws) (l ∷ ls) Inner = (members : Instructions) × (d : Dictionary) × Waits g l w members d × Chain (of_segment members d) ws ls Inner
 Chain g ws ls Inner = ⊥
 
--- All that is written of a message, in segments, the innermost apart.
-abbrev pub IsOpened : List Segment → Segment → Received → Dictionary → Type 0
-IsOpened outer now o d = Chain (of_message o.template o.members o.start) o.around outer (IsTop o.next now o.body d)
+-- All that is written: of the messages before, and of the one that is open, in segments, the innermost apart.
+abbrev pub IsOpened : List ℕ → List Segment → Segment → Received → Dictionary → Type 0
+IsOpened out outer now o d =
+    IsFinished out o.set o.before o.start × Chain (of_message o.template o.members o.start) o.around outer (IsTop o.next now o.body d)
 
 -- nothing is written of a segment, which has a map of its own or not
 pub record IsEmpty (own : Bool) (l : Segment) : Type 0 where

@@ -4,6 +4,4 @@ use Rattle.fast_writer.proofs.Writers.{has_elements}
 use Rattle.fast_writer.proofs.writer.WriterReceiver.end_sequence.Goals as goal
 
 pub returns-clause-has : goal.returns-clause-has
-returns-clause-has c = λ o d s next none has.
-    let old = c.args.self.now in
-    (has.0, has_elements (map level_of old.outer) (level_of old.inner) o d s next none has.1)
+returns-clause-has c = λ o d. has_elements c.args.self.now.out.items (map level_of c.args.self.now.outer) (level_of c.args.self.now.inner) o d
