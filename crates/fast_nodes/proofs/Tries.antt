@@ -1,7 +1,8 @@
 -- Nodes that are written one after the other.
-use Rattle.std.proofs.Common.{◌≡◌, ◌≤◌, ◌<◌, ◌+◌, ℕ, Bool, true, false, ◌&&◌, ◌||◌, List, ◌∷◌, ◌++◌, length, drop, get_or, ℤ, Some, Ok, Err, inl, inr, Result, refl, sym, ap, ◌∙◌, arith}
+use Rattle.std.proofs.Common.{◌≡◌, ◌≤◌, ◌<◌, ◌+◌, ℕ, true, false, List, ◌∷◌, ◌++◌, length, drop, get_or, ℤ, Some, Ok, Err, inl, inr, Result, refl, sym, ap, ◌∙◌}
 use Rattle.std.specs.Prelude.{nat_lt}
 use Rattle.std.specs.Global.{Vec}
+use Rattle.std.proofs.lemmas.Bool.{and_parts, ltb-false, or_parts}
 use Rattle.std.proofs.lemmas.List.{drop_more, drop_all}
 use Rattle.fast_template.specs.declared.resolved.Flat.{Flat}
 use Rattle.fast_template.specs.declared.resolved.Flat.TheVariants.{Group, Parts, Sequence}
@@ -16,50 +17,39 @@ use Rattle.fast_template.specs.Resolved.{Instruction, Instructions, instruction_
 use Rattle.fast_stream.specs.Nodes.{Item, single, group_items, sequence_elements, Items, no_items, then_item, Elements, no_elements, then_element, item_of, items_in, element_count}
 use Rattle.fast_nodes.specs.declared.fault.EncodeFault.{EncodeFault}
 use Rattle.fast_nodes.specs.Added.{Books, CanTry, CanTryOne, CanTryEach, GoesOn, IsPut, IsPutWhole, IsSmall, AreSmall, AreSmallIn, NotPut, Piece, Puts, PutsWhole, Seals, both, each_of, of_item, of_items, of_part, segment_of}
-use Rattle.fast_nodes.specs.FirstRefusal.{item_is_large, has_large, has_large_in, part_judged, item_judged, items_judged, elements_judged}
+use Rattle.fast_nodes.specs.FirstRefusal.{item_is_large, has_large, has_large_in, part_judged, item_judged, elements_judged}
 use Rattle.fast_writer.specs.Written.{Segment, state, bits_for, Asked, IsEmpty}
 use Rattle.fast_nodes.proofs.Additions.{adds_then, body_none, elements_none, elements_more, group_added, no_group_added, not_sealed, segment_added, sequence_added}
 use Rattle.fast_nodes.proofs.Changes.{goes_same, goes_then}
 use Rattle.fast_nodes.proofs.Views.{count_seen, is_absent, is_elements, is_group, is_items, is_parts, is_sequence, is_value, seen}
 
-pub and_true : (b c : Bool) → (b && c) ≡ true → (b ≡ true) × (c ≡ true)
-and_true true c h = (refl, h)
-and_true false c h = absurd cc
-
-pub or_false : (b c : Bool) → (b || c) ≡ false → (b ≡ false) × (c ≡ false)
-or_false true c h = absurd cc
-or_false false c h = (refl, h)
-
 -- ---- what is known of each
 
 pub can_first : {a : Books} {i : Instruction} {is : Instructions} {n : Item} {ns : Items} → CanTry a (then_instruction i is) (then_item n ns) → CanTryOne a i n
-can_first h = record { parts = h.parts.0; served = h.served.0; fits = (and_true _ _ h.fits).0; small = h.small.0; holds = h.holds }
+can_first h = record { parts = h.parts.0; served = h.served.0; fits = (and_parts _ _ h.fits).0; small = h.small.0; holds = h.holds }
 
 can_rest : {a b : Books} {i : Instruction} {is : Instructions} {n : Item} {ns : Items} → CanTry a (then_instruction i is) (then_item n ns) → GoesOn a b → CanTry b is ns
-can_rest h g = record { parts = h.parts.1; served = rw (g.same_keys) h.served.1; fits = (and_true _ _ h.fits).1; small = h.small.1; holds = g.holds h.holds }
+can_rest h g = record { parts = h.parts.1; served = rw (g.same_keys) h.served.1; fits = (and_parts _ _ h.fits).1; small = h.small.1; holds = g.holds h.holds }
 
 pub can_element : {a : Books} {is : Instructions} {ns : Items} {es : Elements} → CanTryEach a is (then_element ns es) → CanTry a is ns
-can_element h = record { parts = h.parts; served = h.served; fits = (and_true _ _ h.fits).0; small = h.small.0; holds = h.holds }
+can_element h = record { parts = h.parts; served = h.served; fits = (and_parts _ _ h.fits).0; small = h.small.0; holds = h.holds }
 
 can_others : {a b : Books} {is : Instructions} {ns : Items} {es : Elements} → CanTryEach a is (then_element ns es) → GoesOn a b → CanTryEach b is es
-can_others h g = record { parts = h.parts; served = rw (g.same_keys) h.served; fits = (and_true _ _ h.fits).1; small = h.small.1; holds = g.holds h.holds }
-
-not_less : (n : ℕ) → nat_lt 65535 n ≡ false → n ≤ 65535
-not_less n h = search (arith, h)
+can_others h g = record { parts = h.parts; served = rw (g.same_keys) h.served; fits = (and_parts _ _ h.fits).1; small = h.small.1; holds = g.holds h.holds }
 
 mutual
   small_one : (n : Item) → item_is_large n ≡ false → IsSmall n
   small_one (single v) h = tt
   small_one (group_items ns) h = small_all ns h
-  small_one (sequence_elements es) h = let p = or_false (nat_lt 65535 (element_count es)) (has_large_in es) h in (not_less (element_count es) p.0, small_each es p.1)
+  small_one (sequence_elements es) h = let p = or_parts (nat_lt 65535 (element_count es)) (has_large_in es) h in (ltb-false 65535 (element_count es) p.0, small_each es p.1)
 
   pub small_all : (ns : Items) → has_large ns ≡ false → AreSmall ns
   small_all no_items h = tt
-  small_all (then_item n ns) h = let p = or_false (item_is_large n) (has_large ns) h in (small_one n p.0, small_all ns p.1)
+  small_all (then_item n ns) h = let p = or_parts (item_is_large n) (has_large ns) h in (small_one n p.0, small_all ns p.1)
 
   small_each : (es : Elements) → has_large_in es ≡ false → AreSmallIn es
   small_each no_elements h = tt
-  small_each (then_element ns es) h = let p = or_false (has_large ns) (has_large_in es) h in (small_all ns p.0, small_each es p.1)
+  small_each (then_element ns es) h = let p = or_parts (has_large ns) (has_large_in es) h in (small_all ns p.0, small_each es p.1)
 
 -- ---- one behind the other
 
@@ -145,14 +135,8 @@ module _ {flats : List Flat} {nodes : List Node} {a b : Books} {l k : Segment} {
   nodes_end no_flat no_node = left.on b k (Ok tt) (rw (drop_all at flats no_flat, drop_all at nodes no_node) (record { adds = body_none; goes = goes_same }))
 
   module _ {f : Flat} {n : Node} (flat : drop at flats ≡ f ∷ drop (at + 1) flats) (node : drop at nodes ≡ n ∷ drop (at + 1) nodes) where
-    pub can_node : CanTryOne b (instruction_of f) (item_of n)
-    can_node = can_first (rw (flat, node) at left.ready)
-
     pub nodes_next : {c : Books} {j : Segment} → IsPut (of_item (instruction_of f) (item_of n)) b k c j → NodesLeft flats nodes a l (at + 1) c j
     nodes_next h = record { ready = can_rest (rw (flat, node) at left.ready) h.goes; on = λ d m r g. (rw (flat, node) at left.on) d m r (puts_then _ d m r h g) }
-
-    pub node_refused : {c : Books} {fault : EncodeFault} → NotPut (item_judged (instruction_of f) (item_of n) (state b.entries k.bits)) b c fault → NotPut (items_judged (list_of flats) (items_in nodes) (state a.entries l.bits)) a c fault
-    node_refused {c} {fault} h = (rw (flat, node) at left.on) c k (Err fault) (refused_then (λ t. items_judged (list_of (drop (at + 1) flats)) (items_in (drop (at + 1) nodes)) t) h)
 
 -- ---- elements
 
