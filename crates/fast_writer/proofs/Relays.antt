@@ -126,11 +126,6 @@ pub stops_under : (level : Level) (p : FieldPart) (d e : Dictionary) (old new : 
 stops_under level p d e old new bit bytes l after f is put s other =
     (rw (is) at (s.fault other), put ∙ ap (set_entry d p.key) (s.entry ∙ is) ∙ set_entry-there d p.key, level_bytes l after s.out)
 
--- a part without a bit is read under bit 1
-pub needs_one : (needs bit : Bool) → (needs ≡ false → bit ≡ true) → bit ≡ false → needs ≡ true
-needs_one true bit one zero = refl
-needs_one false bit one zero = absurd (let both = sym zero ∙ one refl in cc)
-
 -- a length in one byte, whose entry stays
 pub byte_relayed : (level : Level) (i : FieldPart) (count : Option ℕ) (bytes : List ℕ) (at : ℕ) → ReadsAsUsual level i (drop at bytes) → RelaysByte i count bytes at → (e : Entry) (out : List ℕ)
     → Relayed level i e e true true (length_of count) (drop at bytes) (drop (at + 1) bytes) out (out ++ slice_index bytes at ∷ [])

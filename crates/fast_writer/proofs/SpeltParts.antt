@@ -13,7 +13,7 @@ use Rattle.fast_value.specs.declared.kind.Kind.TheVariants as kind
 use Rattle.fast_value.specs.declared.kind.Part.TheVariants as part
 use Rattle.fast_value.specs.declared.kind.Presence.TheVariants.{Mandatory}
 use Rattle.fast_value.specs.declared.scalar.Scalar.{Scalar}
-use Rattle.fast_value.specs.declared.scalar.Scalar.TheVariants.{I64}
+use Rattle.fast_value.specs.declared.scalar.Scalar.TheVariants.{I32, I64}
 use Rattle.fast_template.specs.declared.resolved.FieldPart.{FieldPart}
 use Rattle.fast_template.specs.TemplateSets.{IsTyped}
 use Rattle.fast_dictionary.specs.declared.entry.Entry.{Entry}
@@ -30,11 +30,11 @@ use Rattle.fast_field.proofs.LevelsAgree.{read_usually}
 use Rattle.fast_field.proofs.Refused.{not_refused}
 use Rattle.fast_field.proofs.ValueKinds.{value_kind, value_there}
 use Rattle.fast_stream.specs.Bodies.{written}
+use Rattle.fast_walk.specs.Received.{exponent_of}
 use Rattle.fast_walk.specs.Told.{HoldScalars, KeepScalars, IsTold}
 use Rattle.fast_walk.proofs.Telling.{are_kept, form_holds, kept_hold, told_part}
 use Rattle.fast_relay.specs.Relayed.{IsThere}
 use Rattle.fast_writer.specs.Written.{AppendsForm, Segment, Spelt}
-use Rattle.fast_writer.proofs.QuickWays.{mantissa_there}
 
 -- ---- values
 
@@ -53,6 +53,27 @@ still_some (Some v) = refl
 pub is_there : (k : Kind) (v : Option Scalar) (b : Bool) → b ≡ is_some v → IfSome v (λ w. IsTrue (is_of k w)) → IsThere k b v
 is_there k None b is h = rw (is) refl
 is_there k (Some v) b is h = rw (is) (v, refl, h)
+
+-- what an exponent and a mantissa are
+is_int32 : (w : Scalar) → IsTrue (is_of kind.Int32 w) → (z : ℤ) × (w ≡ I32 z)
+is_int32 (I32 z) h = (z, refl)
+is_int32 w h = absurd cc
+
+is_int64 : (w : Scalar) → IsTrue (is_of kind.Int64 w) → (z : ℤ) × (w ≡ I64 z)
+is_int64 (I64 z) h = (z, refl)
+is_int64 w h = absurd cc
+
+pub exponent_there : (k : Kind) (there : Bool) (v : Option Scalar) → k ≡ kind.Int32 → IsThere k there v
+    → (z : Option ℤ) × (v ≡ exponent_of z) × (is_some z ≡ there)
+exponent_there k true v is h =
+    let w = is_int32 h.0 (rw (is) at h.2) in
+    (Some w.0, h.1 ∙ ap (λ (x : Scalar). Some x) w.1, refl)
+exponent_there k false v is h = (None, h, refl)
+
+mantissa_there : (k : Kind) (v : Option Scalar) → k ≡ kind.Int64 → IsThere k true v → (m : ℤ) × (v ≡ Some (I64 m))
+mantissa_there k v is h =
+    let w = is_int64 h.0 (rw (is) at h.2) in
+    (w.0, h.1 ∙ ap (λ (x : Scalar). Some x) w.1)
 
 -- a mantissa has a value, which is an integer of 64 bits
 pub mantissa_taken : (p : FieldPart) (e : Entry) (there : Bool) (v : Option Scalar) (l k : Segment) → IsTold part.Mantissa kind.Int64 p → p.presence ≡ Mandatory

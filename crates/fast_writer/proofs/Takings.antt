@@ -1,5 +1,5 @@
 -- Fields that are taken one after the other into the segment that is open.
-use Rattle.std.proofs.Common.{◌≡◌, ◌≤◌, ◌<◌, ◌-◌, ◌+◌, ℕ, suc, ℤ, pos, Bool, true, false, List, [], ◌∷◌, ◌++◌, length, Option, Some, None, drop, take, refl, sym, ap, ◌∙◌, subst, arith}
+use Rattle.std.proofs.Common.{◌≡◌, ◌≤◌, ◌<◌, ◌-◌, ◌+◌, ℕ, suc, ℤ, pos, Bool, false, List, [], ◌∷◌, ◌++◌, length, Option, Some, None, drop, take, refl, sym, ap, ◌∙◌, subst, arith}
 use Rattle.std.proofs.lemmas.List.{drop-drop, take_all}
 use Rattle.std.specs.Option.{is_some}
 use Rattle.std.specs.List.{slice_get}
@@ -23,7 +23,7 @@ use Rattle.fast_value.specs.declared.key.Key.{Key}
 use Rattle.fast_walk.proofs.Steps.{count_goes, part_goes}
 use Rattle.fast_walk.proofs.Walking.{field_on, exponent_on, no_exponent_on, mantissa_on_goes, is_instruction, is_mantissa}
 use Rattle.fast_writer.specs.Written.{IsOpened, Segment, Spelt}
-use Rattle.fast_writer.specs.Takings.{BeginsWith, EndsPart, Front, MatchTaken, Takes, TakesPart, TakesUnder, TookEntry, TookFields, TookUnder, behind, front_at}
+use Rattle.fast_writer.specs.Takings.{BeginsWith, EndsPart, Front, MatchTaken, Takes, TakesPart, TakesUnder, TookEntry, TookFields, TookUnder, behind}
 use Rattle.fast_writer.specs.Levels.{level_in, level_of}
 use Rattle.fast_writer.specs.Quick.{Relayed}
 use Rattle.fast_writer.specs.declared.segment.Segment.{Segment as LevelNow}
@@ -36,8 +36,7 @@ use Rattle.fast_field.specs.Parts.{IsFieldPart}
 use Rattle.fast_walk.specs.Told.{KeepScalars}
 use Rattle.fast_writer.proofs.MapRoom.{asked_room}
 use Rattle.fast_writer.proofs.Relays.{took_entry, took_of}
-use Rattle.fast_writer.proofs.SpeltParts.{mantissa_taken, spelt_keeps}
-use Rattle.fast_writer.proofs.QuickWays.{exponent_there}
+use Rattle.fast_writer.proofs.SpeltParts.{exponent_there, mantissa_taken, spelt_keeps}
 use Rattle.fast_writer.proofs.Writers.{has_field, has_exponent, has_mantissa}
 
 abbrev behind_first : List Flat → List Flat
@@ -79,11 +78,6 @@ ahead flats {others} {f} few is first =
 pub served_ahead : (serves : Key → Bool) {flats others : List Flat} {f : Flat} → Ahead flats others f → AreServed serves (list_of (drop (length flats - length others) flats))
     → IsServed serves (instruction_of f) × AreServed serves (list_of (drop (length flats - length others + 1) flats))
 served_ahead serves front served = subst (AreServed serves) front.goes served
-
--- what is next behind a field's first part: nothing behind a field's own
-pub behind_whole : (there : Bool) (m : Option (Bor FieldPart)) → m ≡ None → behind there m ≡ None
-behind_whole true m none = none
-behind_whole false m none = refl
 
 -- ---- a part
 
@@ -256,19 +250,12 @@ module _ {level : Level} {bytes : List ℕ} where
       → Takes level bytes (level_in bytes k) d bits (record { mantissa = None; rest = then_instruction i is; spare = spare; place = k.bytes.place })
       (level_in bytes j) e later (record { mantissa = behind there m; rest = is; spare = spare - 1; place = j.bytes.place })
   takes_first (whole_field name number presence whole) {there} m is spare begins some t =
-      rw (behind_whole there m begins.1, sym begins.0) (takes_field name number presence is spare _ _ some t.took t.spelt t.left)
+      rw (begins.1, sym begins.0) (takes_field name number presence is spare _ _ some t.took t.spelt t.left)
   takes_first (field_in_parts name number presence exponent q) {there} {p} m is spare begins some t =
       let x = exponent_there p.kind there t.value begins.1 t.is_there in
       rw (begins.2.1, sym begins.0, sym begins.2.2, sym x.2) (takes_exponent x.0 name number presence begins.2.0 is spare _ _ some (rw (x.1) at t.took) (rw (x.1) at t.spelt) t.left)
   takes_first (group_of name number presence members) m is spare begins some t = absurd begins
   takes_first (sequence_of name number presence part members) m is spare begins some t = absurd begins
-
-  -- from the beginning of a body on, the segment and the place as they are called otherwise
-  pub takes_from : (l m k : Segment) (d e : Dictionary) (bits later : List Bool) (flats : List Flat) (spare a at : ℕ) (g : Front) → m ≡ l → a ≡ at
-      → Takes level bytes m d bits (front_at flats spare 0 None a) k e later g → Takes level bytes l d bits (record { mantissa = None; rest = list_of flats; spare = spare; place = at }) k e later g
-  takes_from l m k d e bits later flats spare a at g same place t =
-      let whole : spare - 0 ≡ spare = omega arith in
-      rw (sym same, sym place) (subst (λ (n : ℕ). Takes level bytes m d bits (record { mantissa = None; rest = list_of flats; spare = n; place = a }) k e later g) whole t)
 
   -- ---- fields from the front of a body
 
@@ -280,7 +267,9 @@ module _ {level : Level} {bytes : List ℕ} where
     some = λ one. absurd cc;
     served = served;
     next_served = tt;
-    takes = λ spare few. takes_one (λ out outer o at left. (o.next, o.body, (λ h. h), at, left, λ more. refl));
+    takes = λ spare few.
+        let whole : spare - 0 ≡ spare = omega arith in
+        rw whole (takes_one (λ out outer o at left. (o.next, o.body, (λ h. h), at, left, λ more. refl)));
     room = λ around room. room;
     kept = kept;
   }
@@ -324,9 +313,3 @@ module _ {level : Level} {bytes : List ℕ} where
         room = λ around room. t.room around (so_far.room around room);
         kept = t.kept;
       }
-
-  -- nothing more
-  pub took_stays : {serves : Key → Bool} {rest : List Flat} {l k j : Segment} {d e c : Dictionary} {bits later last : List Bool} {at count : ℕ} {n : Option (Bor FieldPart)} {place next : ℕ}
-      → c ≡ e → j ≡ k → last ≡ later → next ≡ place
-      → TookFields level serves rest bytes l d bits at count n k e later place → TookFields level serves rest bytes l d bits at count n j c last next
-  took_stays entries segment map at_it so_far = rw (entries, segment, map, at_it) so_far

@@ -114,11 +114,11 @@ pub has_ended : (inside : Inside) (out : List ℕ) (outer later : List Segment) 
     → o.next ≡ at_instruction → o.body.rest ≡ no_instructions → o.around ≡ ws ++ w ∷ [] → w.inside ≡ inside → Closes outer l later k
     → IsOpened out outer l o d → IsOpened out later k (ended_in o ws w.body inside) d
 has_ended inside out outer later l k o ws w d next rest is inside_is closes has =
-    let behind = segment_left (message_of o) o.around ws w later l closes.around o.body d closes.map rest is closes.shortest closes.none
+    let behind = segment_left (message_of o) o.around ws w later l closes.around o.body d closes.ended.map rest is closes.ended.shortest closes.ended.none
     (subst (λ (ls : List Segment). Chain (message_of o) o.around ls (IsTop at_instruction l o.body d)) closes.outer_is (at_next out outer l o d at_instruction next has)) in
-    rw (closes.next_is)
-    (ends_in inside out later (with_bytes closes.around (closes.map ++ l.bytes)) o ws w d has.0
-    (subst (λ (n : Inside). Chain (message_of o) ws later (λ h. IsBehind n h (with_bytes closes.around (closes.map ++ l.bytes)) w.body (items_of o.body.done) d)) inside_is behind))
+    rw (closes.next_is, closes.ended.bytes)
+    (ends_in inside out later (with_bytes closes.around (closes.ended.map ++ l.bytes)) o ws w d has.0
+    (subst (λ (n : Inside). Chain (message_of o) ws later (λ h. IsBehind n h (with_bytes closes.around (closes.ended.map ++ l.bytes)) w.body (items_of o.body.done) d)) inside_is behind))
 
 pub has_elements : (out : List ℕ) (outer : List Segment) (l : Segment) (o : Received) (d : Dictionary) (s : Sequel) → o.next ≡ at_element s → s.left ≡ 0 → IsOpened out outer l o d → IsOpened out outer l (after_sequence o s) d
 has_elements out outer l o d s next none = on_top out outer l l o d d (at_element s) at_instruction (after_sequence o s).body next (λ g w. elements_written g l o.body s d none w)

@@ -39,10 +39,6 @@ pub record Front : Type 0 where
 abbrev pub front_of : Fields → Front
 front_of f = record { mantissa = f.mantissa; rest = list_of f.rest.now; spare = f.spare; place = f.place }
 
--- the same behind so many instructions of a body, each of which is a node
-abbrev pub front_at : List Flat → ℕ → ℕ → Option (Bor FieldPart) → ℕ → Front
-front_at flats spare count mantissa place = record { mantissa = mantissa; rest = list_of (drop count flats); spare = spare - count; place = place }
-
 -- From one segment, dictionary, map and place to others: whatever is open around it, fields were passed.
 pub record Takes (level : Level) (bytes : List ℕ) (l : Segment) (d : Dictionary) (bits : List Bool) (f : Front) (k : Segment) (e : Dictionary) (later : List Bool) (g : Front) : Type 0 where
   pub passes : (out : List ℕ) (outer : List Segment) (o : Received) → bare_next o.next ≡ next_behind f.mantissa → o.body.rest ≡ f.rest → IsOpened out outer l o d
@@ -63,8 +59,9 @@ IsFirstTold (Some mantissa) p = IsTold part.Exponent kind.Int32 p
 
 -- the mantissa that is next behind an exponent, whether that is there
 abbrev pub behind : Bool → Option (Bor FieldPart) → Option (Bor FieldPart)
-behind true mantissa = mantissa
-behind false mantissa = None
+behind there None = None
+behind true (Some mantissa) = Some mantissa
+behind false (Some mantissa) = None
 
 -- The next bit, or 1, and the bytes before `rest` give the value of a part, its entry is the one afterwards, and its best
 -- form was put into a segment.
@@ -130,6 +127,7 @@ pub record TookFields (level : Level) (serves : Key → Bool) (rest : List Flat)
   pub some : IsSome mantissa → 0 < count
   pub served : AreServed serves (list_of (drop count rest))
   pub next_served : IsNextServed serves (next_behind mantissa)
-  pub takes : (spare : ℕ) → length rest ≤ spare → Takes level bytes l d bits (front_at rest spare 0 None at) k e later (front_at rest spare count mantissa next)
+  pub takes : (spare : ℕ) → length rest ≤ spare → Takes level bytes l d bits (record { mantissa = None; rest = list_of rest; spare = spare; place = at })
+      k e later (record { mantissa = mantissa; rest = list_of (drop count rest); spare = spare - count; place = next })
   pub room : (around : Bool) → IsTrue (has_room l bits && around) → IsTrue (has_room k later && around)
   pub kept : KeepScalars e

@@ -157,11 +157,10 @@ pub record AppendsForm (p : FieldPart) (e : Entry) (v : Option Scalar) (bit : Bo
 -- the innermost segment ends, and stands in the one around it
 pub record Closes (outer : List Segment) (now : Segment) (later : List Segment) (next : Segment) : Type 0 where
   pub around : Segment
-  pub map : List ℕ
+  pub bytes : List ℕ
   pub outer_is : outer ≡ later ++ around ∷ []
-  pub next_is : next ≡ with_bytes around (map ++ now.bytes)
-  pub shortest : now.own ≡ true → IsShortest IsMap map now.bits
-  pub none : now.own ≡ false → map ≡ []
+  pub next_is : next ≡ record { bits = around.bits; own = around.own; bytes = bytes }
+  pub ended : Ended now around.bytes bytes
 
 -- the innermost segment has ended in the one around it, which is still around
 pub record ClosesIn (outer : List Segment) (now : Segment) (later : List Segment) : Type 0 where

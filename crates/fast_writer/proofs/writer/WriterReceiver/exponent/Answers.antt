@@ -2,7 +2,7 @@ use Rattle.std.proofs.Common.{map}
 use Rattle.std.proofs.lemmas.Result.{MatchResult-weaker}
 use Rattle.fast_walk.specs.Received.{exponent_of}
 use Rattle.fast_writer.specs.Levels.{level_of}
-use Rattle.fast_writer.proofs.QuickWays.{exponent_there}
+use Rattle.fast_writer.proofs.SpeltParts.{exponent_there}
 use Rattle.fast_writer.proofs.Writers.{has_exponent, is_exponent}
 use Rattle.fast_writer.specs.Room.{have_room}
 use Rattle.fast_writer.proofs.writer.WriterReceiver.exponent.Goals as goal
