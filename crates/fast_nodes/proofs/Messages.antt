@@ -1,5 +1,5 @@
 -- A message that is written, or why it is not.
-use Rattle.std.proofs.Common.{◌≡◌, ◌≤◌, ℕ, Bool, true, false, List, ◌++◌, Some, None, refl}
+use Rattle.std.proofs.Common.{◌≡◌, ◌≤◌, ℕ, Bool, true, false, List, ◌++◌, Option, Some, None, refl}
 use Rattle.std.proofs.lemmas.Bool.{ltb-false, or_parts}
 use Rattle.std.specs.Prelude.{nat_lt, not, if◌then◌else◌}
 use Rattle.fast_template.specs.Resolved.{Instructions, Resolved}
@@ -14,9 +14,10 @@ use Rattle.fast_walk.specs.Traversals.{ServesAll}
 use Rattle.fast_stream.proofs.FoundMembers.{members_have}
 use Rattle.fast_walk.proofs.Serving.{members_served}
 use Rattle.fast_nodes.specs.declared.fault.EncodeCause.TheVariants as cause
+use Rattle.fast_nodes.specs.declared.fault.EncodeFault.{EncodeFault}
 use Rattle.fast_nodes.specs.Added.{AddsBytes, Books, CanTry, in_segment, of_message}
 use Rattle.fast_writer.specs.Canonical.{CanonMessage}
-use Rattle.fast_nodes.specs.FirstRefusal.{refused, items_fit, is_too_large, has_large, whole_refusal}
+use Rattle.fast_nodes.specs.FirstRefusal.{early_refusal, message_refusal, refused, items_fit, is_too_large, has_large, whole_refusal}
 use Rattle.fast_nodes.proofs.Tries.{small_all}
 
 -- ---- what is judged before the fields
@@ -48,6 +49,11 @@ can_try {a} set m {members} sound served holds named whole =
       small = small_all m.items f.large;
       holds = holds;
     }
+
+-- the first refusal of a message, by what is judged before its fields
+pub early_first : (found : Option Instructions) (d : Dictionary) (m : Content) {f : EncodeFault} → early_refusal found m.items ≡ Some f → message_refusal found d m ≡ Some f
+early_first None d m why = why
+early_first (Some members) d m why = rw (why) refl
 
 -- ---- the contract of a call
 

@@ -9,6 +9,7 @@ ghost use Rattle.fast_stream.specs.Streams.{members_of};
 ghost use Rattle.fast_nodes.specs.FirstRefusal.{IsJudged, early_refusal, is_too_large, whole_refusal};
 
 use crate::fault::{EncodeCause, EncodeFault};
+use crate::put::refuse;
 use crate::shape::all_fit;
 use crate::size::left_behind_all;
 use fast_stream::{Message, Node};
@@ -29,16 +30,10 @@ fn judge_whole(members: &[Flat], nodes: &[Node]) -> Result<(), EncodeFault>
     ensures { Judges (whole_refusal (list_of members.now) (items_in nodes.now)) result }
 {
     if !all_fit(members, nodes) {
-        return Err(EncodeFault {
-            cause: EncodeCause::Mismatch,
-            instruction: 0,
-        });
+        return Err(refuse(EncodeCause::Mismatch));
     }
     if is_large(nodes) {
-        return Err(EncodeFault {
-            cause: EncodeCause::Limit,
-            instruction: 0,
-        });
+        return Err(refuse(EncodeCause::Limit));
     }
     Ok(())
 }
@@ -59,10 +54,7 @@ pub fn template_for<'a>(
         (content_of message.now).items ≡ Some f) }
 {
     match set.find(message.template) {
-        None => Err(EncodeFault {
-            cause: EncodeCause::D9,
-            instruction: 0,
-        }),
+        None => Err(refuse(EncodeCause::D9)),
         Some(template) => {
             judge_whole(&template.members, &message.fields)?;
             Ok(template)

@@ -9,9 +9,9 @@ ghost use Rattle.fast_stream.specs.Bodies.{written};
 ghost use Rattle.fast_nodes.specs.Added.{CanTryPart, Changed, IsValuePut, NoValuePut, Puts, books_of, of_part};
 ghost use Rattle.fast_writer.specs.Levels.{level_of};
 
-use crate::fault::EncodeFault;
+use crate::fault::{EncodeCause, EncodeFault};
 use crate::journal::{Change, Journal};
-use crate::put::{no_memory, put_part};
+use crate::put::{put_part, refuse};
 use fast_dictionary::{Entries, Entry};
 use fast_template::{FieldPart, Scalar};
 use fast_writer::Segment;
@@ -39,7 +39,7 @@ pub fn put_value<E: Entries>(
     ensures same_keys { E.serves entries.new ≡ E.serves entries.old }
 {
     match entries.entry_mut(&part.key) {
-        Err(_) => Err(no_memory()),
+        Err(_) => Err(refuse(EncodeCause::Memory)),
         Ok(entry) => Ok(put_part(alloc, part, entry, value, level)?),
     }
 }
@@ -118,7 +118,7 @@ impl<'a, E: Entries> Journal<'a, E> {
             (books_of E.Entries self.new) (level_of level.new) result }
     {
         if self.changes.reserve(1).is_err() {
-            return Err(no_memory());
+            return Err(refuse(EncodeCause::Memory));
         }
         let before = put_value(alloc, &mut self.entries, part, value, level)?;
         self.changes.push(Change { part, before }).unwrap();

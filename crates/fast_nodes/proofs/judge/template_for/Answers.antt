@@ -14,7 +14,7 @@ members_found o = option_map (λ (f : FlatTemplate). list_of f.members.items) o
 pub returns-in-None-clause-judged : goal.returns-in-None-clause-judged
 returns-in-None-clause-judged c =
     let none = found_members c.args.set.now c.args.message.now.template ∙ ap members_found (sym (rw (c.in-None.is) at c.find.ensures.value)) in
-    ap (λ o. early_refusal o (content_of c.args.message.now).items) none
+    rw (c.refuse.ensures) (ap (λ o. early_refusal o (content_of c.args.message.now).items) none)
 
 pub returns-in_err-judge_whole-in-Some-clause-judged : goal.returns-in_err-judge_whole-in-Some-clause-judged
 returns-in_err-judge_whole-in-Some-clause-judged c =

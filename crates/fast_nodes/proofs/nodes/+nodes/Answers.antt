@@ -5,7 +5,7 @@ use Rattle.fast_stream.specs.Nodes.{items_in}
 use Rattle.fast_nodes.specs.Added.{CanTry, books_of}
 use Rattle.fast_writer.specs.Levels.{level_of}
 use Rattle.fast_writer.specs.Written.{IsEmpty}
-use Rattle.fast_nodes.proofs.Shapes.{other_number}
+use Rattle.fast_nodes.proofs.Views.{other_number}
 use Rattle.fast_nodes.proofs.Tries.{can_each, can_segment, element_refused, elements_end, elements_next, few_elements, group_put, length_refused, next_of, no_group_put, parts_put, nodes_end, nodes_next, segment_put, sequence_put}
 use Rattle.fast_nodes.proofs.nodes.+nodes.Goals as goal
 
@@ -73,13 +73,15 @@ put_node-returns-in_ok-put-in-Decimal g t c =
 
 -- ---- one sequence
 
-pub put_node-length_of-requires : goal.put_node-length_of-requires
-put_node-length_of-requires g t c = rw (c.deref-elements.ensures.value) (few_elements c.in-Sequence.members c.in-Sequence-node.elements c.in-Sequence.is c.in-Sequence-node.is c.requires)
+pub put_node-overflow_cast-elements : goal.put_node-overflow_cast-elements
+put_node-overflow_cast-elements g t c =
+    let few = few_elements c.in-Sequence.members c.in-Sequence-node.elements c.in-Sequence.is c.in-Sequence-node.is c.requires in
+    rw (c.deref-elements.ensures.value) (omega (arith, few))
 
 pub put_node-returns-in_err-put-in-Sequence-node : goal.put_node-returns-in_err-put-in-Sequence-node
 put_node-returns-in_err-put-in-Sequence-node g t c =
     let p = err_from_is_err_and c.from_residual-in_err-put-in-Sequence-node.result c.from_residual-in_err-put-in-Sequence-node.ensures.1 in
-    let part = rw (c.length_of.ensures, c.deref-elements.ensures.value) at c.in_err-put-in-Sequence-node.ensures in
+    let part = rw (c.deref-elements.ensures.value) at c.in_err-put-in-Sequence-node.ensures in
     rw (p.1 ∙ ap Err p.2) (length_refused c.in-Sequence.members c.in-Sequence-node.elements (level_of c.args.level.now) c.in-Sequence.is c.in-Sequence-node.is part)
 
 pub put_node-tell_elements-requires : goal.put_node-tell_elements-requires
@@ -88,6 +90,6 @@ put_node-tell_elements-requires g t c =
 
 pub put_node-returns-in_ok-put-in-Sequence-node : goal.put_node-returns-in_ok-put-in-Sequence-node
 put_node-returns-in_ok-put-in-Sequence-node g t c =
-    let part = rw (c.length_of.ensures, c.deref-elements.ensures.value) at c.in_ok-put-in-Sequence-node.ensures in
+    let part = rw (c.deref-elements.ensures.value) at c.in_ok-put-in-Sequence-node.ensures in
     sequence_put c.in-Sequence.members c.in-Sequence-node.elements _ c.put_elements.new.out.items c.put_elements.result c.in-Sequence.is c.in-Sequence-node.is part
     (rw (c.deref-members.ensures.value, c.deref-elements.ensures.value) at c.put_elements.ensures)

@@ -1,6 +1,5 @@
 use Rattle.std.proofs.Common.{rules, ◌≢◌, length}
-use Rattle.fast_nodes.proofs.Shapes.{other_number}
-use Rattle.fast_nodes.proofs.Views.{is_elements, is_sequence}
+use Rattle.fast_nodes.proofs.Views.{is_elements, is_sequence, other_number}
 use Rattle.fast_nodes.proofs.shape.+shape.Goals as goal
 
 pub all_fit-returns-then-flats-nodes : goal.all_fit-returns-then-flats-nodes

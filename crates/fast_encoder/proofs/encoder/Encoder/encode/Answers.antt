@@ -6,7 +6,7 @@ use Rattle.fast_stream.specs.Nodes.{content_of}
 use Rattle.fast_walk.proofs.Telling.{are_kept, kept_hold}
 use Rattle.fast_stream.specs.Streams.{members_of}
 use Rattle.fast_encoder.proofs.NoForm.{no_form, no_form_of, written_of}
-use Rattle.fast_nodes.proofs.Judgements.{early_first}
+use Rattle.fast_nodes.proofs.Messages.{early_first}
 use Rattle.fast_nodes.proofs.Messages.{can_try}
 use Rattle.fast_encoder.proofs.encoder.Encoder.encode.Goals as goal
 
