@@ -305,6 +305,7 @@ impl Receiver for Writer {
     }
 
     #[inline(always)]
+    #[tactic(auto, using(crate::proofs::Writers::has_elements))]
     fn end_sequence(&mut self, _alloc: Global) -> Result<(), AllocError> {
         Ok(())
     }
