@@ -212,6 +212,7 @@ fn take_sent<L: Leveled>(
 
 // Takes a part and its bit, where the quick way serves.
 #[inline(always)]
+#[tactic(auto, using(fast_walk::proofs::Telling::kept_hold, crate::proofs::Takings::taken_under))]
 fn take_part<L: Leveled, E: Entries>(
     which: Part,
     alloc: Global,

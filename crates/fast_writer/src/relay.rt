@@ -116,6 +116,7 @@ fn relay_generally(
 ///
 /// The first fault of the part; nothing has changed. Memory: a growth was refused.
 #[inline(always)]
+#[tactic(auto, using(fast_walk::proofs::Telling::kept_hold))]
 pub(crate) fn relay_part<E: Entries>(
     alloc: Global,
     entries: &mut E,

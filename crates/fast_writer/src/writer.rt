@@ -135,6 +135,7 @@ impl Receiver for Writer {
     }
 
     #[inline(always)]
+    #[tactic(auto, using(crate::proofs::Writers::has_finished))]
     fn finish(&mut self, _alloc: Global) -> Result<(), AllocError> {
         self.inner.end(&mut self.out)?;
         Ok(())
@@ -146,6 +147,7 @@ impl Receiver for Writer {
     }
 
     #[inline(always)]
+    #[tactic(auto, using(fast_walk::proofs::Telling::told_part))]
     fn field<E: Entries>(
         &mut self,
         alloc: Global,
@@ -277,6 +279,7 @@ impl Receiver for Writer {
     }
 
     #[inline(always)]
+    #[tactic(auto, using(crate::proofs::Writers::has_element))]
     fn enter_element(
         &mut self,
         alloc: Global,

@@ -1,14 +1,7 @@
 use Rattle.std.proofs.Common.{map}
 use Rattle.fast_writer.specs.Levels.{level_of}
-use Rattle.fast_writer.proofs.Writers.{has_element}
 use Rattle.fast_writer.proofs.MapRoom.{opened_room}
 use Rattle.fast_writer.proofs.writer.WriterReceiver.enter_element.Goals as goal
-
-pub returns-clause-has : goal.returns-clause-has
-returns-clause-has c = λ s bits o d next own some.
-    let old = c.args.self.now in
-    let new = c.open.new.self in
-    rw (c.open.ensures.out) (has_element old.out.items (map level_of old.outer) (map level_of new.outer) (level_of old.inner) (level_of new.inner) o s bits d c.args.own_map next own some c.in_ok-open.ensures.outer c.in_ok-open.ensures.begun)
 
 pub returns-clause-room : goal.returns-clause-room
 returns-clause-room c = λ around left bits few.
