@@ -43,6 +43,7 @@ fn judge_whole(members: &[Flat], nodes: &[Node]) -> Result<(), EncodeFault>
 /// # Errors
 ///
 /// `D9`, `Mismatch` or `Limit`, the first refusal of the message, whatever the entries are.
+#[tactic(auto, using(fast_walk::proofs::Serving::found_members))]
 pub fn template_for<'a>(
     set: &'a TemplateSet,
     message: &Message,

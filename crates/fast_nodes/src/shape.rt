@@ -13,6 +13,7 @@ use fast_template::{FieldPart, Flat, Presence, Scalar};
 use fast_value::is_of_kind;
 
 // Whether each unit is a character of ASCII.
+#[tactic(auto, using(fast_field::proofs::RefusalSteps::characters_told))]
 fn all_characters(text: &[u8]) -> bool
     ensures { result ≡ are_characters text.now }
 {
@@ -85,6 +86,7 @@ fn fits(flat: &Flat, node: &Node) -> bool
 
 // Whether there is a node of its shape for each instruction.
 #[cycle(shape)]
+#[tactic(auto, using(crate::proofs::Views::other_number))]
 pub(crate) fn all_fit(flats: &[Flat], nodes: &[Node]) -> bool
     ensures { result ≡ items_fit (list_of flats.now) (items_in nodes.now) }
 {

@@ -45,6 +45,7 @@ pub fn put_value<E: Entries>(
 }
 
 /// Puts the entry of a part back that was written last. Takes no memory.
+#[tactic(auto, using(crate::proofs::Changes::set_back, crate::proofs::Changes::still_undefined))]
 pub fn put_back<E: Entries>(entries: &mut E, part: &FieldPart, before: Entry)
     requires served { IsTrue (E.serves entries.now part.now.key) }
     ensures back { (d : Dictionary) (v : Option ScalarOf) → before ≡ entry_at d part.now.key
@@ -86,6 +87,7 @@ impl<'a, E: Entries> Journal<'a, E> {
     }
 
     /// Puts back what was changed, the last first. Takes no memory.
+    #[tactic(auto, using(crate::proofs::Changes::changed_last))]
     pub fn put_back(&mut self)
         requires changed { (d : Dictionary) × Changed (E.serves self.now.entries)
             self.now.changes.items d (E.contents self.now.entries) }
