@@ -28,7 +28,7 @@ use Rattle.fast_field.specs.Bases.{delta_base}
 use Rattle.fast_field.specs.Faults.{field_fault}
 use Rattle.fast_field.specs.FieldReading.{in_field, check, unless_null, integer_at, integer_usually_at, mantissa_entity_at, mantissa_behind, mantissa_delta_behind, integer_spelled_at, decimal_spelled_at, spelled_at, integer_delta_at, decimal_delta_at, delta_at, whole_at, row_at, field_at}
 use Rattle.fast_field.specs.Spelled.{overlong_number}
-use Rattle.fast_field.specs.Values.{is_unsigned, exponent_of, mantissa_of}
+use Rattle.fast_field.specs.Values.{is_unsigned, exponent_of}
 use Rattle.fast_field.proofs.LevelsAgree.{integer_starts, mantissa_starts}
 use Rattle.fast_field.proofs.OneEntity as one
 use Rattle.fast_writer.specs.Beginnings.{BeginsField, BeginsShort, BeginsShortBehind, BeginsNumber}
@@ -87,63 +87,42 @@ exponent_ends Optional b bs h = (received_signed (signed_of (b ∷ [])), rw (le-
 exponent : (p : Presence) (b : ℕ) (bs : List ℕ) → 128 ≤ b → integer_at Strict false p (b ∷ bs) ≡ integer_at Usual false p (b ∷ bs)
 exponent p b bs h = one.integer false p b bs (λ is. absurd (omega (arith, h, is))) (λ is. absurd (omega (arith, h, is)))
 
--- ---- what stands whole
+-- ---- an integer in front, or an exponent of one byte and a mantissa
 
-number : (pt : Part) (k : Kind) (p : Presence) (bytes more : List ℕ) → BeginsShort (is_unsigned k) bytes → integer_spelled_at Strict pt k p (bytes ++ more) ≡ integer_spelled_at Usual pt k p (bytes ++ more)
-unfolding integer_spelled_at
-number pt k p (b ∷ c ∷ cs) more short = first (integer_at Strict (is_unsigned k) p (b ∷ c ∷ (cs ++ more))) (integer_at Usual (is_unsigned k) p (b ∷ c ∷ (cs ++ more))) _ (integer (is_unsigned k) p b c (cs ++ more) short)
-number pt k p bytes more short = absurd short
+in_front : {A : Type 0} (u : Bool) (p : Presence) (bytes more : List ℕ) (k : Nullable ℤ × List ℕ → Result A FieldFault) → BeginsShort u bytes
+    → (integer_at Strict u p (bytes ++ more) >>= k) ≡ (integer_at Usual u p (bytes ++ more) >>= k)
+in_front u p (b ∷ c ∷ cs) more k short = first (integer_at Strict u p (b ∷ c ∷ (cs ++ more))) (integer_at Usual u p (b ∷ c ∷ (cs ++ more))) k (integer u p b c (cs ++ more) short)
+in_front u p bytes more k short = absurd short
 
-mantissa : (e : ℤ) (b c : ℕ) (cs : List ℕ) → overlong_number false (b ∷ c ∷ []) ≡ false → mantissa_behind Strict e (b ∷ c ∷ cs) ≡ mantissa_behind Usual e (b ∷ c ∷ cs)
-unfolding mantissa_behind
-mantissa e b c cs short = after (check (exponent_in_range e) fault.R1) _ _ (λ ok. first (mantissa_entity_at Strict (b ∷ c ∷ cs)) (mantissa_entity_at Usual (b ∷ c ∷ cs)) _ (mantissa_entity b c cs short))
-
-decimal : (p : Presence) (bytes more : List ℕ) → BeginsShortBehind bytes → decimal_spelled_at Strict p (bytes ++ more) ≡ decimal_spelled_at Usual p (bytes ++ more)
-unfolding decimal_spelled_at
-decimal p (a ∷ b ∷ c ∷ cs) more h =
+in_pair : (p : Presence) (bytes more : List ℕ) (f g : ℤ → List ℕ → Result (Option Scalar × List ℕ) FieldFault) → BeginsShortBehind bytes
+    → ((e : ℤ) (b c : ℕ) (cs : List ℕ) → overlong_number false (b ∷ c ∷ []) ≡ false → f e (b ∷ c ∷ cs) ≡ g e (b ∷ c ∷ cs))
+    → (integer_at Strict false p (bytes ++ more) >>= λ x. unless_null x f) ≡ (integer_at Usual false p (bytes ++ more) >>= λ x. unless_null x g)
+in_pair p (a ∷ b ∷ c ∷ cs) more f g h same =
     let rest = b ∷ c ∷ (cs ++ more) in
     let z = exponent_ends p a rest h.0 in
-    behind (integer_at Strict false p (a ∷ rest)) (integer_at Usual false p (a ∷ rest)) z.0 rest (mantissa_behind Strict) (mantissa_behind Usual) (exponent p a rest h.0) z.1
-    (λ e. mantissa e b c (cs ++ more) h.1)
-decimal p (a ∷ bytes) more h = absurd h.1
-decimal p [] more h = absurd h
+    behind (integer_at Strict false p (a ∷ rest)) (integer_at Usual false p (a ∷ rest)) z.0 rest f g (exponent p a rest h.0) z.1 (λ e. same e b c (cs ++ more) h.1)
+in_pair p (a ∷ bytes) more f g h same = absurd h.1
+in_pair p [] more f g h same = absurd h
+
+mantissa : {A : Type 0} (e : ℤ) (b c : ℕ) (cs : List ℕ) (k : ℤ × List ℕ → Result A FieldFault) → overlong_number false (b ∷ c ∷ []) ≡ false
+    → (check (exponent_in_range e) fault.R1 >>= λ (ok : Unit {0}). mantissa_entity_at Strict (b ∷ c ∷ cs) >>= k) ≡ (check (exponent_in_range e) fault.R1 >>= λ (ok : Unit {0}). mantissa_entity_at Usual (b ∷ c ∷ cs) >>= k)
+mantissa e b c cs k short = after (check (exponent_in_range e) fault.R1) _ _ (λ ok. first (mantissa_entity_at Strict (b ∷ c ∷ cs)) (mantissa_entity_at Usual (b ∷ c ∷ cs)) k (mantissa_entity b c cs short))
 
 spelled : (pt : Part) (k : Kind) (p : Presence) (bytes more : List ℕ) → BeginsNumber k (is_unsigned k) bytes → spelled_at Strict pt k p (bytes ++ more) ≡ spelled_at Usual pt k p (bytes ++ more)
-unfolding spelled_at
-spelled pt kind.Decimal p bytes more h = decimal p bytes more h
+unfolding spelled_at decimal_spelled_at integer_spelled_at mantissa_behind
+spelled pt kind.Decimal p bytes more h = in_pair p bytes more (mantissa_behind Strict) (mantissa_behind Usual) h (λ e b c cs. mantissa e b c cs _)
 spelled pt kind.Ascii p bytes more h = absurd h
 spelled pt kind.Unicode p bytes more h = absurd h
 spelled pt kind.Bytes p bytes more h = absurd h
-spelled pt k p bytes more h = number pt k p bytes more h
-
--- ---- deltas
-
-number_delta : (i : FieldPart) (e : Entry) (bytes more : List ℕ) → BeginsShort false bytes → integer_delta_at Strict i e (bytes ++ more) ≡ integer_delta_at Usual i e (bytes ++ more)
-unfolding integer_delta_at
-number_delta i e (b ∷ c ∷ cs) more short = first (integer_at Strict false i.presence (b ∷ c ∷ (cs ++ more))) (integer_at Usual false i.presence (b ∷ c ∷ (cs ++ more))) _ (integer false i.presence b c (cs ++ more) short)
-number_delta i e bytes more short = absurd short
-
-mantissa_delta : (e base : ℤ) (b c : ℕ) (cs : List ℕ) → overlong_number false (b ∷ c ∷ []) ≡ false → mantissa_delta_behind Strict e base (b ∷ c ∷ cs) ≡ mantissa_delta_behind Usual e base (b ∷ c ∷ cs)
-unfolding mantissa_delta_behind
-mantissa_delta e base b c cs short = after (check (exponent_in_range e) fault.R1) _ _ (λ ok. first (mantissa_entity_at Strict (b ∷ c ∷ cs)) (mantissa_entity_at Usual (b ∷ c ∷ cs)) _ (mantissa_entity b c cs short))
-
-decimal_delta : (i : FieldPart) (e : Entry) (bytes more : List ℕ) → BeginsShortBehind bytes → decimal_delta_at Strict i e (bytes ++ more) ≡ decimal_delta_at Usual i e (bytes ++ more)
-unfolding decimal_delta_at
-decimal_delta i e (a ∷ b ∷ c ∷ cs) more h =
-    let rest = b ∷ c ∷ (cs ++ more) in
-    let z = exponent_ends i.presence a rest h.0 in
-    behind (integer_at Strict false i.presence (a ∷ rest)) (integer_at Usual false i.presence (a ∷ rest)) z.0 rest _ _ (exponent i.presence a rest h.0) z.1
-    (λ d. after (delta_base i e) _ _ (λ base. mantissa_delta (exponent_of base +ℤ d) (mantissa_of base) b c (cs ++ more) h.1))
-decimal_delta i e (a ∷ bytes) more h = absurd h.1
-decimal_delta i e [] more h = absurd h
+spelled pt k p bytes more h = in_front (is_unsigned k) p bytes more _ h
 
 delta : (k : Kind) (i : FieldPart) (e : Entry) (bytes more : List ℕ) → BeginsNumber k false bytes → delta_at Strict k i e (bytes ++ more) ≡ delta_at Usual k i e (bytes ++ more)
-unfolding delta_at
-delta kind.Decimal i e bytes more h = decimal_delta i e bytes more h
+unfolding delta_at decimal_delta_at integer_delta_at mantissa_delta_behind
+delta kind.Decimal i e bytes more h = in_pair i.presence bytes more _ _ h (λ d b c cs short. after (delta_base i e) _ _ (λ base. mantissa (exponent_of base +ℤ d) b c cs _ short))
 delta kind.Ascii i e bytes more h = absurd h
 delta kind.Unicode i e bytes more h = absurd h
 delta kind.Bytes i e bytes more h = absurd h
-delta k i e bytes more h = number_delta i e bytes more h
+delta k i e bytes more h = in_front false i.presence bytes more _ h
 
 -- ---- fields
 

@@ -42,9 +42,6 @@ pub appended_kinds : (p : FieldPart) (e : Entry) (v : Option Scalar) (bit : Bool
 appended_kinds p e None bit old new typed a = tt
 appended_kinds p e (Some v) bit old new typed a = value_kind p typed e bit a.form v (a.best.cut, a.best.form)
 
-pub spelt_there : (p : FieldPart) (e : Entry) (l k : Segment) → IsTyped p → p.presence ≡ Mandatory → Spelt p e None l k → ⊥
-spelt_there p e l k typed mandatory s = value_there p typed mandatory e s.bit s.form (s.best.cut, s.best.form)
-
 -- whether there is a value
 pub still_some : (o : Option (Bor Scalar)) → is_some o ≡ is_some (option_copied o)
 still_some None = refl
@@ -70,17 +67,15 @@ exponent_there k true v is h =
     (Some w.0, h.1 ∙ ap (λ (x : Scalar). Some x) w.1, refl)
 exponent_there k false v is h = (None, h, refl)
 
-mantissa_there : (k : Kind) (v : Option Scalar) → k ≡ kind.Int64 → IsThere k true v → (m : ℤ) × (v ≡ Some (I64 m))
-mantissa_there k v is h =
-    let w = is_int64 h.0 (rw (is) at h.2) in
-    (w.0, h.1 ∙ ap (λ (x : Scalar). Some x) w.1)
-
 -- a mantissa has a value, which is an integer of 64 bits
 pub mantissa_taken : (p : FieldPart) (e : Entry) (there : Bool) (v : Option Scalar) (l k : Segment) → IsTold part.Mantissa kind.Int64 p → p.presence ≡ Mandatory
     → IsThere p.kind there v → Spelt p e v l k → (m : ℤ) × (v ≡ Some (I64 m))
-mantissa_taken p e true v l k told mandatory is s = mantissa_there p.kind v told.kind_is is
+mantissa_taken p e true v l k told mandatory is s =
+    let w = is_int64 is.0 (rw (told.kind_is) at is.2) in
+    (w.0, is.1 ∙ ap (λ (x : Scalar). Some x) w.1)
 mantissa_taken p e false v l k told mandatory is s =
-    absurd (spelt_there p e l k (told_part part.Mantissa kind.Int64 p refl told).typed mandatory (subst (λ (v : Option Scalar). Spelt p e v l k) is s))
+    let none = subst (λ (v : Option Scalar). Spelt p e v l k) is s in
+    absurd (value_there p (told_part part.Mantissa kind.Int64 p refl told).typed mandatory e none.bit none.form (none.best.cut, none.best.form))
 
 -- ---- entries
 
@@ -98,7 +93,5 @@ only_memory level p e v bytes rest f fits is holds goes (inl h) =
     let read : field_at level p e true bytes ≡ Ok (v, rest) =
     ap (λ (b : List ℕ). field_at level p e true b) (sym (append-nil bytes)) ∙ goes [] ∙ ap (λ (r : List ℕ). done {F = FieldFault} (v, r)) (append-nil rest) in
     let t = (field_forms Usual p e true (λ none. refl) is.typed.default_has_value).found bytes v rest fits (read_usually level p e true bytes (v, rest) read) in
-    absurd (let none = not_refused p e true t.front v is holds t.form in none_is_some f (sym none ∙ h))
-  where
-    none_is_some : (f : FieldRefusal) → None ≡ Some f → ⊥
-    none_is_some f h = absurd cc
+    let none = not_refused p e true t.front v is holds t.form in
+    absurd (let both : None ≡ Some f = sym none ∙ h in cc)

@@ -17,7 +17,7 @@ use Rattle.fast_stream.specs.Bodies.{State, SegmentBy, PartBy, PieceBy, written}
 use Rattle.fast_walk.specs.OpenSegments.{Body, Sequel, in_group, in_sequence, Waiting, at_instruction, at_element, with_item, fewer}
 use Rattle.fast_walk.proofs.Steps.{items_before-more, items_before-end, elements_before-more, elements_before-end}
 use Rattle.fast_writer.specs.Canonical.{CanonBody, IsShortestMap}
-use Rattle.fast_writer.specs.Written.{Segment, IsEmpty, state, bits_for, Leaves, Opening, of_segment, Whole, IsWritten, with_bytes, more_of, WaitsMantissa, CanonSegment, WaitsElements, IsTop, IsBehind, Waits, Chain, Spelt, Asked}
+use Rattle.fast_writer.specs.Written.{Segment, IsEmpty, state, bits_for, Leaves, Opening, of_segment, Whole, IsWritten, with_bytes, more_of, WaitsMantissa, WaitsElements, IsTop, IsBehind, Waits, Chain, Spelt, Asked}
 use Rattle.fast_writer.proofs.Leavings.{leaves_split, bit_of, behind_of, no_bits, closed}
 
 -- ---- one item more
@@ -192,17 +192,13 @@ with_map true inner s d l b x is rest shortest none w =
 with_map false inner s d l b x is rest shortest none w =
     rw (none refl) (ended (of_segment inner s) l b d [] [] rest (rw (w.none (sym is)) refl) w)
 
-segment_of : (inner : Instructions) (s d : Dictionary) (l : Segment) (b : Body) (x : List ℕ) → b.rest ≡ no_instructions
-    → (l.own ≡ true → IsShortest IsMap x l.bits) → (l.own ≡ false → x ≡ []) → IsWritten (of_segment inner s) l b d → CanonSegment inner s (x ++ l.bytes) (items_of b.done) d
-segment_of inner s d l b x rest shortest none w = with_map (has_map inner) inner s d l b x refl rest (λ t. shortest (w.own ∙ t)) (λ t. none (w.own ∙ t)) w
-
 -- behind a segment, in the one that waited for it
 pub segment_left : (g : Opening) (us ws : List Waiting) (w : Waiting) (ls : List Segment) (l k : Segment) (b : Body) (d : Dictionary) (x : List ℕ)
     → b.rest ≡ no_instructions → us ≡ ws ++ w ∷ [] → (l.own ≡ true → IsShortest IsMap x l.bits) → (l.own ≡ false → x ≡ [])
     → Chain g us (ls ++ k ∷ []) (IsTop at_instruction l b d) → Chain g ws ls (λ h. IsBehind w.inside h (with_bytes k (x ++ l.bytes)) w.body (items_of b.done) d)
 segment_left g us ws w ls l k b d x rest is shortest none c =
     chain_on g ws ls (Inner k w (IsTop at_instruction l b d)) (λ h. IsBehind w.inside h (with_bytes k (x ++ l.bytes)) w.body (items_of b.done) d) (λ h t.
-    t.2 (x ++ l.bytes) (items_of b.done) d (segment_of t.0 t.1 d l b x rest shortest none t.3))
+    t.2 (x ++ l.bytes) (items_of b.done) d (with_map (has_map t.0) t.0 t.1 d l b x refl rest (λ own. shortest (t.3.own ∙ own)) (λ own. none (t.3.own ∙ own)) t.3))
     (chain_pop g ws ls w k (IsTop at_instruction l b d) (rw is at c))
 
 -- ---- sequences
