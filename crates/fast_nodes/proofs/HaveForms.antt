@@ -1,5 +1,5 @@
 -- A message that is not refused has canonical bytes.
-use Rattle.std.proofs.Common.{◌≡◌, ◌+◌, ◌-◌, ◌/◌, ◌<◌, ◌≤◌, ℕ, zero, suc, Bool, true, false, ◌&&◌, List, [], ◌∷◌, ◌++◌, length, drop, Option, Some, None, Result, Ok, Err, refl, sym, ap, ◌∙◌, arith, inl, inr}
+use Rattle.std.proofs.Common.{◌≡◌, ◌+◌, ◌-◌, ◌/◌, ◌≤◌, ℕ, zero, suc, Bool, true, false, ◌&&◌, List, [], ◌∷◌, ◌++◌, length, drop, Option, Some, None, Result, Ok, Err, refl, sym, ap, ◌∙◌, arith, inl, inr}
 use Rattle.std.specs.Prelude.{if◌then◌else◌}
 use Rattle.std.proofs.lemmas.Bool.{and_parts, cases_lt, or_parts}
 use Rattle.fast_value.specs.declared.scalar.Scalar.{Scalar}
@@ -152,9 +152,6 @@ add_segment members ns d old e inside h =
 
 -- ---- instructions
 
-count_range : (n : ℕ) → n ≤ 65535 → n < 4294967296
-count_range n h = omega (arith, h)
-
 added_then : {p q : Piece} {d : Dictionary} {l : Segment} (a : Added p d l) → Added q a.entries a.level → Added (both p q) d l
 added_then a b = record { entries = b.entries; level = b.level; adds = adds_then a.adds b.adds; holds = b.holds }
 
@@ -192,7 +189,7 @@ mutual
   add_piece (sequence_of name number presence length members) is (sequence_elements es) fits small range d l t holds h =
       let count : Option Scalar = Some (U32 (element_count es)) in
       let f = bind_ok (part_judged length (state d l.bits) count) (λ u. elements_judged members es u.dictionary >>= λ e. Ok (state e u.bits)) t h in
-      let first = add_part length count d l f.0 is.0 holds (count_range (element_count es) small.0) f.1 in
+      let first = add_part length count d l f.0 is.0 holds (let few = small.0 in omega (arith, few)) f.1 in
       let g = bind_ok (elements_judged members es first.entries) (λ e. Ok (state e first.level.bits)) t (rw (first.adds.judged) at h) in
       let second = add_elements members is.1 es fits small.1 range first.entries first.level.bytes g.0 first.holds g.1 in
       record {
