@@ -31,10 +31,9 @@ use Rattle.fast_nodes.specs.FirstRefusal.{item_fits, items_fit, elements_fit, wh
 use Rattle.fast_nodes.specs.Ranges.{HasRanges, HaveRanges, HaveRangesIn, IsInRange}
 use Rattle.fast_writer.specs.Written.{has_set, Segment, state, bits_for, Asked, IsEmpty}
 use Rattle.fast_nodes.proofs.Additions.{adds_then, body_none, part_added, no_group_added, group_added, message_added, sequence_added, elements_none, elements_more, segment_added}
-use Rattle.fast_nodes.proofs.Changes.{best_holds}
 use Rattle.fast_nodes.proofs.Messages.{fitting, written_is}
 use Rattle.fast_walk.specs.Told.{HoldScalars}
-use Rattle.fast_walk.proofs.Telling.{identifier_is}
+use Rattle.fast_walk.proofs.Telling.{form_holds, identifier_is}
 use Rattle.fast_nodes.proofs.Tries.{small_all}
 use Rattle.fast_writer.proofs.Relays.{best_needs}
 
@@ -130,7 +129,7 @@ add_part p v d l t is holds range h =
       after = refl;
       before = refl;
       allowed = none;
-    } in record { entries = written p d v; level = k; adds = part_added d put; holds = best_holds p d bit best.1 v is holds best.2 }
+    } in record { entries = written p d v; level = k; adds = part_added d put; holds = form_holds p d bit best.1 v is holds (best.2.cut, best.2.form) }
 
 -- ---- a segment
 

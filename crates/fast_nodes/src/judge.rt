@@ -6,7 +6,7 @@ ghost use Rattle.fast_template.specs.TemplateSets.{IsSound, templates_in};
 ghost use Rattle.fast_field.specs.Calls.{Judges};
 ghost use Rattle.fast_stream.specs.Nodes.{content_of, items_in};
 ghost use Rattle.fast_stream.specs.Streams.{members_of};
-ghost use Rattle.fast_nodes.specs.FirstRefusal.{IsJudged, early_refusal, is_too_large, whole_refusal};
+ghost use Rattle.fast_nodes.specs.FirstRefusal.{IsJudged, early_refusal, whole_refusal};
 
 use crate::fault::{EncodeCause, EncodeFault};
 use crate::put::refuse;
@@ -18,13 +18,6 @@ use fast_template::{Flat, FlatTemplate, TemplateSet};
 /// The most nodes of a message.
 const NODE_LIMIT: usize = 65_536;
 
-// Whether there are too many nodes, or one is too large.
-fn is_large(nodes: &[Node]) -> bool
-    ensures { result ≡ is_too_large (items_in nodes.now) }
-{
-    left_behind_all(nodes, NODE_LIMIT).is_none()
-}
-
 // Whether nodes are of the shape of their instructions, and not too large.
 fn judge_whole(members: &[Flat], nodes: &[Node]) -> Result<(), EncodeFault>
     ensures { Judges (whole_refusal (list_of members.now) (items_in nodes.now)) result }
@@ -32,10 +25,10 @@ fn judge_whole(members: &[Flat], nodes: &[Node]) -> Result<(), EncodeFault>
     if !all_fit(members, nodes) {
         return Err(refuse(EncodeCause::Mismatch));
     }
-    if is_large(nodes) {
-        return Err(refuse(EncodeCause::Limit));
+    match left_behind_all(nodes, NODE_LIMIT) {
+        None => Err(refuse(EncodeCause::Limit)),
+        Some(_) => Ok(()),
     }
-    Ok(())
 }
 
 /// The template of a message that is of its shape, and not too large.

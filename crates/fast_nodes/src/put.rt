@@ -40,12 +40,7 @@ fn fault_for(part: &FieldPart, refusal: FieldRefusal) -> EncodeFault
 {
     let instruction = match refusal {
         FieldRefusal::Mismatch | FieldRefusal::Limit | FieldRefusal::Memory => 0,
-        FieldRefusal::D3
-        | FieldRefusal::D4
-        | FieldRefusal::D6
-        | FieldRefusal::R1
-        | FieldRefusal::NotConstant
-        | FieldRefusal::TooShort => part.number,
+        _ => part.number,
     };
     EncodeFault {
         cause: cause_for(refusal),
