@@ -69,13 +69,10 @@ after : {A B : Type 0} (r : Result A FieldFault) (k l : A → Result B FieldFaul
 after (Ok x) k l h = h x
 after (Err f) k l h = refl
 
-null : {A : Type 0} (z : Nullable A) (rest : List ℕ) (f g : A → List ℕ → Result (Option Scalar × List ℕ) FieldFault) → ((a : A) → f a rest ≡ g a rest) → unless_null (z, rest) f ≡ unless_null (z, rest) g
-null Null rest f g h = refl
-null (Value a) rest f g h = h a
-
 behind : {A : Type 0} (s u : Result (Nullable A × List ℕ) FieldFault) (z : Nullable A) (rest : List ℕ) (f g : A → List ℕ → Result (Option Scalar × List ℕ) FieldFault) → s ≡ u → u ≡ Ok (z, rest)
     → ((a : A) → f a rest ≡ g a rest) → (s >>= λ x. unless_null x f) ≡ (u >>= λ x. unless_null x g)
-behind s u z rest f g same is h = rw same (rw is (null z rest f g h))
+behind s u Null rest f g same is h = rw same (rw is refl)
+behind s u (Value a) rest f g same is h = rw same (rw is (h a))
 
 -- ---- the exponent of one byte
 

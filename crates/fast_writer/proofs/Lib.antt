@@ -2,7 +2,6 @@ pub mod LawProofs
 pub mod WorkedCanonical
 pub mod Leavings
 pub mod Writings
-pub mod Repeated
 mod Runs
 pub mod Relays
 pub mod Writers

@@ -101,9 +101,6 @@ pub repeated_put : (p : FieldPart) (d e : Dictionary) (old new : Entry) (r : Opt
 repeated_put p d e old new None is put same = put ∙ ap (set_entry d p.key) (same ∙ is) ∙ set_entry-there d p.key
 repeated_put p d e old new (Some count) is put passes = (new, rw (is) at passes, put)
 
-pub level_bytes : (l : Segment) (bytes : List ℕ) → bytes ≡ l.bytes → record { bits = l.bits; own = l.own; bytes = bytes } ≡ l
-level_bytes l bytes is = rw (is) refl
-
 -- where nothing is noted yet
 pub begun : (bytes : List ℕ) (r s : Run) (at : ℕ) → s.out.items ≡ r.out.items → s.from ≡ at → s.place ≡ at → written bytes s ≡ r.out.items
 begun bytes r s at out from place = rw (out, from, place) (settled bytes r.out.items at)
@@ -124,7 +121,7 @@ relays_under {p = p} {bit = bit} {best = best} {v = v} {l = l} {k = k} is put ne
 pub stops_under : (level : Level) (p : FieldPart) (d e : Dictionary) (old new : Entry) (bit : Bool) (bytes : List ℕ) (l : Segment) (after : List ℕ) (f : FieldFault)
     → old ≡ entry_at d p.key → e ≡ set_entry d p.key new → StopsEntry level p old new bit bytes l.bytes after f → StopsPart level p d e bit bytes l (record { bits = l.bits; own = l.own; bytes = after }) f
 stops_under level p d e old new bit bytes l after f is put s other =
-    (rw (is) at (s.fault other), put ∙ ap (set_entry d p.key) (s.entry ∙ is) ∙ set_entry-there d p.key, level_bytes l after s.out)
+    (rw (is) at (s.fault other), put ∙ ap (set_entry d p.key) (s.entry ∙ is) ∙ set_entry-there d p.key, rw (s.out) refl)
 
 -- a length in one byte, whose entry stays
 pub byte_relayed : (level : Level) (i : FieldPart) (count : Option ℕ) (bytes : List ℕ) (at : ℕ) → ReadsAsUsual level i (drop at bytes) → RelaysByte i count bytes at → (e : Entry) (out : List ℕ)

@@ -1,10 +1,32 @@
-use Rattle.std.proofs.Common.{◌≡◌, drop, true, [], sym, ◌∙◌, append-nil, arith, true≢false}
+use Rattle.std.proofs.Common.{◌≡◌, ℕ, List, Option, Ok, drop, true, false, [], sym, ◌∙◌, append-nil, arith, true≢false}
+use Rattle.fast_wire.specs.Reader.{IsBytes}
+use Rattle.fast_template.specs.declared.resolved.FieldPart.{FieldPart}
+use Rattle.fast_value.specs.declared.scalar.Scalar.{Scalar}
+use Rattle.fast_dictionary.specs.declared.entry.Entry.{Entry}
+use Rattle.fast_wire.specs.declared.level.Level.{Level}
+use Rattle.fast_wire.specs.declared.level.Level.TheVariants.{Usual}
+use Rattle.fast_field.specs.Deltas.{Cut}
+use Rattle.fast_field.specs.Fields.{FormBy}
+use Rattle.fast_field.specs.Best.{IsBest}
+use Rattle.fast_field.specs.Parts.{HasDefault}
+use Rattle.fast_field.specs.FieldReading.{field_at}
+use Rattle.fast_field.proofs.FieldForms.{field_forms}
+use Rattle.fast_field.proofs.LevelsAgree.{read_usually}
+use Rattle.fast_field.proofs.BestForms.{bit_zero_is_best, bit_zero_row}
 use Rattle.std.proofs.lemmas.Bool.{true_from_ne_false}
 use Rattle.fast_template.specs.Resolved.{part_needs_bit}
 use Rattle.fast_field.specs.Found.{value_found}
 use Rattle.fast_field.proofs.ReadFields.{bytes_from}
-use Rattle.fast_writer.proofs.Repeated.{repeated_best}
 use Rattle.fast_writer.proofs.relay.relay_entry.Goals as goal
+
+repeated_best : (level : Level) (i : FieldPart) (e : Entry) (bytes rest : List ℕ) (v : Option Scalar) → HasDefault i → IsBytes bytes → part_needs_bit i ≡ true
+    → field_at level i e false bytes ≡ Ok (v, rest) → IsBest i e false [] v
+repeated_best level i e bytes rest v default fits needs is =
+    let t = (field_forms Usual i e false (λ h. absurd (true≢false (sym needs ∙ h))) default).found bytes v rest fits (read_usually level i e false bytes (v, rest) is) in
+    best t.front t.form.0 t.form.1
+  where
+    best : (b : List ℕ) (cut : Cut) → FormBy Usual i e false cut b v → IsBest i e false [] v
+    best b cut h = let z = bit_zero_row i.operator i e cut b v h.row in bit_zero_is_best i e v (rw (z.0, z.1) at h)
 
 pub returns : goal.returns
 returns c =
