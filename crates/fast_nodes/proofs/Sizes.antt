@@ -1,5 +1,6 @@
 -- How many nodes a sequence leaves, element by element.
 use Rattle.std.proofs.Common.{◌≡◌, ◌<◌, ◌≤◌, ◌-◌, ◌+◌, inl, inr, ℕ, zero, suc, Bool, true, false, ◌||◌, List, [], ◌∷◌, length, drop, Option, Some, None, refl, ap, ◌∙◌, arith}
+use Rattle.std.proofs.lemmas.List.{drop_all}
 use Rattle.std.specs.Prelude.{nat_lt}
 use Rattle.std.specs.Global.{Vec}
 use Rattle.std.proofs.lemmas.Bool.{le-ltb, or_from, or_right}
@@ -42,12 +43,6 @@ pub all_left : (es : List (Vec Node)) (at before left : ℕ) → length es ≤ a
     → before + nodes_in_elements (seen (drop at es)) ≡ 1 + nodes_in_elements (seen es) + left → has_large_in (seen es) ≡ has_large_in (seen (drop at es))
     → IsLeft (1 + nodes_in_elements (seen es)) (nat_lt 65535 (length es) || has_large_in (seen es)) before (Some left)
 all_left es at before left end few count large =
-    let none = drop_none es at end in
+    let none = drop_all at es end in
     let n = ap (λ (xs : List (Vec Node)). nodes_in_elements (seen xs)) none in
     (omega (arith, count, n), few_enough (length es) (has_large_in (seen es)) few (large ∙ ap (λ (xs : List (Vec Node)). has_large_in (seen xs)) none))
-  where
-    drop_none : (xs : List (Vec Node)) (n : ℕ) → length xs ≤ n → drop n xs ≡ []
-    drop_none [] zero h = refl
-    drop_none [] (suc n) h = refl
-    drop_none (x ∷ xs) zero h = absurd (omega (arith, h))
-    drop_none (x ∷ xs) (suc n) h = drop_none xs n (omega (arith, h))

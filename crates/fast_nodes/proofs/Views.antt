@@ -1,5 +1,6 @@
 -- What instructions and nodes with others inside are to contracts.
-use Rattle.std.proofs.Common.{◌≡◌, ◌≢◌, Bool, true, false, ◌&&◌, ℕ, List, [], ◌∷◌, Some, None, length, map, ap, ◌∙◌, refl, arith}
+use Rattle.std.proofs.Common.{◌≡◌, ◌≢◌, false, ℕ, suc, sym, List, [], ◌∷◌, Some, None, length, map, ap, ◌∙◌, refl, arith}
+use Rattle.std.proofs.lemmas.Bool.{and_right}
 use Rattle.std.specs.Global.{Vec}
 use Rattle.fast_value.specs.declared.kind.Presence.{Presence}
 use Rattle.fast_template.specs.declared.resolved.FieldPart.{FieldPart}
@@ -47,16 +48,9 @@ is_value {v = v} is = ap item_of is ∙ fold_out-Node Item node_step (nodes.Valu
 
 -- ---- what has another number of nodes than of instructions does not fit
 
-and_false : (b c : Bool) → false ≡ c → false ≡ (b && c)
-and_false true c h = h
-and_false false c h = refl
-
-longer : (fs : List Flat) (ns : List Node) (f : Flat) (n : Node) → length fs ≡ length ns → length (f ∷ fs) ≡ length (n ∷ ns)
-longer fs ns f n e = rw (e) refl
-
 pub other_number : (flats : List Flat) (nodes : List Node) → length flats ≢ length nodes → false ≡ items_fit (list_of flats) (items_in nodes)
 other_number [] [] h = absurd (h refl)
 other_number [] (n ∷ ns) h = refl
 other_number (f ∷ fs) [] h = refl
 other_number (f ∷ fs) (n ∷ ns) h =
-    and_false (item_fits (instruction_of f) (item_of n)) (items_fit (list_of fs) (items_in ns)) (other_number fs ns (λ e. h (longer fs ns f n e)))
+    sym (and_right (item_fits (instruction_of f) (item_of n)) (items_fit (list_of fs) (items_in ns)) (sym (other_number fs ns (λ e. h (ap suc e)))))
