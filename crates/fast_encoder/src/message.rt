@@ -3,7 +3,6 @@
 ghost use Rattle.std.specs.Prelude.{◌≡◌, [], true, IsTrue, MatchResult, OnErr};
 ghost use Rattle.fast_template.specs.Resolved.{list_of};
 ghost use Rattle.fast_template.specs.TemplateSets.{identifier_key};
-ghost use Rattle.fast_value.specs.declared.scalar.Scalar.TheVariants.{U32};
 ghost use Rattle.fast_stream.specs.Nodes.{content_of, items_in};
 ghost use Rattle.fast_stream.specs.Streams.{identifier as identifier_part};
 ghost use Rattle.fast_walk.specs.Told.{HoldScalars};
@@ -42,13 +41,6 @@ fn put_rest<'a, E: Entries>(
     Ok(())
 }
 
-// The value of an identifier.
-fn template_of(message: &Message) -> Scalar
-    ensures { result ≡ U32 message.now.template }
-{
-    Scalar::U32(message.template)
-}
-
 /// Appends a message of these instructions; nothing of the journal is left to be put back.
 ///
 /// # Errors
@@ -82,7 +74,7 @@ pub(crate) fn put_message<'a, E: Entries>(
         alloc,
         &mut journal.entries,
         identifier,
-        Some(&template_of(message)),
+        Some(&Scalar::U32(message.template)),
         level,
     )?;
     match put_rest(members, &message.fields, alloc, journal, level, out) {

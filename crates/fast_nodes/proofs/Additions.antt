@@ -1,5 +1,6 @@
 -- What is added one behind the other is added at once.
-use Rattle.std.proofs.Common.{◌≡◌, ℕ, Bool, true, false, List, [], ◌∷◌, ◌++◌, Option, Some, None, Ok, Err, inl, inr, refl, sym, ap, ◌∙◌, append-nil}
+use Rattle.std.proofs.Common.{◌≡◌, ℕ, Bool, true, false, List, [], ◌∷◌, ◌++◌, length, Option, Some, None, Ok, Err, inl, inr, arith, refl, sym, ap, ◌∙◌, append-nil}
+use Rattle.std.specs.Prelude.{not}
 use Rattle.std.proofs.lemmas.List.{append_assoc}
 use Rattle.fast_wire.specs.declared.level.Level.TheVariants.{Usual}
 use Rattle.fast_value.specs.declared.scalar.Scalar.{Scalar}
@@ -10,7 +11,10 @@ use Rattle.fast_template.specs.Resolved.{Instructions, group_of, sequence_of, no
 use Rattle.fast_dictionary.specs.Dictionary.{Dictionary, entry_at}
 use Rattle.fast_wire.specs.PresenceMap.{IsMap}
 use Rattle.fast_wire.specs.Writing.{IsShortest}
-use Rattle.fast_field.specs.Best.{IsBest}
+use Rattle.fast_field.specs.Best.{IsBest, NoLater}
+use Rattle.fast_field.specs.Deltas.{uncut}
+use Rattle.fast_field.specs.Planning.{left_out_of}
+use Rattle.fast_field.proofs.BestValues.{left_out, can_be_left_out}
 use Rattle.fast_field.specs.Fields.{Form}
 use Rattle.fast_dictionary.specs.declared.entry.Entry.{Entry}
 use Rattle.fast_stream.specs.Nodes.{single, group_items, sequence_elements, Items, no_items, Elements, no_elements, then_element, element_count, Content}
@@ -24,7 +28,6 @@ use Rattle.fast_nodes.specs.declared.fault.EncodeFault.{EncodeFault}
 use Rattle.fast_writer.specs.Written.{Segment, state, bits_for, Leaves, IsEmpty, Asked}
 use Rattle.fast_writer.proofs.Leavings.{leaves_split, bit_of, behind_of, closed}
 use Rattle.fast_writer.proofs.Writings.{part_by}
-use Rattle.fast_nodes.proofs.Puts.{bit_is}
 
 pub adds_then : {p q : Piece} {d e f : Dictionary} {l k j : Segment} → Adds p d l e k → Adds q e k f j → Adds (both p q) d l f j
 adds_then {l} a b = record {
@@ -51,6 +54,20 @@ body_none {d} {l} = record {
 }
 
 -- ---- a part
+
+-- the bit of the best form: 0 exactly where the value can be left out
+bit_is : (p : FieldPart) (e : Entry) (bit : Bool) (b : List ℕ) (v : Option Scalar) → IsBest p e bit b v → bit ≡ not (left_out_of p.operator p e v)
+bit_is p e bit b v best = by_left bit (left_out_of p.operator p e v) refl best
+  where
+    by_left : (t left : Bool) → left_out_of p.operator p e v ≡ left → IsBest p e t b v → t ≡ not left
+    by_left false true is h = refl
+    by_left true false is h = refl
+    by_left false false is h = absurd (cc (sym is ∙ can_be_left_out p.operator p e h.cut b v h.form.row))
+    by_left true true is h = no_later (h.first false uncut [] (record { row = left_out p.operator p e v is; within = h.form.within }))
+      where
+        no_later : NoLater true (length b) h.cut false 0 uncut → true ≡ false
+        no_later (inl lt) = absurd (omega (arith, lt))
+        no_later (inr same) = same.0
 
 pub part_added : (d : Dictionary) {p : FieldPart} {v : Option Scalar} {before new : Entry} {l k : Segment} → IsPartPut p v (entry_at d p.key) l before new k → Adds (of_part p v) d l (written p d v) k
 part_added d {p} {v} {l} put =

@@ -1,5 +1,5 @@
 -- What was changed can be put back.
-use Rattle.std.proofs.Common.{◌≡◌, ℕ, Bool, true, false, List, [], ◌∷◌, ◌++◌, Option, Err, inl, inr, refl, sym, ap, ◌∙◌}
+use Rattle.std.proofs.Common.{◌≡◌, Bool, true, false, List, [], ◌∷◌, ◌++◌, Option, Err, inl, inr, refl, sym, ap, ◌∙◌}
 use Rattle.std.specs.Prelude.{cond, IsTrue}
 use Rattle.std.specs.Ordering.{is_eq}
 use Rattle.fast_value.specs.Key.{key_cmp}
@@ -10,7 +10,6 @@ use Rattle.fast_dictionary.specs.declared.entry.Entry.{Entry}
 use Rattle.fast_dictionary.specs.declared.entry.Entry.TheVariants.{Undefined}
 use Rattle.fast_dictionary.specs.Dictionary.{Dictionary, entry_at, entry_at-set_entry, entry_at-set_same, set_entry, set_entry-there, same_dictionary}
 use Rattle.fast_field.specs.Bases.{next}
-use Rattle.fast_field.specs.Best.{IsBest}
 use Rattle.fast_field.specs.Parts.{IsFieldPart}
 use Rattle.fast_stream.specs.Bodies.{with_entry, written}
 use Rattle.fast_walk.specs.Told.{HoldScalars}
@@ -21,11 +20,6 @@ use Rattle.fast_nodes.specs.Added.{Books, Changed, GoesOn, IsPartPut, IsPut, IsV
 use Rattle.fast_nodes.specs.declared.fault.EncodeFault.{EncodeFault}
 use Rattle.fast_nodes.proofs.Additions.{part_added}
 use Rattle.fast_writer.specs.Written.{Segment}
-
--- ---- entries within their types
-
-pub best_holds : (p : FieldPart) (d : Dictionary) (bit : Bool) (b : List ℕ) (v : Option Scalar) → IsFieldPart p → HoldScalars d → IsBest p (entry_at d p.key) bit b v → HoldScalars (written p d v)
-best_holds p d bit b v is all best = form_holds p d bit b v is all (best.cut, best.form)
 
 -- ---- one entry
 
@@ -56,7 +50,7 @@ still_undefined p d v h =
 pub value_is : (d : Dictionary) {p : FieldPart} {v : Option Scalar} {l k : Segment} {before new : Entry} {e : Dictionary} → IsFieldPart p → HoldScalars d → IsPartPut p v (entry_at d p.key) l before new k → e ≡ set_entry d p.key new → IsValuePut p v d l before e k
 value_is d {p} {v} is holds put set =
     let after = set ∙ ap (set_entry d p.key) put.after ∙ set_written p d v in
-    record { adds = rw (after) (part_added d put); before = put.before; after = after; holds = rw (after) (best_holds p d put.spelt.bit put.spelt.form v is holds put.spelt.best) }
+    record { adds = rw (after) (part_added d put); before = put.before; after = after; holds = rw (after) (form_holds p d put.spelt.bit put.spelt.form v is holds (put.spelt.best.cut, put.spelt.best.form)) }
 
 pub no_value : (d : Dictionary) {p : FieldPart} {v : Option Scalar} {l : Segment} {new : Entry} {e : Dictionary} {f : EncodeFault} → NoPartPut p v (entry_at d p.key) new f → e ≡ set_entry d p.key new → NoValuePut p v d l e f
 no_value d {p} not set = record {

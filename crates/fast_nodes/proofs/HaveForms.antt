@@ -1,16 +1,12 @@
 -- A message that is not refused has canonical bytes.
-use Rattle.std.proofs.Common.{◌≡◌, ◌+◌, ◌-◌, ◌/◌, ◌<◌, ◌≤◌, ℕ, zero, suc, Bool, true, false, ◌&&◌, List, [], ◌∷◌, ◌++◌, length, drop, Option, Some, None, Result, Ok, Err, refl, sym, ap, ◌∙◌, arith, inl, inr}
+use Rattle.std.proofs.Common.{◌≡◌, ◌+◌, ◌-◌, ◌/◌, ◌≤◌, ℕ, zero, suc, Bool, true, false, ◌&&◌, List, [], ◌∷◌, ◌++◌, length, drop, Option, Some, None, Result, Ok, Err, refl, sym, ap, ◌∙◌, arith, inl, inr}
 use Rattle.std.specs.Prelude.{if◌then◌else◌}
-use Rattle.std.proofs.lemmas.Bool.{cases_lt}
-use Rattle.fast_wire.specs.declared.level.Level.TheVariants.{Usual}
-use Rattle.fast_value.specs.declared.kind.Operator.{Operator}
-use Rattle.fast_value.specs.declared.kind.Operator.TheVariants as operator
+use Rattle.std.proofs.lemmas.Bool.{and_parts, cases_lt, or_parts}
 use Rattle.fast_value.specs.declared.scalar.Scalar.{Scalar}
 use Rattle.fast_value.specs.declared.scalar.Scalar.TheVariants.{U32, I32, I64, Decimal}
 use Rattle.fast_template.specs.declared.resolved.FieldPart.{FieldPart}
-use Rattle.fast_template.specs.Resolved.{Instruction, Instructions, whole_field, field_in_parts, group_of, sequence_of, no_instructions, then_instruction, operator_needs_bit, part_needs_bit, is_optional, has_map}
+use Rattle.fast_template.specs.Resolved.{Instruction, Instructions, whole_field, field_in_parts, group_of, sequence_of, no_instructions, then_instruction, part_needs_bit, is_optional, has_map}
 use Rattle.fast_template.specs.TemplateSets.{TemplateList, templates_in, IsSound}
-use Rattle.fast_dictionary.specs.declared.entry.Entry.{Entry}
 use Rattle.fast_dictionary.specs.Dictionary.{Dictionary, entry_at}
 use Rattle.fast_wire.specs.PresenceMap.{bit_at, IsMap}
 use Rattle.fast_wire.specs.Reading.{◌>>=◌}
@@ -19,8 +15,6 @@ use Rattle.fast_wire.specs.Writing.{IsShortest}
 use Rattle.fast_wire.proofs.MapForms.{map_shortest}
 use Rattle.fast_field.specs.declared.fault.FieldRefusal.{FieldRefusal}
 use Rattle.fast_field.specs.Bases.{next}
-use Rattle.fast_field.specs.Deltas.{Cut}
-use Rattle.fast_field.specs.Fields.{FormOf}
 use Rattle.fast_field.specs.Parts.{IsFieldPart, EachPart, EachPartIn}
 use Rattle.fast_field.specs.Refusals.{refusal_of}
 use Rattle.fast_field.specs.Within.{HasRangeOr}
@@ -37,18 +31,18 @@ use Rattle.fast_nodes.specs.FirstRefusal.{item_fits, items_fit, elements_fit, wh
 use Rattle.fast_nodes.specs.Ranges.{HasRanges, HaveRanges, HaveRangesIn, IsInRange}
 use Rattle.fast_writer.specs.Written.{has_set, Segment, state, bits_for, Asked, IsEmpty}
 use Rattle.fast_nodes.proofs.Additions.{adds_then, body_none, part_added, no_group_added, group_added, message_added, sequence_added, elements_none, elements_more, segment_added}
-use Rattle.fast_nodes.proofs.Changes.{best_holds}
 use Rattle.fast_nodes.proofs.Messages.{fitting, written_is}
 use Rattle.fast_walk.specs.Told.{HoldScalars}
-use Rattle.fast_walk.proofs.Telling.{identifier_is}
-use Rattle.fast_nodes.proofs.Tries.{and_true, or_false, small_all}
+use Rattle.fast_walk.proofs.Telling.{form_holds, identifier_is}
+use Rattle.fast_nodes.proofs.Tries.{small_all}
+use Rattle.fast_writer.proofs.Relays.{best_needs}
 
 -- ---- the map of bits that it has room for
 
 unset : (n : ℕ) (bits : List Bool) → has_set (drop n bits) ≡ false → (i : ℕ) → n ≤ i → bit_at bits i ≡ false
 unset zero [] h i le = refl
-unset zero (x ∷ bits) h zero le = (or_false x (has_set bits) h).0
-unset zero (x ∷ bits) h (suc i) le = unset zero bits (or_false x (has_set bits) h).1 i (omega arith)
+unset zero (x ∷ bits) h zero le = (or_parts x (has_set bits) h).0
+unset zero (x ∷ bits) h (suc i) le = unset zero bits (or_parts x (has_set bits) h).1 i (omega arith)
 unset (suc n) [] h i le = refl
 unset (suc n) (x ∷ bits) h zero le = absurd (omega arith)
 unset (suc n) (x ∷ bits) h (suc i) le = unset n bits h i (omega arith)
@@ -121,17 +115,6 @@ record AddedBytes (w : Whole) (d : Dictionary) (old : List ℕ) : Type 0 where
   adds : AddsBytes w d old entries bytes
   holds : HoldScalars entries
 
--- a form stands under bit 1 where its part takes no bit
-row_bit : (o : Operator) (i : FieldPart) (e : Entry) (bit : Bool) (cut : Cut) (b : List ℕ) (v : Option Scalar) → FormOf Usual o i e bit cut b v → operator_needs_bit o i.presence ≡ false → bit ≡ true
-row_bit o i e true cut b v h none = refl
-row_bit operator.Plain i e false cut b v h none = absurd h
-row_bit operator.Constant i e false cut b v h none = let asks : operator_needs_bit operator.Constant i.presence ≡ true = ap (operator_needs_bit operator.Constant) h.2 in absurd cc
-row_bit operator.Default i e false cut b v h none = absurd cc
-row_bit operator.Copy i e false cut b v h none = absurd cc
-row_bit operator.Increment i e false cut b v h none = absurd cc
-row_bit operator.Delta i e false cut b v h none = absurd h
-row_bit operator.Tail i e false cut b v h none = absurd cc
-
 add_part : (p : FieldPart) (v : Option Scalar) (d : Dictionary) (l : Segment) (t : State) → IsFieldPart p → HoldScalars d → HasRangeOr v → part_judged p (state d l.bits) v ≡ Ok t
     → Added (of_part p v) d l
 add_part p v d l t is holds range h =
@@ -142,11 +125,11 @@ add_part p v d l t is holds range h =
     let bit = best.0 in
     let k : Segment = record { bits = l.bits ++ bits_for needs bit; own = l.own; bytes = l.bytes ++ best.1 } in
     let put : IsPartPut p v e l e (next p e v) k = record {
-      spelt = record { bit = bit; form = best.1; bits = refl; own = refl; bytes = refl; needs = row_bit p.operator p e bit best.2.cut best.1 v best.2.form.row; best = best.2 };
+      spelt = record { bit = bit; form = best.1; bits = refl; own = refl; bytes = refl; needs = best_needs bit best.2; best = best.2 };
       after = refl;
       before = refl;
       allowed = none;
-    } in record { entries = written p d v; level = k; adds = part_added d put; holds = best_holds p d bit best.1 v is holds best.2 }
+    } in record { entries = written p d v; level = k; adds = part_added d put; holds = form_holds p d bit best.1 v is holds (best.2.cut, best.2.form) }
 
 -- ---- a segment
 
@@ -167,9 +150,6 @@ add_segment members ns d old e inside h =
     record { entries = a.entries; bytes = sealed.0; adds = segment_added members ns (empty (has_map members)) a.adds sealed.1; holds = a.holds }
 
 -- ---- instructions
-
-count_range : (n : ℕ) → n ≤ 65535 → n < 4294967296
-count_range n h = omega (arith, h)
 
 added_then : {p q : Piece} {d : Dictionary} {l : Segment} (a : Added p d l) → Added q a.entries a.level → Added (both p q) d l
 added_then a b = record { entries = b.entries; level = b.level; adds = adds_then a.adds b.adds; holds = b.holds }
@@ -208,7 +188,7 @@ mutual
   add_piece (sequence_of name number presence length members) is (sequence_elements es) fits small range d l t holds h =
       let count : Option Scalar = Some (U32 (element_count es)) in
       let f = bind_ok (part_judged length (state d l.bits) count) (λ u. elements_judged members es u.dictionary >>= λ e. Ok (state e u.bits)) t h in
-      let first = add_part length count d l f.0 is.0 holds (count_range (element_count es) small.0) f.1 in
+      let first = add_part length count d l f.0 is.0 holds (let few = small.0 in omega (arith, few)) f.1 in
       let g = bind_ok (elements_judged members es first.entries) (λ e. Ok (state e first.level.bits)) t (rw (first.adds.judged) at h) in
       let second = add_elements members is.1 es fits small.1 range first.entries first.level.bytes g.0 first.holds g.1 in
       record {
@@ -223,7 +203,7 @@ mutual
       → Added (of_items members ns) d l
   add_body no_instructions is no_items fits small range d l t holds h = record { entries = d; level = l; adds = body_none; holds = holds }
   add_body (then_instruction i is) are (then_item n ns) fits small range d l t holds h =
-      let fit = and_true (item_fits i n) (items_fit is ns) fits in
+      let fit = and_parts (item_fits i n) (items_fit is ns) fits in
       let f = bind_ok (item_judged i n (state d l.bits)) (λ u. items_judged is ns u) t h in
       let first = add_piece i are.0 n fit.0 small.0 range.0 d l f.0 holds f.1 in
       let second = add_body is are.1 ns fit.1 small.1 range.1 first.entries first.level t first.holds (rw (first.adds.judged) at h) in
@@ -234,7 +214,7 @@ mutual
       → elements_judged members es d ≡ Ok after → AddedBytes (each_of members es) d old
   add_elements members is no_elements fits small range d old after holds h = record { entries = d; bytes = old; adds = elements_none members; holds = holds }
   add_elements members is (then_element ns es) fits small range d old after holds h =
-      let fit = and_true (items_fit members ns) (elements_fit members es) fits in
+      let fit = and_parts (items_fit members ns) (elements_fit members es) fits in
       let f = bind_ok (segment_judged (has_map members) (λ u. items_judged members ns u) d) (λ e. elements_judged members es e) after h in
       let first = add_segment members ns d old f.0 (λ k' u j. add_body members is ns fit.0 small.0 range.0 d k' u holds j) f.1 in
       let second = add_elements members is es fit.1 small.1 range.1 first.entries first.bytes after first.holds (rw (first.adds.judged) at h) in

@@ -1,9 +1,6 @@
 mod RefusedRows
-mod Shapes
 mod Views
 mod Sizes
-pub mod Judgements
-mod Puts
 pub mod Additions
 pub mod Changes
 pub mod Tries

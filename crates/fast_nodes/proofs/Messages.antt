@@ -1,5 +1,6 @@
 -- A message that is written, or why it is not.
-use Rattle.std.proofs.Common.{◌≡◌, ◌≤◌, ℕ, Bool, true, false, List, ◌++◌, Some, None, refl, arith}
+use Rattle.std.proofs.Common.{◌≡◌, ◌≤◌, ℕ, Bool, true, false, List, ◌++◌, Option, Some, None, refl}
+use Rattle.std.proofs.lemmas.Bool.{ltb-false, or_parts}
 use Rattle.std.specs.Prelude.{nat_lt, not, if◌then◌else◌}
 use Rattle.fast_template.specs.Resolved.{Instructions, Resolved}
 use Rattle.fast_template.specs.TemplateSets.{TemplateList, templates_in, IsSound}
@@ -13,10 +14,11 @@ use Rattle.fast_walk.specs.Traversals.{ServesAll}
 use Rattle.fast_stream.proofs.FoundMembers.{members_have}
 use Rattle.fast_walk.proofs.Serving.{members_served}
 use Rattle.fast_nodes.specs.declared.fault.EncodeCause.TheVariants as cause
+use Rattle.fast_nodes.specs.declared.fault.EncodeFault.{EncodeFault}
 use Rattle.fast_nodes.specs.Added.{AddsBytes, Books, CanTry, in_segment, of_message}
 use Rattle.fast_writer.specs.Canonical.{CanonMessage}
-use Rattle.fast_nodes.specs.FirstRefusal.{refused, items_fit, is_too_large, has_large, whole_refusal}
-use Rattle.fast_nodes.proofs.Tries.{or_false, small_all}
+use Rattle.fast_nodes.specs.FirstRefusal.{early_refusal, message_refusal, refused, items_fit, is_too_large, has_large, whole_refusal}
+use Rattle.fast_nodes.proofs.Tries.{small_all}
 
 -- ---- what is judged before the fields
 
@@ -25,16 +27,13 @@ pub record Fitting (members : Instructions) (ns : Items) : Type 0 where
   pub few : nodes_in ns ≤ node_limit
   pub large : has_large ns ≡ false
 
-not_less : (n : ℕ) → nat_lt 65536 n ≡ false → n ≤ 65536
-not_less n h = search (arith, h)
-
 fitting_by : (members : Instructions) (ns : Items) (fits large : Bool) → items_fit members ns ≡ fits → is_too_large ns ≡ large
     → (if not fits then Some (refused cause.Mismatch) else if large then Some (refused cause.Limit) else None) ≡ None → Fitting members ns
 fitting_by members ns false large is small h = absurd cc
 fitting_by members ns true true is small h = absurd cc
 fitting_by members ns true false is small h =
-    let p = or_false (nat_lt node_limit (nodes_in ns)) (has_large ns) small in
-    record { fits = is; few = not_less (nodes_in ns) p.0; large = p.1 }
+    let p = or_parts (nat_lt node_limit (nodes_in ns)) (has_large ns) small in
+    record { fits = is; few = ltb-false 65536 (nodes_in ns) p.0; large = p.1 }
 
 pub fitting : (members : Instructions) (ns : Items) → whole_refusal members ns ≡ None → Fitting members ns
 fitting members ns h = fitting_by members ns (items_fit members ns) (is_too_large ns) refl refl h
@@ -50,6 +49,11 @@ can_try {a} set m {members} sound served holds named whole =
       small = small_all m.items f.large;
       holds = holds;
     }
+
+-- the first refusal of a message, by what is judged before its fields
+pub early_first : (found : Option Instructions) (d : Dictionary) (m : Content) {f : EncodeFault} → early_refusal found m.items ≡ Some f → message_refusal found d m ≡ Some f
+early_first None d m why = why
+early_first (Some members) d m why = rw (why) refl
 
 -- ---- the contract of a call
 

@@ -2,14 +2,14 @@
 use Rattle.std.proofs.Common.{◌≡◌, ◌%◌, ◌<◌, ◌≤◌, ℕ, zero, suc, Bool, true, false, List, [], ◌∷◌, ◌++◌, length, drop, Option, Some, None, Result, Ok, refl, sym, ap, subst, ◌∙◌, arith, append-nil}
 use Rattle.std.specs.Prelude.{not, nat_lt}
 use Rattle.std.specs.List.{AllByRecursion}
-use Rattle.std.proofs.lemmas.Bool.Decides.{nat_tests}
+use Rattle.std.proofs.lemmas.Bool.{le-ltb, lt-ltb}
 use Rattle.std.proofs.lemmas.List.{append_assoc, length-map}
 use Rattle.fast_wire.specs.declared.level.Level.TheVariants.{Usual}
 use Rattle.fast_value.specs.Scalar.{IsScalar}
 use Rattle.fast_value.specs.declared.kind.Presence.{Presence}
 use Rattle.fast_value.specs.declared.kind.Presence.TheVariants.{Mandatory, Optional}
 use Rattle.fast_value.specs.declared.scalar.Scalar.{Scalar}
-use Rattle.fast_value.specs.declared.scalar.Scalar.TheVariants.{U32, I32, U64, I64, Decimal, Ascii, Unicode, Bytes}
+use Rattle.fast_value.specs.declared.scalar.Scalar.TheVariants.{U32, I32, I64, Decimal, Ascii, Unicode, Bytes}
 use Rattle.fast_template.specs.declared.resolved.FieldPart.{FieldPart}
 use Rattle.fast_template.specs.Resolved.{Instruction, Instructions, whole_field, field_in_parts, group_of, sequence_of, no_instructions, then_instruction, part_needs_bit, is_optional, has_map}
 use Rattle.fast_template.specs.TemplateSets.{TemplateList, templates_in, IsSound}
@@ -123,38 +123,22 @@ part_passes p v s b t is holds h =
       holds = subst HoldScalars (sym after) (form_holds p s.dictionary bit b v is holds h.0);
     }
 
-optional : (p : Presence) → p ≡ Optional → is_optional p ≡ true
-optional p h = rw (h) refl
-
 all_characters : (s : List ℕ) → AllByRecursion (λ c. c < 128) s → are_characters s ≡ true
 all_characters [] h = refl
-all_characters (c ∷ s) h = let low = h.0 in let t : nat_lt c 128 ≡ true = grind (arith, nat_tests) in rw (t) (all_characters s h.1)
+all_characters (c ∷ s) h = rw (lt-ltb c 128 h.0) (all_characters s h.1)
 
 characters : (v : Scalar) → IsScalar v → has_characters v ≡ true
 characters (Ascii s) h = all_characters s h.1
-characters (U32 n) h = refl
-characters (I32 z) h = refl
-characters (U64 n) h = refl
-characters (I64 z) h = refl
-characters (Decimal e m) h = refl
-characters (Unicode s) h = refl
-characters (Bytes s) h = refl
-
-not_many : (n : ℕ) → n ≤ 65535 → nat_lt 65535 n ≡ false
-not_many n h = grind (arith, nat_tests)
+characters v h = refl
 
 units_few : (v : Scalar) → IsScalar v → nat_lt 65535 (length (units_of v)) ≡ false
-units_few (Ascii s) h = not_many (length s) h.0
-units_few (Unicode s) h = not_many (length s) h.0
-units_few (Bytes s) h = not_many (length s) h.0
-units_few (U32 n) h = refl
-units_few (I32 z) h = refl
-units_few (U64 n) h = refl
-units_few (I64 z) h = refl
-units_few (Decimal e m) h = refl
+units_few (Ascii s) h = le-ltb 65535 (length s) h.0
+units_few (Unicode s) h = le-ltb 65535 (length s) h.0
+units_few (Bytes s) h = le-ltb 65535 (length s) h.0
+units_few v h = refl
 
 value_allowed : (p : FieldPart) (v : Option Scalar) → IsOfField p v → (value_fits p v ≡ true) × (item_is_large (single v) ≡ false)
-value_allowed p None h = (optional p.presence h, refl)
+value_allowed p None h = (rw h refl, refl)
 value_allowed p (Some v) h = (rw (h.0, characters v h.1) refl, units_few v h.1)
 
 part_value : (p : FieldPart) (v : Option Scalar) (s : State) (b : List ℕ) (t : State) → IsFieldPart p → HoldScalars s.dictionary → PartBy (Form Usual) p s b v t → IsOfField p v
@@ -180,25 +164,18 @@ segment_allowed fits large false Inside judge d b after holds inside h =
 
 -- ---- instructions
 
-left_out_passes : (p : Presence) (s t : State) → HoldScalars s.dictionary → bit_for (is_optional p) s.bits ≡ false → t ≡ record s { bits = after_bit (is_optional p) s.bits }
-    → Passes (λ u. Ok (state u.dictionary (u.bits ++ bits_for (is_optional p) false))) s t
-left_out_passes p s t holds unset left =
-    let after : t.dictionary ≡ s.dictionary = ap (λ t. t.dictionary) left in record {
-      asked = bits_for (is_optional p) false;
-      below = below_one (is_optional p) false s.bits t.bits (λ h. refl) (ap (λ t. t.bits) left);
-      judged = λ bits. rw (after) refl;
-      holds = subst HoldScalars (sym after) holds;
-    }
+same_passes : {d e : Dictionary} → e ≡ d → HoldScalars d → PassesWhole (Ok d) e
+same_passes is holds = record { is = ap (λ (x : Dictionary). Ok x) (sym is); holds = subst HoldScalars (sym is) holds }
 
 left_out_optional : (p : Presence) (bits : List Bool) → bit_for (is_optional p) bits ≡ false → is_optional p ≡ true
 left_out_optional Mandatory bits h = absurd cc
 left_out_optional Optional bits h = refl
 
-group_passes : (p : Presence) (judge : Dictionary → Result Dictionary EncodeFault) (s t : State) → bit_for (is_optional p) s.bits ≡ true → t.bits ≡ after_bit (is_optional p) s.bits
-    → PassesWhole (judge s.dictionary) t.dictionary → Passes (λ u. judge u.dictionary >>= λ d. Ok (state d (u.bits ++ bits_for (is_optional p) true))) s t
-group_passes p judge s t set left h = record {
-  asked = bits_for (is_optional p) true;
-  below = below_one (is_optional p) true s.bits t.bits (λ unset. sym set ∙ unset) left;
+group_passes : (p : Presence) (there : Bool) (judge : Dictionary → Result Dictionary EncodeFault) (s t : State) → bit_for (is_optional p) s.bits ≡ there → t.bits ≡ after_bit (is_optional p) s.bits
+    → PassesWhole (judge s.dictionary) t.dictionary → Passes (λ u. judge u.dictionary >>= λ d. Ok (state d (u.bits ++ bits_for (is_optional p) there))) s t
+group_passes p there judge s t bit left h = record {
+  asked = bits_for (is_optional p) there;
+  below = below_one (is_optional p) there s.bits t.bits (λ unset. sym bit ∙ unset) left;
   judged = λ bits. rw (h.is) refl;
   holds = h.holds;
 }
@@ -217,7 +194,7 @@ counted no_elements = omega arith
 counted (then_element ns es) = let h = counted es in omega (arith, h)
 
 sequence_small : (es : Elements) → nodes_of (sequence_elements es) ≤ 65536 → has_large_in es ≡ false → item_is_large (sequence_elements es) ≡ false
-sequence_small es few small = let h = counted es in rw (not_many (element_count es) (omega (arith, h, few)), small) refl
+sequence_small es few small = let h = counted es in rw (le-ltb 65535 (element_count es) (omega (arith, h, few)), small) refl
 
 abbrev Segments : Instructions → Dictionary → List ℕ → Items → Dictionary → Type 0
 Segments members d x ns e = SegmentBy (MapAt Usual) (has_map members) (λ t z u. BodyBy (Form Usual) (MapAt Usual) members t z ns u) d x e
@@ -229,19 +206,19 @@ mutual
       let r = value_allowed whole v (part_value whole v s b t is holds h) in
       record { shape = r.0; size = r.1; passes = part_passes whole v s b t is holds h }
   piece_allowed (field_in_parts name number presence exponent mantissa) is (single None) few s b t holds h =
-      record { shape = optional exponent.presence (part_value exponent None s b t is.0 holds h); size = refl; passes = part_passes exponent None s b t is.0 holds h }
+      record { shape = rw (part_value exponent None s b t is.0 holds h) refl; size = refl; passes = part_passes exponent None s b t is.0 holds h }
   piece_allowed (field_in_parts name number presence exponent mantissa) is (single (Some (Decimal e m))) few s b t holds h =
       let first = part_passes exponent (Some (I32 e)) s h.front h.between is.0 holds h.first in
       let second = part_passes mantissa (Some (I64 m)) h.between h.back t is.1 first.holds h.second in
       record { shape = refl; size = refl; passes = passes_then first second }
   piece_allowed (group_of name number presence members) is (single None) few s b t holds h =
-      record { shape = left_out_optional presence s.bits h.0; size = refl; passes = left_out_passes presence s t holds h.0 h.2 }
+      record { shape = left_out_optional presence s.bits h.0; size = refl; passes = group_passes presence false (λ d. Ok d) s t h.0 (ap (λ t. t.bits) h.2) (same_passes (ap (λ t. t.dictionary) h.2) holds) }
   piece_allowed (group_of name number presence members) is (group_items ns) few s b t holds h =
       let k = segment_allowed (items_fit members ns) (has_large ns) (has_map members) (λ u x v. BodyBy (Form Usual) (MapAt Usual) members u x ns v) (λ u. items_judged members ns u) s.dictionary b t.dictionary holds
       (λ u x v inner o. body_allowed members is ns (omega (arith, few)) u x v inner o) h.2 in
-      record { shape = k.shape; size = k.size; passes = group_passes presence (λ d. segment_judged (has_map members) (λ u. items_judged members ns u) d) s t h.0 h.1 k.passes }
+      record { shape = k.shape; size = k.size; passes = group_passes presence true (λ d. segment_judged (has_map members) (λ u. items_judged members ns u) d) s t h.0 h.1 k.passes }
   piece_allowed (sequence_of name number presence length members) is (single None) few s b t holds h =
-      record { shape = optional length.presence (part_value length None s b t is.0 holds h); size = refl; passes = part_passes length None s b t is.0 holds h }
+      record { shape = rw (part_value length None s b t is.0 holds h) refl; size = refl; passes = part_passes length None s b t is.0 holds h }
   piece_allowed (sequence_of name number presence length members) is (sequence_elements es) few s b t holds h =
       let count : Option Scalar = Some (U32 (element_count es)) in
       let first = part_passes length count s h.front h.between is.0 holds h.first in
@@ -256,16 +233,7 @@ mutual
   body_allowed : (members : Instructions) → EachPartIn IsFieldPart members → (ns : Items) → nodes_in ns ≤ 65536 → (s : State) (b : List ℕ) (t : State) → HoldScalars s.dictionary → BodyBy (Form Usual) (MapAt Usual) members s b ns t
       → Allowed (items_fit members ns) (has_large ns) (Passes (λ u. items_judged members ns u) s t)
   body_allowed no_instructions is no_items few s b t holds h =
-      let after : t.dictionary ≡ s.dictionary = ap (λ t. t.dictionary) h.1 in record {
-        shape = refl;
-        size = refl;
-        passes = record {
-          asked = [];
-          below = sym (ap (λ t. t.bits) h.1);
-          judged = λ bits. rw (after, append-nil bits) refl;
-          holds = subst HoldScalars (sym after) holds;
-        };
-      }
+      record { shape = refl; size = refl; passes = elements_pass (λ d. Ok d) s t (ap (λ t. t.bits) h.1) (same_passes (ap (λ t. t.dictionary) h.1) holds) }
   body_allowed (then_instruction i is) are (then_item n ns) few s b t holds h =
       let first = piece_allowed i are.0 n (omega (arith, few)) s h.front h.between holds h.first in
       let second = body_allowed is are.1 ns (omega (arith, few)) h.between h.back t first.passes.holds h.second in
@@ -279,7 +247,7 @@ mutual
   elements_allowed : (members : Instructions) → EachPartIn IsFieldPart members → (es : Elements) → nodes_in_elements es ≤ 65536 → (d : Dictionary) (b : List ℕ) (after : Dictionary) → HoldScalars d → Each (Segments members) d b es after
       → Allowed (elements_fit members es) (has_large_in es) (PassesWhole (elements_judged members es d) after)
   elements_allowed members is no_elements few d b after holds h =
-      record { shape = refl; size = refl; passes = record { is = ap (λ (x : Dictionary). Ok x) (sym h.1); holds = subst HoldScalars (sym h.1) holds } }
+      record { shape = refl; size = refl; passes = same_passes h.1 holds }
   elements_allowed members is (then_element ns es) few d b after holds h =
       let first = segment_allowed (items_fit members ns) (has_large ns) (has_map members) (λ u x v. BodyBy (Form Usual) (MapAt Usual) members u x ns v) (λ u. items_judged members ns u) d h.front h.between holds
       (λ u x v inner o. body_allowed members is ns (omega (arith, few)) u x v inner o) h.first in
@@ -291,9 +259,6 @@ mutual
       }
 
 -- ---- messages
-
-not_over : (n : ℕ) → n ≤ 65536 → nat_lt 65536 n ≡ false
-not_over n h = grind (arith, nat_tests)
 
 abbrev MessageStandsBy : Option Instructions → Content → State → List ℕ → State → Type 0
 MessageStandsBy found m s x t = Then (λ y u. PartBy (Form Usual) identifier s y (Some (U32 m.template)) u) (λ u z. BodyOfBy (Form Usual) (MapAt Usual) found u z m.items t) x
@@ -308,16 +273,13 @@ no_refusal (Some members) d m b after parts holds few h =
     let second = body_allowed members (parts members refl) m.items few o.between o.back (state after h.left) first.holds o.second in
     let all = passes_then first second.passes in
     let whole = with_map_passes (MessageStandsBy (Some members) m) (λ s. part_judged identifier s id >>= λ u. items_judged members m.items u) d b after h all in
-    let fits : whole_refusal members m.items ≡ None = rw (second.shape, not_over (nodes_in m.items) few, second.size) refl in
+    let fits : whole_refusal members m.items ≡ None = rw (second.shape, le-ltb 65536 (nodes_in m.items) few, second.size) refl in
     rw (fits, whole.is) refl
-
-none_some : (o : Option EncodeFault) (f : EncodeFault) → o ≡ None → o ≡ Some f → ⊥
-none_some o f h k = absurd (let both : None ≡ Some f = sym h ∙ k in cc)
 
 -- what is refused has no form
 pub refused_has_no_form : (set : TemplateList) (d : Dictionary) (m : Content) (f : EncodeFault) (bytes : List ℕ) (after : Dictionary) → IsSound set → HoldScalars d
     → first_refusal (templates_in set) d m ≡ Some f → MessageForm Usual (templates_in set) d bytes m after → ⊥
 refused_has_no_form set d m f bytes after sound holds refused h =
-    none_some (first_refusal (templates_in set) d m) f
-    (no_refusal (members_of (templates_in set) m.template) d m bytes after
-    (λ members named. members_have (EachPartIn IsFieldPart) (templates_in set) (parts_of_sets set sound) m.template members named) holds h.few h.segment) refused
+    let none = no_refusal (members_of (templates_in set) m.template) d m bytes after
+    (λ members named. members_have (EachPartIn IsFieldPart) (templates_in set) (parts_of_sets set sound) m.template members named) holds h.few h.segment in
+    absurd (let both = sym none ∙ refused in cc)

@@ -1,8 +1,9 @@
 -- How many nodes a sequence leaves, element by element.
 use Rattle.std.proofs.Common.{◌≡◌, ◌<◌, ◌≤◌, ◌-◌, ◌+◌, inl, inr, ℕ, zero, suc, Bool, true, false, ◌||◌, List, [], ◌∷◌, length, drop, Option, Some, None, refl, ap, ◌∙◌, arith}
+use Rattle.std.proofs.lemmas.List.{drop_all}
 use Rattle.std.specs.Prelude.{nat_lt}
 use Rattle.std.specs.Global.{Vec}
-use Rattle.std.proofs.lemmas.Bool.Decides.{nat_tests}
+use Rattle.std.proofs.lemmas.Bool.{le-ltb, or_from, or_right}
 use Rattle.fast_stream.specs.declared.message.Node.{Node}
 use Rattle.fast_stream.specs.declared.message.Node.TheVariants.{Sequence}
 use Rattle.fast_stream.specs.Nodes.{item_of, items_in, nodes_in, nodes_in_elements, nodes_of}
@@ -15,15 +16,8 @@ pub of_sequence : (es : Vec (Vec Node)) (node : Node) (left : ℕ) (r : Option �
     → IsLeft (nodes_of (item_of node)) (item_is_large (item_of node)) left r
 of_sequence es node left r is h = rw (is_elements es is, count_seen es.items) h
 
-or_true : (b : Bool) → (b || true) ≡ true
-or_true true = refl
-or_true false = refl
-
-pub too_many : (n : ℕ) (b : Bool) → 65535 < n → (nat_lt 65535 n || b) ≡ true
-too_many n b h = let t : nat_lt 65535 n ≡ true = grind (arith, nat_tests) in rw (t) refl
-
 pub few_enough : (n : ℕ) (b : Bool) → n ≤ 65535 → b ≡ false → (nat_lt 65535 n || b) ≡ false
-few_enough n b h none = let t : nat_lt 65535 n ≡ false = grind (arith, nat_tests) in rw (t, none) refl
+few_enough n b h none = or_from (nat_lt 65535 n) b (le-ltb 65535 n h) none
 
 pub some_left : (es : List (Vec Node)) (at : ℕ) → at < length es → 1 ≤ nodes_in_elements (seen (drop at es))
 some_left [] at h = absurd (omega (arith, h))
@@ -43,18 +37,12 @@ element_refused es e at before left many here some count large (inl few) =
     let now = ap (λ (xs : List (Vec Node)). nodes_in_elements (seen xs)) here in
     inl (omega (arith, some, count, few, now))
 element_refused es e at before left many here some count large (inr h) =
-    inr (rw (large ∙ ap (λ (xs : List (Vec Node)). has_large_in (seen xs)) here, h) (or_true many))
+    inr (rw (large ∙ ap (λ (xs : List (Vec Node)). has_large_in (seen xs)) here, h) (or_right many true refl))
 
 pub all_left : (es : List (Vec Node)) (at before left : ℕ) → length es ≤ at → length es ≤ 65535
     → before + nodes_in_elements (seen (drop at es)) ≡ 1 + nodes_in_elements (seen es) + left → has_large_in (seen es) ≡ has_large_in (seen (drop at es))
     → IsLeft (1 + nodes_in_elements (seen es)) (nat_lt 65535 (length es) || has_large_in (seen es)) before (Some left)
 all_left es at before left end few count large =
-    let none = drop_none es at end in
+    let none = drop_all at es end in
     let n = ap (λ (xs : List (Vec Node)). nodes_in_elements (seen xs)) none in
     (omega (arith, count, n), few_enough (length es) (has_large_in (seen es)) few (large ∙ ap (λ (xs : List (Vec Node)). has_large_in (seen xs)) none))
-  where
-    drop_none : (xs : List (Vec Node)) (n : ℕ) → length xs ≤ n → drop n xs ≡ []
-    drop_none [] zero h = refl
-    drop_none [] (suc n) h = refl
-    drop_none (x ∷ xs) zero h = absurd (omega (arith, h))
-    drop_none (x ∷ xs) (suc n) h = drop_none xs n (omega (arith, h))

@@ -1,12 +1,12 @@
 -- Nodes that are written one after the other.
-use Rattle.std.proofs.Common.{◌≡◌, ◌≤◌, ◌<◌, ◌+◌, ℕ, Bool, true, false, ◌&&◌, ◌||◌, List, ◌∷◌, ◌++◌, length, drop, get_or, ℤ, Some, Ok, Err, inl, inr, Result, refl, sym, ap, ◌∙◌, arith}
+use Rattle.std.proofs.Common.{◌≡◌, ◌≤◌, ◌<◌, ◌+◌, ℕ, true, false, List, ◌∷◌, ◌++◌, length, drop, get_or, Some, Ok, Err, inl, inr, Result, refl, sym, ap, ◌∙◌}
 use Rattle.std.specs.Prelude.{nat_lt}
 use Rattle.std.specs.Global.{Vec}
+use Rattle.std.proofs.lemmas.Bool.{and_parts, ltb-false, or_parts}
 use Rattle.std.proofs.lemmas.List.{drop_more, drop_all}
 use Rattle.fast_template.specs.declared.resolved.Flat.{Flat}
-use Rattle.fast_template.specs.declared.resolved.Flat.TheVariants.{Group, Parts, Sequence}
-use Rattle.fast_value.specs.declared.scalar.Scalar.{Scalar}
-use Rattle.fast_value.specs.declared.scalar.Scalar.TheVariants.{U32, I32, I64, Decimal}
+use Rattle.fast_template.specs.declared.resolved.Flat.TheVariants.{Group, Sequence}
+use Rattle.fast_value.specs.declared.scalar.Scalar.TheVariants.{U32}
 use Rattle.fast_wire.specs.Reading.{◌>>=◌}
 use Rattle.fast_stream.specs.declared.message.Node.{Node}
 use Rattle.fast_stream.specs.declared.message.Node.TheVariants as nodes
@@ -16,50 +16,39 @@ use Rattle.fast_template.specs.Resolved.{Instruction, Instructions, instruction_
 use Rattle.fast_stream.specs.Nodes.{Item, single, group_items, sequence_elements, Items, no_items, then_item, Elements, no_elements, then_element, item_of, items_in, element_count}
 use Rattle.fast_nodes.specs.declared.fault.EncodeFault.{EncodeFault}
 use Rattle.fast_nodes.specs.Added.{Books, CanTry, CanTryOne, CanTryEach, GoesOn, IsPut, IsPutWhole, IsSmall, AreSmall, AreSmallIn, NotPut, Piece, Puts, PutsWhole, Seals, both, each_of, of_item, of_items, of_part, segment_of}
-use Rattle.fast_nodes.specs.FirstRefusal.{item_is_large, has_large, has_large_in, part_judged, item_judged, items_judged, elements_judged}
+use Rattle.fast_nodes.specs.FirstRefusal.{item_is_large, has_large, has_large_in, elements_judged}
 use Rattle.fast_writer.specs.Written.{Segment, state, bits_for, Asked, IsEmpty}
-use Rattle.fast_nodes.proofs.Additions.{adds_then, body_none, elements_none, elements_more, group_added, no_group_added, not_sealed, segment_added, sequence_added}
+use Rattle.fast_nodes.proofs.Additions.{adds_then, body_none, elements_none, elements_more, group_added, not_sealed, segment_added, sequence_added}
 use Rattle.fast_nodes.proofs.Changes.{goes_same, goes_then}
-use Rattle.fast_nodes.proofs.Views.{count_seen, is_absent, is_elements, is_group, is_items, is_parts, is_sequence, is_value, seen}
-
-pub and_true : (b c : Bool) → (b && c) ≡ true → (b ≡ true) × (c ≡ true)
-and_true true c h = (refl, h)
-and_true false c h = absurd cc
-
-pub or_false : (b c : Bool) → (b || c) ≡ false → (b ≡ false) × (c ≡ false)
-or_false true c h = absurd cc
-or_false false c h = (refl, h)
+use Rattle.fast_nodes.proofs.Views.{count_seen, is_elements, is_group, is_items, is_sequence, seen}
 
 -- ---- what is known of each
 
 pub can_first : {a : Books} {i : Instruction} {is : Instructions} {n : Item} {ns : Items} → CanTry a (then_instruction i is) (then_item n ns) → CanTryOne a i n
-can_first h = record { parts = h.parts.0; served = h.served.0; fits = (and_true _ _ h.fits).0; small = h.small.0; holds = h.holds }
+can_first h = record { parts = h.parts.0; served = h.served.0; fits = (and_parts _ _ h.fits).0; small = h.small.0; holds = h.holds }
 
 can_rest : {a b : Books} {i : Instruction} {is : Instructions} {n : Item} {ns : Items} → CanTry a (then_instruction i is) (then_item n ns) → GoesOn a b → CanTry b is ns
-can_rest h g = record { parts = h.parts.1; served = rw (g.same_keys) h.served.1; fits = (and_true _ _ h.fits).1; small = h.small.1; holds = g.holds h.holds }
+can_rest h g = record { parts = h.parts.1; served = rw (g.same_keys) h.served.1; fits = (and_parts _ _ h.fits).1; small = h.small.1; holds = g.holds h.holds }
 
 pub can_element : {a : Books} {is : Instructions} {ns : Items} {es : Elements} → CanTryEach a is (then_element ns es) → CanTry a is ns
-can_element h = record { parts = h.parts; served = h.served; fits = (and_true _ _ h.fits).0; small = h.small.0; holds = h.holds }
+can_element h = record { parts = h.parts; served = h.served; fits = (and_parts _ _ h.fits).0; small = h.small.0; holds = h.holds }
 
 can_others : {a b : Books} {is : Instructions} {ns : Items} {es : Elements} → CanTryEach a is (then_element ns es) → GoesOn a b → CanTryEach b is es
-can_others h g = record { parts = h.parts; served = rw (g.same_keys) h.served; fits = (and_true _ _ h.fits).1; small = h.small.1; holds = g.holds h.holds }
-
-not_less : (n : ℕ) → nat_lt 65535 n ≡ false → n ≤ 65535
-not_less n h = search (arith, h)
+can_others h g = record { parts = h.parts; served = rw (g.same_keys) h.served; fits = (and_parts _ _ h.fits).1; small = h.small.1; holds = g.holds h.holds }
 
 mutual
   small_one : (n : Item) → item_is_large n ≡ false → IsSmall n
   small_one (single v) h = tt
   small_one (group_items ns) h = small_all ns h
-  small_one (sequence_elements es) h = let p = or_false (nat_lt 65535 (element_count es)) (has_large_in es) h in (not_less (element_count es) p.0, small_each es p.1)
+  small_one (sequence_elements es) h = let p = or_parts (nat_lt 65535 (element_count es)) (has_large_in es) h in (ltb-false 65535 (element_count es) p.0, small_each es p.1)
 
   pub small_all : (ns : Items) → has_large ns ≡ false → AreSmall ns
   small_all no_items h = tt
-  small_all (then_item n ns) h = let p = or_false (item_is_large n) (has_large ns) h in (small_one n p.0, small_all ns p.1)
+  small_all (then_item n ns) h = let p = or_parts (item_is_large n) (has_large ns) h in (small_one n p.0, small_all ns p.1)
 
   small_each : (es : Elements) → has_large_in es ≡ false → AreSmallIn es
   small_each no_elements h = tt
-  small_each (then_element ns es) h = let p = or_false (has_large ns) (has_large_in es) h in (small_all ns p.0, small_each es p.1)
+  small_each (then_element ns es) h = let p = or_parts (has_large ns) (has_large_in es) h in (small_all ns p.0, small_each es p.1)
 
 -- ---- one behind the other
 
@@ -93,18 +82,6 @@ group_put {name} {number} {presence} members ns a b new (Ok x) flat node asked h
     rw (is_group members flat, is_items ns node) (record { adds = group_added name number presence (list_of members.items) (items_in ns.items) asked h.adds; goes = h.goes })
 group_put {presence} members ns {l} a b new (Err f) flat node asked h = rw (is_group members flat, is_items ns node) (refused_then (λ e. Ok (state e (l.bits ++ bits_for (is_optional presence) true))) h)
 
-pub no_group_put : {flat : Flat} {node : Node} {name : List ℕ} {number : ℕ} {presence : Presence} (members : Vec Flat) {a : Books} {l k : Segment}
-    → flat ≡ Group name number presence members → node ≡ nodes.Absent → CanTryOne a (instruction_of flat) (item_of node) → Asked (is_optional presence) false l k
-    → IsPut (of_item (instruction_of flat) (item_of node)) a l a k
-no_group_put {name} {number} {presence} members flat node can asked =
-    let ready = rw (is_group members flat, is_absent node) at can in
-    rw (is_group members flat, is_absent node) (record { adds = no_group_added name number presence (list_of members.items) ready.fits asked; goes = goes_same })
-
-pub parts_put : {flat : Flat} {node : Node} {name : List ℕ} {number : ℕ} {presence : Presence} {exponent mantissa : FieldPart} {v : Scalar} (e m : ℤ) {a b : Books} {l k : Segment} (c : Books) (j : Segment) (r : Result (Unit {0}) EncodeFault)
-    → flat ≡ Parts name number presence exponent mantissa → node ≡ nodes.Value v → v ≡ Decimal e m → IsPut (of_part exponent (Some (I32 e))) a l b k
-    → Puts (of_part mantissa (Some (I64 m))) b k c j r → Puts (of_item (instruction_of flat) (item_of node)) a l c j r
-parts_put {mantissa} e m c j r flat node v h g = rw (is_parts flat, is_value node, v) (puts_then (of_part mantissa (Some (I64 m))) c j r h g)
-
 pub sequence_put : {flat : Flat} {node : Node} {name : List ℕ} {number : ℕ} {presence : Presence} {part : FieldPart} (members : Vec Flat) (es : Vec (Vec Node)) {a b : Books} {l k : Segment} (c : Books) (new : List ℕ) (r : Result (Unit {0}) EncodeFault)
     → flat ≡ Sequence name number presence part members → node ≡ nodes.Sequence es → IsPut (of_part part (Some (U32 (length es.items)))) a l b k
     → PutsWhole (each_of (list_of members.items) (seen es.items)) b k.bytes c new r
@@ -114,21 +91,11 @@ sequence_put {name} {number} {presence} {part} members es c new (Ok x) flat node
 sequence_put members es {k} c new (Err f) flat node h g =
     rw (is_sequence members flat, is_elements es node, count_seen es.items) (refused_behind (λ t. elements_judged (list_of members.items) (seen es.items) t.dictionary >>= λ e. Ok (state e t.bits)) h.adds.judged h.goes (refused_then (λ e. Ok (state e k.bits)) g))
 
-pub length_refused : {flat : Flat} {node : Node} {name : List ℕ} {number : ℕ} {presence : Presence} {part : FieldPart} (members : Vec Flat) (es : Vec (Vec Node)) {a b : Books} (l : Segment) {f : EncodeFault}
-    → flat ≡ Sequence name number presence part members → node ≡ nodes.Sequence es → NotPut (part_judged part (state a.entries l.bits) (Some (U32 (length es.items)))) a b f
-    → NotPut (item_judged (instruction_of flat) (item_of node) (state a.entries l.bits)) a b f
-length_refused members es l flat node h =
-    rw (is_sequence members flat, is_elements es node, count_seen es.items) (refused_then (λ t. elements_judged (list_of members.items) (seen es.items) t.dictionary >>= λ e. Ok (state e t.bits)) h)
-
 pub can_each : {flat : Flat} {node : Node} {name : List ℕ} {number : ℕ} {presence : Presence} {part : FieldPart} (members : Vec Flat) (es : Vec (Vec Node)) {a b : Books} (fs : List Flat) (ns : List (Vec Node))
     → flat ≡ Sequence name number presence part members → node ≡ nodes.Sequence es → fs ≡ members.items → ns ≡ es.items → CanTryOne a (instruction_of flat) (item_of node) → GoesOn a b → CanTryEach b (list_of fs) (seen ns)
 can_each members es fs ns flat node these those h g =
     let one = rw (is_sequence members flat, is_elements es node) at h in
     rw (these, those) (record { parts = one.parts.1; served = rw (g.same_keys) one.served.1; fits = one.fits; small = one.small.1; holds = g.holds one.holds })
-
-pub few_elements : {flat : Flat} {node : Node} {name : List ℕ} {number : ℕ} {presence : Presence} {part : FieldPart} (members : Vec Flat) (es : Vec (Vec Node)) {a : Books}
-    → flat ≡ Sequence name number presence part members → node ≡ nodes.Sequence es → CanTryOne a (instruction_of flat) (item_of node) → length es.items ≤ 65535
-few_elements members es flat node h = let one = rw (is_sequence members flat, is_elements es node) at h in rw (count_seen es.items) at one.small.0
 
 -- ---- nodes in a row
 
@@ -145,14 +112,8 @@ module _ {flats : List Flat} {nodes : List Node} {a b : Books} {l k : Segment} {
   nodes_end no_flat no_node = left.on b k (Ok tt) (rw (drop_all at flats no_flat, drop_all at nodes no_node) (record { adds = body_none; goes = goes_same }))
 
   module _ {f : Flat} {n : Node} (flat : drop at flats ≡ f ∷ drop (at + 1) flats) (node : drop at nodes ≡ n ∷ drop (at + 1) nodes) where
-    pub can_node : CanTryOne b (instruction_of f) (item_of n)
-    can_node = can_first (rw (flat, node) at left.ready)
-
     pub nodes_next : {c : Books} {j : Segment} → IsPut (of_item (instruction_of f) (item_of n)) b k c j → NodesLeft flats nodes a l (at + 1) c j
     nodes_next h = record { ready = can_rest (rw (flat, node) at left.ready) h.goes; on = λ d m r g. (rw (flat, node) at left.on) d m r (puts_then _ d m r h g) }
-
-    pub node_refused : {c : Books} {fault : EncodeFault} → NotPut (item_judged (instruction_of f) (item_of n) (state b.entries k.bits)) b c fault → NotPut (items_judged (list_of flats) (items_in nodes) (state a.entries l.bits)) a c fault
-    node_refused {c} {fault} h = (rw (flat, node) at left.on) c k (Err fault) (refused_then (λ t. items_judged (list_of (drop (at + 1) flats)) (items_in (drop (at + 1) nodes)) t) h)
 
 -- ---- elements
 

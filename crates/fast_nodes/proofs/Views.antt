@@ -1,5 +1,6 @@
 -- What instructions and nodes with others inside are to contracts.
-use Rattle.std.proofs.Common.{◌≡◌, ℕ, List, [], ◌∷◌, Some, None, length, map, ap, ◌∙◌, refl, arith}
+use Rattle.std.proofs.Common.{◌≡◌, ◌≢◌, false, ℕ, suc, sym, List, [], ◌∷◌, Some, None, length, map, ap, ◌∙◌, refl, arith}
+use Rattle.std.proofs.lemmas.Bool.{and_right}
 use Rattle.std.specs.Global.{Vec}
 use Rattle.fast_value.specs.declared.kind.Presence.{Presence}
 use Rattle.fast_template.specs.declared.resolved.FieldPart.{FieldPart}
@@ -11,6 +12,7 @@ use Rattle.fast_stream.specs.declared.message.Node.{Node, fold_out-Node}
 use Rattle.fast_stream.specs.declared.message.Node.TheVariants.{outs-Absent, outs-Value}
 use Rattle.fast_stream.specs.declared.message.Node.TheVariants as nodes
 use Rattle.fast_stream.specs.Nodes.{Item, single, Elements, element_count, node_step, group_items, sequence_elements, elements_of, item_of, items_in}
+use Rattle.fast_nodes.specs.FirstRefusal.{item_fits, items_fit}
 use Rattle.fast_walk.proofs.Views.{item_of-group, item_of-sequence}
 
 abbrev pub seen : List (Vec Node) → Elements
@@ -43,3 +45,12 @@ is_absent is = ap item_of is ∙ fold_out-Node Item node_step nodes.Absent ∙ r
 
 pub is_value : {node : Node} {v : Scalar} → node ≡ nodes.Value v → item_of node ≡ single (Some v)
 is_value {v = v} is = ap item_of is ∙ fold_out-Node Item node_step (nodes.Value v) ∙ rw (outs-Value v) refl
+
+-- ---- what has another number of nodes than of instructions does not fit
+
+pub other_number : (flats : List Flat) (nodes : List Node) → length flats ≢ length nodes → false ≡ items_fit (list_of flats) (items_in nodes)
+other_number [] [] h = absurd (h refl)
+other_number [] (n ∷ ns) h = refl
+other_number (f ∷ fs) [] h = refl
+other_number (f ∷ fs) (n ∷ ns) h =
+    sym (and_right (item_fits (instruction_of f) (item_of n)) (items_fit (list_of fs) (items_in ns)) (sym (other_number fs ns (λ e. h (ap suc e)))))

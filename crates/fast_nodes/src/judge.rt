@@ -6,9 +6,10 @@ ghost use Rattle.fast_template.specs.TemplateSets.{IsSound, templates_in};
 ghost use Rattle.fast_field.specs.Calls.{Judges};
 ghost use Rattle.fast_stream.specs.Nodes.{content_of, items_in};
 ghost use Rattle.fast_stream.specs.Streams.{members_of};
-ghost use Rattle.fast_nodes.specs.FirstRefusal.{IsJudged, early_refusal, is_too_large, whole_refusal};
+ghost use Rattle.fast_nodes.specs.FirstRefusal.{IsJudged, early_refusal, whole_refusal};
 
 use crate::fault::{EncodeCause, EncodeFault};
+use crate::put::refuse;
 use crate::shape::all_fit;
 use crate::size::left_behind_all;
 use fast_stream::{Message, Node};
@@ -17,30 +18,17 @@ use fast_template::{Flat, FlatTemplate, TemplateSet};
 /// The most nodes of a message.
 const NODE_LIMIT: usize = 65_536;
 
-// Whether there are too many nodes, or one is too large.
-fn is_large(nodes: &[Node]) -> bool
-    ensures { result ≡ is_too_large (items_in nodes.now) }
-{
-    left_behind_all(nodes, NODE_LIMIT).is_none()
-}
-
 // Whether nodes are of the shape of their instructions, and not too large.
 fn judge_whole(members: &[Flat], nodes: &[Node]) -> Result<(), EncodeFault>
     ensures { Judges (whole_refusal (list_of members.now) (items_in nodes.now)) result }
 {
     if !all_fit(members, nodes) {
-        return Err(EncodeFault {
-            cause: EncodeCause::Mismatch,
-            instruction: 0,
-        });
+        return Err(refuse(EncodeCause::Mismatch));
     }
-    if is_large(nodes) {
-        return Err(EncodeFault {
-            cause: EncodeCause::Limit,
-            instruction: 0,
-        });
+    match left_behind_all(nodes, NODE_LIMIT) {
+        None => Err(refuse(EncodeCause::Limit)),
+        Some(_) => Ok(()),
     }
-    Ok(())
 }
 
 /// The template of a message that is of its shape, and not too large.
@@ -48,6 +36,7 @@ fn judge_whole(members: &[Flat], nodes: &[Node]) -> Result<(), EncodeFault>
 /// # Errors
 ///
 /// `D9`, `Mismatch` or `Limit`, the first refusal of the message, whatever the entries are.
+#[tactic(auto, using(fast_walk::proofs::Serving::found_members))]
 pub fn template_for<'a>(
     set: &'a TemplateSet,
     message: &Message,
@@ -59,10 +48,7 @@ pub fn template_for<'a>(
         (content_of message.now).items ≡ Some f) }
 {
     match set.find(message.template) {
-        None => Err(EncodeFault {
-            cause: EncodeCause::D9,
-            instruction: 0,
-        }),
+        None => Err(refuse(EncodeCause::D9)),
         Some(template) => {
             judge_whole(&template.members, &message.fields)?;
             Ok(template)

@@ -23,6 +23,7 @@ pub fn refused_messages_have_no_form()
 
 /// A message that is not refused has canonical bytes. (That its numbers are in the range of their types and its texts
 /// UTF-8 is a premise.)
+#[tactic(auto, using(crate::proofs::HaveForms::not_refused_has_bytes))]
 pub fn messages_not_refused_have_bytes()
     ensures { (set : TemplateList) (d : Dictionary) (m : Content) → IsSound set
         → HoldScalars d → IsInRange m → first_refusal (templates_in set) d m ≡ None

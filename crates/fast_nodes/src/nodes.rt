@@ -1,32 +1,21 @@
 //! Writes the nodes of a message, each by its instruction.
 
-ghost use Rattle.std.specs.Prelude.{◌≡◌, ◌≤◌, length, map};
+ghost use Rattle.std.specs.Prelude.{◌≡◌, map};
 ghost use Rattle.fast_template.specs.Resolved.{instruction_of, list_of};
-ghost use Rattle.fast_value.specs.declared.scalar.Scalar.TheVariants.{I32, I64, U32};
+ghost use Rattle.fast_value.specs.declared.scalar.Scalar.TheVariants.{I32, I64};
 ghost use Rattle.fast_stream.specs.Nodes.{elements_of, item_of, items_in};
 ghost use Rattle.fast_nodes.specs.Added.{CanTry, CanTryEach, CanTryOne, Puts, PutsWhole, books_of, each_of, of_item, of_items, segment_of};
-ghost use Rattle.fast_nodes.specs.FirstRefusal.{refused};
 ghost use Rattle.fast_writer.specs.Levels.{level_of};
 
 use crate::fault::{EncodeCause, EncodeFault};
 use crate::journal::Journal;
-use crate::put::{no_memory, seal};
+use crate::put::{refuse, seal};
 use crate::shape::may_be_absent;
 use fast_dictionary::Entries;
 use fast_stream::Node;
 use fast_template::{FieldPart, Flat, Scalar, has_map};
 use fast_writer::Segment;
 use std::alloc::Global;
-
-// A node that is not of its instruction's shape.
-fn no_shape() -> EncodeFault
-    ensures { result ≡ refused EncodeCause.Mismatch }
-{
-    EncodeFault {
-        cause: EncodeCause::Mismatch,
-        instruction: 0,
-    }
-}
 
 // The value of an exponent.
 fn exponent_of(exponent: &i32) -> Scalar
@@ -40,14 +29,6 @@ fn mantissa_of(mantissa: &i64) -> Scalar
     ensures { result ≡ I64 mantissa.now }
 {
     Scalar::I64(*mantissa)
-}
-
-// The value of a length.
-fn length_of(elements: &[Vec<Node>]) -> Scalar
-    requires { length elements.now ≤ 65535 }
-    ensures { result ≡ U32 (length elements.now) }
-{
-    Scalar::U32(elements.len() as u32)
 }
 
 // What is known of the elements of a sequence, for the proofs: it does nothing.
@@ -81,7 +62,7 @@ fn put_node<'a, E: Entries>(
         Flat::Field { whole, .. } => match node {
             Node::Absent => journal.put(alloc, whole, None, level),
             Node::Value(value) => journal.put(alloc, whole, Some(value), level),
-            Node::Group(_) | Node::Sequence(_) => Err(no_shape()),
+            Node::Group(_) | Node::Sequence(_) => Err(refuse(EncodeCause::Mismatch)),
         },
         Flat::Parts {
             exponent,
@@ -97,9 +78,9 @@ fn put_node<'a, E: Entries>(
                     journal.put(alloc, exponent, Some(&exponent_of(e)), level)?;
                     journal.put(alloc, mantissa, Some(&mantissa_of(m)), level)
                 }
-                _ => Err(no_shape()),
+                _ => Err(refuse(EncodeCause::Mismatch)),
             },
-            Node::Group(_) | Node::Sequence(_) => Err(no_shape()),
+            Node::Group(_) | Node::Sequence(_) => Err(refuse(EncodeCause::Mismatch)),
         },
         Flat::Group {
             presence,
@@ -107,14 +88,14 @@ fn put_node<'a, E: Entries>(
             ..
         } => match node {
             Node::Absent => match level.ask(may_be_absent(*presence), false) {
-                Err(_) => Err(no_memory()),
+                Err(_) => Err(refuse(EncodeCause::Memory)),
                 Ok(()) => Ok(()),
             },
             Node::Group(nodes) => match level.ask(may_be_absent(*presence), true) {
-                Err(_) => Err(no_memory()),
+                Err(_) => Err(refuse(EncodeCause::Memory)),
                 Ok(()) => put_segment(members, nodes, alloc, journal, &mut level.bytes.out),
             },
-            Node::Value(_) | Node::Sequence(_) => Err(no_shape()),
+            Node::Value(_) | Node::Sequence(_) => Err(refuse(EncodeCause::Mismatch)),
         },
         Flat::Sequence {
             length,
@@ -125,11 +106,16 @@ fn put_node<'a, E: Entries>(
             Node::Sequence(elements) => {
                 let members: &'a [Flat] = members;
                 let elements: &[Vec<Node>] = elements;
-                journal.put(alloc, length, Some(&length_of(elements)), level)?;
+                journal.put(
+                    alloc,
+                    length,
+                    Some(&Scalar::U32(elements.len() as u32)),
+                    level,
+                )?;
                 tell_elements(members, elements, journal);
                 put_elements(members, elements, alloc, journal, &mut level.bytes.out)
             }
-            Node::Value(_) | Node::Group(_) => Err(no_shape()),
+            Node::Value(_) | Node::Group(_) => Err(refuse(EncodeCause::Mismatch)),
         },
     }
 }
@@ -153,7 +139,7 @@ pub fn put_nodes<'a, E: Entries>(
         (books_of E.Entries journal.new) (level_of level.new) result }
 {
     if flats.len() != nodes.len() {
-        return Err(no_shape());
+        return Err(refuse(EncodeCause::Mismatch));
     }
     'members: for at in 0..flats.len() {
         put_node(&flats[at], &nodes[at], alloc, journal, level)?;

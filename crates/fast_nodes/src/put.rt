@@ -40,12 +40,7 @@ fn fault_for(part: &FieldPart, refusal: FieldRefusal) -> EncodeFault
 {
     let instruction = match refusal {
         FieldRefusal::Mismatch | FieldRefusal::Limit | FieldRefusal::Memory => 0,
-        FieldRefusal::D3
-        | FieldRefusal::D4
-        | FieldRefusal::D6
-        | FieldRefusal::R1
-        | FieldRefusal::NotConstant
-        | FieldRefusal::TooShort => part.number,
+        _ => part.number,
     };
     EncodeFault {
         cause: cause_for(refusal),
@@ -53,22 +48,12 @@ fn fault_for(part: &FieldPart, refusal: FieldRefusal) -> EncodeFault
     }
 }
 
-/// Want of memory.
-pub(crate) fn no_memory() -> EncodeFault
-    ensures { result ≡ refused EncodeCause.Memory }
+/// A refusal that names no instruction.
+pub(crate) fn refuse(cause: EncodeCause) -> EncodeFault
+    ensures { result ≡ refused cause }
 {
     EncodeFault {
-        cause: EncodeCause::Memory,
-        instruction: 0,
-    }
-}
-
-// A bit for which its map has no room.
-fn no_room() -> EncodeFault
-    ensures { result ≡ refused EncodeCause.Limit }
-{
-    EncodeFault {
-        cause: EncodeCause::Limit,
+        cause,
         instruction: 0,
     }
 }
@@ -82,8 +67,8 @@ pub fn seal(level: &Segment, out: &mut Vec<u8>) -> Result<(), EncodeFault>
     ensures { Seals (level_of level.now) out.old.items out.new.items result }
 {
     match level.seal(out) {
-        Err(WireFault::TooLong) => Err(no_room()),
-        Err(_) => Err(no_memory()),
+        Err(WireFault::TooLong) => Err(refuse(EncodeCause::Limit)),
+        Err(_) => Err(refuse(EncodeCause::Memory)),
         Ok(()) => Ok(()),
     }
 }
@@ -111,11 +96,11 @@ pub(crate) fn put_part(
     match plan_field(part, entry.view(), value) {
         Err(refusal) => Err(fault_for(part, refusal)),
         Ok(plan) => match write_field(part, entry.view(), value, &mut level.bytes.out) {
-            Err(_) => Err(no_memory()),
+            Err(_) => Err(refuse(EncodeCause::Memory)),
             Ok(()) => match next_entry(alloc, part, entry.view(), value) {
-                Err(_) => Err(no_memory()),
+                Err(_) => Err(refuse(EncodeCause::Memory)),
                 Ok(after) => match level.ask(part_needs_bit(part), plan.bit) {
-                    Err(_) => Err(no_memory()),
+                    Err(_) => Err(refuse(EncodeCause::Memory)),
                     Ok(()) => Ok(mem::replace(entry, after)),
                 },
             },

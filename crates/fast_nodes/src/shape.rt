@@ -4,7 +4,7 @@ ghost use Rattle.std.specs.Prelude.{◌≡◌, Some, map};
 ghost use Rattle.std.specs.Option.{option_copied};
 ghost use Rattle.fast_template.specs.Resolved.{instruction_of, is_optional, list_of};
 ghost use Rattle.fast_value.specs.Scalar.{is_of};
-ghost use Rattle.fast_field.specs.Refusals.{are_characters, has_characters};
+ghost use Rattle.fast_field.specs.Refusals.{has_characters};
 ghost use Rattle.fast_stream.specs.Nodes.{elements_of, item_of, items_in, items_of};
 ghost use Rattle.fast_nodes.specs.FirstRefusal.{elements_fit, item_fits, items_fit, value_fits};
 
@@ -12,19 +12,13 @@ use fast_stream::Node;
 use fast_template::{FieldPart, Flat, Presence, Scalar};
 use fast_value::is_of_kind;
 
-// Whether each unit is a character of ASCII.
-fn all_characters(text: &[u8]) -> bool
-    ensures { result ≡ are_characters text.now }
-{
-    text.is_ascii()
-}
-
 // Whether a string of ASCII has its characters alone.
+#[tactic(auto, using(fast_field::proofs::RefusalSteps::characters_told))]
 fn is_spellable(value: &Scalar) -> bool
     ensures { result ≡ has_characters value.now }
 {
     match value {
-        Scalar::Ascii(text) => all_characters(text.as_slice()),
+        Scalar::Ascii(text) => text.as_slice().is_ascii(),
         _ => true,
     }
 }
@@ -85,6 +79,7 @@ fn fits(flat: &Flat, node: &Node) -> bool
 
 // Whether there is a node of its shape for each instruction.
 #[cycle(shape)]
+#[tactic(auto, using(crate::proofs::Views::other_number))]
 pub(crate) fn all_fit(flats: &[Flat], nodes: &[Node]) -> bool
     ensures { result ≡ items_fit (list_of flats.now) (items_in nodes.now) }
 {

@@ -1,9 +1,9 @@
 -- A field whose numbers show by two bytes that they are not overlong is read at the strict level as at the usual one.
 use Rattle.std.proofs.Common.{◌≡◌, ◌≤◌, ℕ, Bool, true, false, nat_le, List, [], ◌∷◌, ◌++◌, Result, Ok, Err, refl, sym, arith, ◌⊎◌, inl, inr}
 use Rattle.std.specs.Prelude.{ℤ, ◌+ℤ◌, Option, if◌then◌else◌}
-use Rattle.std.proofs.lemmas.Bool.Decides.{nat_tests}
+use Rattle.std.proofs.lemmas.Bool.{le-leb}
 use Rattle.fast_wire.specs.Integer.{signed_of}
-use Rattle.fast_wire.specs.Level.{verdict, overlong_signed}
+use Rattle.fast_wire.specs.Level.{verdict}
 use Rattle.fast_wire.specs.Nullable.{received_signed}
 use Rattle.fast_wire.specs.Reading.{◌>>=◌, entity_at, signed_at, signed_nullable_at}
 use Rattle.fast_wire.specs.declared.fault.WireFault.{WireFault}
@@ -28,45 +28,37 @@ use Rattle.fast_field.specs.Bases.{delta_base}
 use Rattle.fast_field.specs.Faults.{field_fault}
 use Rattle.fast_field.specs.FieldReading.{in_field, check, unless_null, integer_at, integer_usually_at, mantissa_entity_at, mantissa_behind, mantissa_delta_behind, integer_spelled_at, decimal_spelled_at, spelled_at, integer_delta_at, decimal_delta_at, delta_at, whole_at, row_at, field_at}
 use Rattle.fast_field.specs.Spelled.{overlong_number}
-use Rattle.fast_field.specs.Values.{is_unsigned, exponent_of, mantissa_of}
+use Rattle.fast_field.specs.Values.{is_unsigned, exponent_of}
 use Rattle.fast_field.proofs.LevelsAgree.{integer_starts, mantissa_starts}
 use Rattle.fast_field.proofs.OneEntity as one
-use Rattle.fast_relay.specs.Numbers.{SpellsWhole}
-use Rattle.fast_writer.specs.Beginnings.{BeginsShort, BeginsShortBehind, BeginsNumber}
+use Rattle.fast_writer.specs.Beginnings.{BeginsField, BeginsShort, BeginsShortBehind, BeginsNumber}
 
 -- ---- judging an entity that begins with two such bytes changes nothing
 
 abbrev begun : Bool → ℕ → List ℕ → Result (List ℕ × List ℕ) WireFault → Result (List ℕ × List ℕ) WireFault
 begun ends b bs later = if ends then Ok (b ∷ [], bs) else (later >>= λ e. Ok (b ∷ e.0, e.1))
 
-by_two : {A : Type 0} (overlong : List ℕ → Bool) (d : FieldFault) (ends last : Bool) (b c : ℕ) (bs cs : List ℕ) (later : Result (List ℕ × List ℕ) WireFault) (r : Result A FieldFault)
-    → overlong (b ∷ []) ≡ false → ((es : List ℕ) → overlong (b ∷ c ∷ es) ≡ false)
+by_two : {A : Type 0} (u : Bool) (d : FieldFault) (ends last : Bool) (b c : ℕ) (bs cs : List ℕ) (later : Result (List ℕ × List ℕ) WireFault) (r : Result A FieldFault)
+    → overlong_number u (b ∷ []) ≡ false → ((es : List ℕ) → overlong_number u (b ∷ c ∷ es) ≡ false)
     → ((w : WireFault) → begun ends b bs (begun last c cs later) ≡ Err w → r ≡ Err (field_fault w))
-    → (verdict overlong field_fault d (begun ends b bs (begun last c cs later)) >>= λ (ok : Unit {0}). r) ≡ r
-by_two overlong d true last b c bs cs later r alone two starts = rw alone refl
-by_two overlong d false true b c bs cs later r alone two starts = rw (two []) refl
-by_two overlong d false false b c bs cs (Ok e) r alone two starts = rw (two e.0) refl
-by_two overlong d false false b c bs cs (Err w) r alone two starts = sym (starts w refl)
+    → (verdict (overlong_number u) field_fault d (begun ends b bs (begun last c cs later)) >>= λ (ok : Unit {0}). r) ≡ r
+by_two u d true last b c bs cs later r alone two starts = rw alone refl
+by_two u d false true b c bs cs later r alone two starts = rw (two []) refl
+by_two u d false false b c bs cs (Ok e) r alone two starts = rw (two e.0) refl
+by_two u d false false b c bs cs (Err w) r alone two starts = sym (starts w refl)
 
-judging : {A : Type 0} (overlong : List ℕ → Bool) (d : FieldFault) (b c : ℕ) (cs : List ℕ) (r : Result A FieldFault) → overlong (b ∷ []) ≡ false → ((es : List ℕ) → overlong (b ∷ c ∷ es) ≡ false)
-    → ((w : WireFault) → entity_at 10 (b ∷ c ∷ cs) ≡ Err w → r ≡ Err (field_fault w)) → (verdict overlong field_fault d (entity_at 10 (b ∷ c ∷ cs)) >>= λ (ok : Unit {0}). r) ≡ r
+judging : {A : Type 0} (u : Bool) (d : FieldFault) (b c : ℕ) (cs : List ℕ) (r : Result A FieldFault) → overlong_number u (b ∷ c ∷ []) ≡ false
+    → ((w : WireFault) → entity_at 10 (b ∷ c ∷ cs) ≡ Err w → r ≡ Err (field_fault w)) → (verdict (overlong_number u) field_fault d (entity_at 10 (b ∷ c ∷ cs)) >>= λ (ok : Unit {0}). r) ≡ r
 unfolding entity_at
-judging overlong d b c cs r alone two starts = by_two overlong d (nat_le 128 b) (nat_le 128 c) b c (c ∷ cs) cs (entity_at 8 cs) r alone two starts
-
-alone : (u : Bool) (b : ℕ) → overlong_number u (b ∷ []) ≡ false
-alone true b = refl
-alone false b = refl
-
-two : (u : Bool) (b c : ℕ) → overlong_number u (b ∷ c ∷ []) ≡ false → (es : List ℕ) → overlong_number u (b ∷ c ∷ es) ≡ false
-two true b c short es = short
-two false b c short es = short
+judging true d b c cs r short starts = by_two true d (nat_le 128 b) (nat_le 128 c) b c (c ∷ cs) cs (entity_at 8 cs) r refl (λ es. short) starts
+judging false d b c cs r short starts = by_two false d (nat_le 128 b) (nat_le 128 c) b c (c ∷ cs) cs (entity_at 8 cs) r refl (λ es. short) starts
 
 integer : (u : Bool) (p : Presence) (b c : ℕ) (cs : List ℕ) → overlong_number u (b ∷ c ∷ []) ≡ false → integer_at Strict u p (b ∷ c ∷ cs) ≡ integer_at Usual u p (b ∷ c ∷ cs)
 unfolding integer_at
-integer u p b c cs short = judging (overlong_number u) fault.R6 b c cs (integer_usually_at u p (b ∷ c ∷ cs)) (alone u b) (two u b c short) (integer_starts u p (b ∷ c ∷ cs))
+integer u p b c cs short = judging u fault.R6 b c cs (integer_usually_at u p (b ∷ c ∷ cs)) short (integer_starts u p (b ∷ c ∷ cs))
 
 mantissa_entity : (b c : ℕ) (cs : List ℕ) → overlong_number false (b ∷ c ∷ []) ≡ false → mantissa_entity_at Strict (b ∷ c ∷ cs) ≡ mantissa_entity_at Usual (b ∷ c ∷ cs)
-mantissa_entity b c cs short = judging overlong_signed fault.R6 b c cs (in_field (signed_at (b ∷ c ∷ cs))) (alone false b) (two false b c short) (mantissa_starts (b ∷ c ∷ cs))
+mantissa_entity b c cs short = judging false fault.R6 b c cs (in_field (signed_at (b ∷ c ∷ cs))) short (mantissa_starts (b ∷ c ∷ cs))
 
 -- ---- one reading and then another
 
@@ -77,131 +69,74 @@ after : {A B : Type 0} (r : Result A FieldFault) (k l : A → Result B FieldFaul
 after (Ok x) k l h = h x
 after (Err f) k l h = refl
 
-null : {A : Type 0} (z : Nullable A) (rest : List ℕ) (f g : A → List ℕ → Result (Option Scalar × List ℕ) FieldFault) → ((a : A) → f a rest ≡ g a rest) → unless_null (z, rest) f ≡ unless_null (z, rest) g
-null Null rest f g h = refl
-null (Value a) rest f g h = h a
-
 behind : {A : Type 0} (s u : Result (Nullable A × List ℕ) FieldFault) (z : Nullable A) (rest : List ℕ) (f g : A → List ℕ → Result (Option Scalar × List ℕ) FieldFault) → s ≡ u → u ≡ Ok (z, rest)
     → ((a : A) → f a rest ≡ g a rest) → (s >>= λ x. unless_null x f) ≡ (u >>= λ x. unless_null x g)
-behind s u z rest f g same is h = rw same (rw is (null z rest f g h))
+behind s u Null rest f g same is h = rw same (rw is refl)
+behind s u (Value a) rest f g same is h = rw same (rw is (h a))
 
 -- ---- the exponent of one byte
 
-exponent_is : (p : Presence) (b : ℕ) (bs : List ℕ) → nat_le 128 b ≡ true → (z : Nullable ℤ) × (integer_at Usual false p (b ∷ bs) ≡ Ok (z, bs))
-unfolding integer_at signed_at signed_nullable_at entity_at
-exponent_is Mandatory b bs h = (Value (signed_of (b ∷ [])), rw h refl)
-exponent_is Optional b bs h = (received_signed (signed_of (b ∷ [])), rw h refl)
-
 exponent_ends : (p : Presence) (b : ℕ) (bs : List ℕ) → 128 ≤ b → (z : Nullable ℤ) × (integer_at Usual false p (b ∷ bs) ≡ Ok (z, bs))
-exponent_ends p b bs h = exponent_is p b bs (grind (arith, nat_tests))
+unfolding integer_at signed_at signed_nullable_at entity_at
+exponent_ends Mandatory b bs h = (Value (signed_of (b ∷ [])), rw (le-leb 128 b h) refl)
+exponent_ends Optional b bs h = (received_signed (signed_of (b ∷ [])), rw (le-leb 128 b h) refl)
 
 exponent : (p : Presence) (b : ℕ) (bs : List ℕ) → 128 ≤ b → integer_at Strict false p (b ∷ bs) ≡ integer_at Usual false p (b ∷ bs)
 exponent p b bs h = one.integer false p b bs (λ is. absurd (omega (arith, h, is))) (λ is. absurd (omega (arith, h, is)))
 
--- ---- what stands whole
+-- ---- an integer in front, or an exponent of one byte and a mantissa
 
-number : (pt : Part) (k : Kind) (p : Presence) (bytes more : List ℕ) → BeginsShort (is_unsigned k) bytes → integer_spelled_at Strict pt k p (bytes ++ more) ≡ integer_spelled_at Usual pt k p (bytes ++ more)
-unfolding integer_spelled_at
-number pt k p (b ∷ c ∷ cs) more short = first (integer_at Strict (is_unsigned k) p (b ∷ c ∷ (cs ++ more))) (integer_at Usual (is_unsigned k) p (b ∷ c ∷ (cs ++ more))) _ (integer (is_unsigned k) p b c (cs ++ more) short)
-number pt k p (b ∷ []) more short = absurd short
-number pt k p [] more short = absurd short
+in_front : {A : Type 0} (u : Bool) (p : Presence) (bytes more : List ℕ) (k : Nullable ℤ × List ℕ → Result A FieldFault) → BeginsShort u bytes
+    → (integer_at Strict u p (bytes ++ more) >>= k) ≡ (integer_at Usual u p (bytes ++ more) >>= k)
+in_front u p (b ∷ c ∷ cs) more k short = first (integer_at Strict u p (b ∷ c ∷ (cs ++ more))) (integer_at Usual u p (b ∷ c ∷ (cs ++ more))) k (integer u p b c (cs ++ more) short)
+in_front u p bytes more k short = absurd short
 
-mantissa : (e : ℤ) (b c : ℕ) (cs : List ℕ) → overlong_number false (b ∷ c ∷ []) ≡ false → mantissa_behind Strict e (b ∷ c ∷ cs) ≡ mantissa_behind Usual e (b ∷ c ∷ cs)
-unfolding mantissa_behind
-mantissa e b c cs short = after (check (exponent_in_range e) fault.R1) _ _ (λ ok. first (mantissa_entity_at Strict (b ∷ c ∷ cs)) (mantissa_entity_at Usual (b ∷ c ∷ cs)) _ (mantissa_entity b c cs short))
-
-decimal : (p : Presence) (bytes more : List ℕ) → BeginsShortBehind bytes → decimal_spelled_at Strict p (bytes ++ more) ≡ decimal_spelled_at Usual p (bytes ++ more)
-unfolding decimal_spelled_at
-decimal p (a ∷ b ∷ c ∷ cs) more h =
+in_pair : (p : Presence) (bytes more : List ℕ) (f g : ℤ → List ℕ → Result (Option Scalar × List ℕ) FieldFault) → BeginsShortBehind bytes
+    → ((e : ℤ) (b c : ℕ) (cs : List ℕ) → overlong_number false (b ∷ c ∷ []) ≡ false → f e (b ∷ c ∷ cs) ≡ g e (b ∷ c ∷ cs))
+    → (integer_at Strict false p (bytes ++ more) >>= λ x. unless_null x f) ≡ (integer_at Usual false p (bytes ++ more) >>= λ x. unless_null x g)
+in_pair p (a ∷ b ∷ c ∷ cs) more f g h same =
     let rest = b ∷ c ∷ (cs ++ more) in
     let z = exponent_ends p a rest h.0 in
-    behind (integer_at Strict false p (a ∷ rest)) (integer_at Usual false p (a ∷ rest)) z.0 rest (mantissa_behind Strict) (mantissa_behind Usual) (exponent p a rest h.0) z.1
-    (λ e. mantissa e b c (cs ++ more) h.1)
-decimal p (a ∷ b ∷ []) more h = absurd h.1
-decimal p (a ∷ []) more h = absurd h.1
-decimal p [] more h = absurd h
+    behind (integer_at Strict false p (a ∷ rest)) (integer_at Usual false p (a ∷ rest)) z.0 rest f g (exponent p a rest h.0) z.1 (λ e. same e b c (cs ++ more) h.1)
+in_pair p (a ∷ bytes) more f g h same = absurd h.1
+in_pair p [] more f g h same = absurd h
+
+mantissa : {A : Type 0} (e : ℤ) (b c : ℕ) (cs : List ℕ) (k : ℤ × List ℕ → Result A FieldFault) → overlong_number false (b ∷ c ∷ []) ≡ false
+    → (check (exponent_in_range e) fault.R1 >>= λ (ok : Unit {0}). mantissa_entity_at Strict (b ∷ c ∷ cs) >>= k) ≡ (check (exponent_in_range e) fault.R1 >>= λ (ok : Unit {0}). mantissa_entity_at Usual (b ∷ c ∷ cs) >>= k)
+mantissa e b c cs k short = after (check (exponent_in_range e) fault.R1) _ _ (λ ok. first (mantissa_entity_at Strict (b ∷ c ∷ cs)) (mantissa_entity_at Usual (b ∷ c ∷ cs)) k (mantissa_entity b c cs short))
 
 spelled : (pt : Part) (k : Kind) (p : Presence) (bytes more : List ℕ) → BeginsNumber k (is_unsigned k) bytes → spelled_at Strict pt k p (bytes ++ more) ≡ spelled_at Usual pt k p (bytes ++ more)
-unfolding spelled_at
-spelled pt kind.Decimal p bytes more h = decimal p bytes more h
+unfolding spelled_at decimal_spelled_at integer_spelled_at mantissa_behind
+spelled pt kind.Decimal p bytes more h = in_pair p bytes more (mantissa_behind Strict) (mantissa_behind Usual) h (λ e b c cs. mantissa e b c cs _)
 spelled pt kind.Ascii p bytes more h = absurd h
 spelled pt kind.Unicode p bytes more h = absurd h
 spelled pt kind.Bytes p bytes more h = absurd h
-spelled pt k p bytes more h = number pt k p bytes more h
-
-whole : (i : FieldPart) (bytes more : List ℕ) → BeginsNumber i.kind (is_unsigned i.kind) bytes → whole_at Strict i (bytes ++ more) ≡ whole_at Usual i (bytes ++ more)
-unfolding whole_at
-whole i bytes more h = spelled i.part i.kind i.presence bytes more h
-
--- ---- deltas
-
-number_delta : (i : FieldPart) (e : Entry) (bytes more : List ℕ) → BeginsShort false bytes → integer_delta_at Strict i e (bytes ++ more) ≡ integer_delta_at Usual i e (bytes ++ more)
-unfolding integer_delta_at
-number_delta i e (b ∷ c ∷ cs) more short = first (integer_at Strict false i.presence (b ∷ c ∷ (cs ++ more))) (integer_at Usual false i.presence (b ∷ c ∷ (cs ++ more))) _ (integer false i.presence b c (cs ++ more) short)
-number_delta i e (b ∷ []) more short = absurd short
-number_delta i e [] more short = absurd short
-
-mantissa_delta : (e base : ℤ) (b c : ℕ) (cs : List ℕ) → overlong_number false (b ∷ c ∷ []) ≡ false → mantissa_delta_behind Strict e base (b ∷ c ∷ cs) ≡ mantissa_delta_behind Usual e base (b ∷ c ∷ cs)
-unfolding mantissa_delta_behind
-mantissa_delta e base b c cs short = after (check (exponent_in_range e) fault.R1) _ _ (λ ok. first (mantissa_entity_at Strict (b ∷ c ∷ cs)) (mantissa_entity_at Usual (b ∷ c ∷ cs)) _ (mantissa_entity b c cs short))
-
-decimal_delta : (i : FieldPart) (e : Entry) (bytes more : List ℕ) → BeginsShortBehind bytes → decimal_delta_at Strict i e (bytes ++ more) ≡ decimal_delta_at Usual i e (bytes ++ more)
-unfolding decimal_delta_at
-decimal_delta i e (a ∷ b ∷ c ∷ cs) more h =
-    let rest = b ∷ c ∷ (cs ++ more) in
-    let z = exponent_ends i.presence a rest h.0 in
-    behind (integer_at Strict false i.presence (a ∷ rest)) (integer_at Usual false i.presence (a ∷ rest)) z.0 rest _ _ (exponent i.presence a rest h.0) z.1
-    (λ d. after (delta_base i e) _ _ (λ base. mantissa_delta (exponent_of base +ℤ d) (mantissa_of base) b c (cs ++ more) h.1))
-decimal_delta i e (a ∷ b ∷ []) more h = absurd h.1
-decimal_delta i e (a ∷ []) more h = absurd h.1
-decimal_delta i e [] more h = absurd h
+spelled pt k p bytes more h = in_front (is_unsigned k) p bytes more _ h
 
 delta : (k : Kind) (i : FieldPart) (e : Entry) (bytes more : List ℕ) → BeginsNumber k false bytes → delta_at Strict k i e (bytes ++ more) ≡ delta_at Usual k i e (bytes ++ more)
-unfolding delta_at
-delta kind.Decimal i e bytes more h = decimal_delta i e bytes more h
+unfolding delta_at decimal_delta_at integer_delta_at mantissa_delta_behind
+delta kind.Decimal i e bytes more h = in_pair i.presence bytes more _ _ h (λ d b c cs short. after (delta_base i e) _ _ (λ base. mantissa (exponent_of base +ℤ d) b c cs _ short))
 delta kind.Ascii i e bytes more h = absurd h
 delta kind.Unicode i e bytes more h = absurd h
 delta kind.Bytes i e bytes more h = absurd h
-delta k i e bytes more h = number_delta i e bytes more h
+delta k i e bytes more h = in_front false i.presence bytes more _ h
 
 -- ---- fields
 
-whole_row : (o : Operator) (i : FieldPart) (e : Entry) (bytes more : List ℕ) → SpellsWhole o → BeginsNumber i.kind (is_unsigned i.kind) bytes → row_at Strict o i e true (bytes ++ more) ≡ row_at Usual o i e true (bytes ++ more)
-unfolding row_at
-whole_row operator.Plain i e bytes more o h = whole i bytes more h
-whole_row operator.Constant i e bytes more o h = absurd o
-whole_row operator.Default i e bytes more o h = whole i bytes more h
-whole_row operator.Copy i e bytes more o h = whole i bytes more h
-whole_row operator.Increment i e bytes more o h = whole i bytes more h
-whole_row operator.Delta i e bytes more o h = absurd o
-whole_row operator.Tail i e bytes more o h = absurd o
+row : (o : Operator) (i : FieldPart) (e : Entry) (bytes more : List ℕ) → BeginsField o i.kind bytes → row_at Strict o i e true (bytes ++ more) ≡ row_at Usual o i e true (bytes ++ more)
+unfolding row_at whole_at
+row operator.Constant i e bytes more h = refl
+row operator.Delta i e bytes more h = delta i.kind i e bytes more h
+row operator.Tail i e bytes more h = absurd h
+row o i e bytes more h = spelled i.part i.kind i.presence bytes more h
 
-field : (i : FieldPart) (e : Entry) (bytes : List ℕ) → row_at Strict i.operator i e true bytes ≡ row_at Usual i.operator i e true bytes → field_at Strict i e true bytes ≡ field_at Usual i e true bytes
+-- what is sent is a number, or what is added to one, or nothing
+pub as_usual : (i : FieldPart) (bytes : List ℕ) → BeginsField i.operator i.kind bytes → ReadsAsUsual Strict i bytes
 unfolding field_at
-field i e bytes same = first (row_at Strict i.operator i e true bytes) (row_at Usual i.operator i e true bytes) _ same
+as_usual i bytes h = λ e more. first (row_at Strict i.operator i e true (bytes ++ more)) (row_at Usual i.operator i e true (bytes ++ more)) _ (row i.operator i e bytes more h)
 
-delta_row : (o : Operator) (i : FieldPart) (e : Entry) (bytes more : List ℕ) → o ≡ operator.Delta → BeginsNumber i.kind false bytes → row_at Strict o i e true (bytes ++ more) ≡ row_at Usual o i e true (bytes ++ more)
-unfolding row_at
-delta_row o i e bytes more is h = rw is (delta i.kind i e bytes more h)
-
-constant_row : (o : Operator) (i : FieldPart) (e : Entry) (bytes : List ℕ) → o ≡ operator.Constant → row_at Strict o i e true bytes ≡ row_at Usual o i e true bytes
-unfolding row_at
-constant_row o i e bytes is = rw is refl
-
-pub is_whole : (o : Operator) → (o ≡ operator.Plain) ⊎ ((o ≡ operator.Default) ⊎ ((o ≡ operator.Copy) ⊎ (o ≡ operator.Increment))) → SpellsWhole o
-is_whole o (inl is) = rw is tt
-is_whole o (inr (inl is)) = rw is tt
-is_whole o (inr (inr (inl is))) = rw is tt
-is_whole o (inr (inr (inr is))) = rw is tt
-
--- what is sent is a number, whole
-pub whole_as_usual : (i : FieldPart) (bytes : List ℕ) → SpellsWhole i.operator → BeginsNumber i.kind (is_unsigned i.kind) bytes → ReadsAsUsual Strict i bytes
-whole_as_usual i bytes o h = λ e more. field i e (bytes ++ more) (whole_row i.operator i e bytes more o h)
-
--- or what is added to one
-pub delta_as_usual : (i : FieldPart) (bytes : List ℕ) → i.operator ≡ operator.Delta → BeginsNumber i.kind false bytes → ReadsAsUsual Strict i bytes
-delta_as_usual i bytes is h = λ e more. field i e (bytes ++ more) (delta_row i.operator i e bytes more is h)
-
--- of a constant nothing is sent
-pub constant_as_usual : (i : FieldPart) (bytes : List ℕ) → i.operator ≡ operator.Constant → ReadsAsUsual Strict i bytes
-constant_as_usual i bytes is = λ e more. field i e (bytes ++ more) (constant_row i.operator i e (bytes ++ more) is)
+pub whole_begins : (o : Operator) (k : Kind) (bytes : List ℕ) → (o ≡ operator.Plain) ⊎ ((o ≡ operator.Default) ⊎ ((o ≡ operator.Copy) ⊎ (o ≡ operator.Increment))) → BeginsNumber k (is_unsigned k) bytes → BeginsField o k bytes
+whole_begins o k bytes (inl is) h = rw is h
+whole_begins o k bytes (inr (inl is)) h = rw is h
+whole_begins o k bytes (inr (inr (inl is))) h = rw is h
+whole_begins o k bytes (inr (inr (inr is))) h = rw is h

@@ -21,8 +21,7 @@ behind_of true bit mid later leaves = leaves.1
 behind_of false bit mid later leaves = leaves
 
 pub no_bits : (needs bit : Bool) → needs ≡ false → bits_for needs bit ≡ []
-no_bits true bit h = absurd cc
-no_bits false bit h = refl
+no_bits needs bit h = rw h refl
 
 -- bits that are those asked for, up to zeros at the end
 leaves_rest : (asked all : List Bool) → ((i : ℕ) → bit_at all i ≡ bit_at asked i) → (left : List Bool) × Leaves asked all left × ((i : ℕ) → bit_at left i ≡ false)

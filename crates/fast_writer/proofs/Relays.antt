@@ -73,7 +73,7 @@ zero_needs operator.Increment i e cut b v f none = absurd cc
 zero_needs operator.Delta i e cut b v f none = absurd f
 zero_needs operator.Tail i e cut b v f none = absurd cc
 
-best_needs : {i : FieldPart} {e : Entry} {b : List ℕ} {v : Option Scalar} (bit : Bool) → IsBest i e bit b v → part_needs_bit i ≡ false → bit ≡ true
+pub best_needs : {i : FieldPart} {e : Entry} {b : List ℕ} {v : Option Scalar} (bit : Bool) → IsBest i e bit b v → part_needs_bit i ≡ false → bit ≡ true
 best_needs true best none = refl
 best_needs {i} {e} {b} {v} false best none = zero_needs i.operator i e best.cut b v best.form.row none
 
@@ -101,9 +101,6 @@ pub repeated_put : (p : FieldPart) (d e : Dictionary) (old new : Entry) (r : Opt
 repeated_put p d e old new None is put same = put ∙ ap (set_entry d p.key) (same ∙ is) ∙ set_entry-there d p.key
 repeated_put p d e old new (Some count) is put passes = (new, rw (is) at passes, put)
 
-pub level_bytes : (l : Segment) (bytes : List ℕ) → bytes ≡ l.bytes → record { bits = l.bits; own = l.own; bytes = bytes } ≡ l
-level_bytes l bytes is = rw (is) refl
-
 -- where nothing is noted yet
 pub begun : (bytes : List ℕ) (r s : Run) (at : ℕ) → s.out.items ≡ r.out.items → s.from ≡ at → s.place ≡ at → written bytes s ≡ r.out.items
 begun bytes r s at out from place = rw (out, from, place) (settled bytes r.out.items at)
@@ -118,18 +115,13 @@ relays_under {p = p} {bit = bit} {best = best} {v = v} {l = l} {k = k} is put ne
   place = r.place;
   took = took_of is put r.relayed.entry r.relayed.read;
   spelt = subst (λ (x : Entry). Spelt p x v l k) is (spelt_entry needs r.relayed.form asked);
-  room = λ left left_is room. asked_room (part_needs_bit p) bit best l k left left_is r.lower (rw (needs) at asked.bits) asked.own room;
+  room = λ around left is room. asked_room (part_needs_bit p) bit best l k left around is r.lower (rw (needs) at asked.bits) asked.own room;
 }
 
 pub stops_under : (level : Level) (p : FieldPart) (d e : Dictionary) (old new : Entry) (bit : Bool) (bytes : List ℕ) (l : Segment) (after : List ℕ) (f : FieldFault)
     → old ≡ entry_at d p.key → e ≡ set_entry d p.key new → StopsEntry level p old new bit bytes l.bytes after f → StopsPart level p d e bit bytes l (record { bits = l.bits; own = l.own; bytes = after }) f
 stops_under level p d e old new bit bytes l after f is put s other =
-    (rw (is) at (s.fault other), put ∙ ap (set_entry d p.key) (s.entry ∙ is) ∙ set_entry-there d p.key, level_bytes l after s.out)
-
--- a part without a bit is read under bit 1
-pub needs_one : (needs bit : Bool) → (needs ≡ false → bit ≡ true) → bit ≡ false → needs ≡ true
-needs_one true bit one zero = refl
-needs_one false bit one zero = absurd (let both = sym zero ∙ one refl in cc)
+    (rw (is) at (s.fault other), put ∙ ap (set_entry d p.key) (s.entry ∙ is) ∙ set_entry-there d p.key, rw (s.out) refl)
 
 -- a length in one byte, whose entry stays
 pub byte_relayed : (level : Level) (i : FieldPart) (count : Option ℕ) (bytes : List ℕ) (at : ℕ) → ReadsAsUsual level i (drop at bytes) → RelaysByte i count bytes at → (e : Entry) (out : List ℕ)

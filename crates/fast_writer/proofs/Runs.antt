@@ -1,5 +1,5 @@
 -- What a run of noted bytes is.
-use Rattle.std.proofs.Common.{◌≡◌, ◌≤◌, ℕ, List, ◌++◌, slice_range, sym, ap, ◌∙◌, arith, append_assoc, append-nil, length}
+use Rattle.std.proofs.Common.{◌≡◌, ◌≤◌, ℕ, List, ◌++◌, slice_range, sym, ap, ◌∙◌, append_assoc, append-nil}
 use Rattle.fast_writer.specs.Runs.{IsRun, written}
 use Rattle.fast_writer.specs.declared.run.Run.{Run}
 use Rattle.fast_relay.proofs.Ranges.{range_none, range_split}
@@ -13,10 +13,3 @@ kept bytes at r next h le =
 -- where nothing is noted, what was appended is all
 pub settled : (bytes : List ℕ) (items : List ℕ) (at : ℕ) → items ++ slice_range bytes at at ≡ items
 settled bytes items at = ap (λ x. items ++ x) (range_none bytes at) ∙ append-nil items
-
-pub none_noted : (bytes : List ℕ) (r : Run) → r.from ≡ r.place → written bytes r ≡ r.out.items
-none_noted bytes r none = ap (λ (k : ℕ). r.out.items ++ slice_range bytes k r.place) none ∙ settled bytes r.out.items r.place
-
--- where it is begun to note
-pub begun : (bytes : List ℕ) (at : ℕ) (r : Run) → r.from ≡ at → r.place ≡ at → at ≤ length bytes → IsRun bytes at r
-begun bytes at r from place le = record { from = omega (arith, from, place); place = place; within = le }

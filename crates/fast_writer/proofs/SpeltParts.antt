@@ -13,7 +13,7 @@ use Rattle.fast_value.specs.declared.kind.Kind.TheVariants as kind
 use Rattle.fast_value.specs.declared.kind.Part.TheVariants as part
 use Rattle.fast_value.specs.declared.kind.Presence.TheVariants.{Mandatory}
 use Rattle.fast_value.specs.declared.scalar.Scalar.{Scalar}
-use Rattle.fast_value.specs.declared.scalar.Scalar.TheVariants.{I64}
+use Rattle.fast_value.specs.declared.scalar.Scalar.TheVariants.{I32, I64}
 use Rattle.fast_template.specs.declared.resolved.FieldPart.{FieldPart}
 use Rattle.fast_template.specs.TemplateSets.{IsTyped}
 use Rattle.fast_dictionary.specs.declared.entry.Entry.{Entry}
@@ -30,20 +30,17 @@ use Rattle.fast_field.proofs.LevelsAgree.{read_usually}
 use Rattle.fast_field.proofs.Refused.{not_refused}
 use Rattle.fast_field.proofs.ValueKinds.{value_kind, value_there}
 use Rattle.fast_stream.specs.Bodies.{written}
+use Rattle.fast_walk.specs.Received.{exponent_of}
 use Rattle.fast_walk.specs.Told.{HoldScalars, KeepScalars, IsTold}
 use Rattle.fast_walk.proofs.Telling.{are_kept, form_holds, kept_hold, told_part}
 use Rattle.fast_relay.specs.Relayed.{IsThere}
 use Rattle.fast_writer.specs.Written.{AppendsForm, Segment, Spelt}
-use Rattle.fast_writer.proofs.QuickWays.{mantissa_there}
 
 -- ---- values
 
 pub appended_kinds : (p : FieldPart) (e : Entry) (v : Option Scalar) (bit : Bool) (old new : List ℕ) → IsTyped p → AppendsForm p e v bit old new → IfSome v (λ w. IsTrue (is_of p.kind w))
 appended_kinds p e None bit old new typed a = tt
 appended_kinds p e (Some v) bit old new typed a = value_kind p typed e bit a.form v (a.best.cut, a.best.form)
-
-pub spelt_there : (p : FieldPart) (e : Entry) (l k : Segment) → IsTyped p → p.presence ≡ Mandatory → Spelt p e None l k → ⊥
-spelt_there p e l k typed mandatory s = value_there p typed mandatory e s.bit s.form (s.best.cut, s.best.form)
 
 -- whether there is a value
 pub still_some : (o : Option (Bor Scalar)) → is_some o ≡ is_some (option_copied o)
@@ -54,12 +51,31 @@ pub is_there : (k : Kind) (v : Option Scalar) (b : Bool) → b ≡ is_some v →
 is_there k None b is h = rw (is) refl
 is_there k (Some v) b is h = rw (is) (v, refl, h)
 
+-- what an exponent and a mantissa are
+is_int32 : (w : Scalar) → IsTrue (is_of kind.Int32 w) → (z : ℤ) × (w ≡ I32 z)
+is_int32 (I32 z) h = (z, refl)
+is_int32 w h = absurd cc
+
+is_int64 : (w : Scalar) → IsTrue (is_of kind.Int64 w) → (z : ℤ) × (w ≡ I64 z)
+is_int64 (I64 z) h = (z, refl)
+is_int64 w h = absurd cc
+
+pub exponent_there : (k : Kind) (there : Bool) (v : Option Scalar) → k ≡ kind.Int32 → IsThere k there v
+    → (z : Option ℤ) × (v ≡ exponent_of z) × (is_some z ≡ there)
+exponent_there k true v is h =
+    let w = is_int32 h.0 (rw (is) at h.2) in
+    (Some w.0, h.1 ∙ ap (λ (x : Scalar). Some x) w.1, refl)
+exponent_there k false v is h = (None, h, refl)
+
 -- a mantissa has a value, which is an integer of 64 bits
 pub mantissa_taken : (p : FieldPart) (e : Entry) (there : Bool) (v : Option Scalar) (l k : Segment) → IsTold part.Mantissa kind.Int64 p → p.presence ≡ Mandatory
     → IsThere p.kind there v → Spelt p e v l k → (m : ℤ) × (v ≡ Some (I64 m))
-mantissa_taken p e true v l k told mandatory is s = mantissa_there p.kind v told.kind_is is
+mantissa_taken p e true v l k told mandatory is s =
+    let w = is_int64 is.0 (rw (told.kind_is) at is.2) in
+    (w.0, is.1 ∙ ap (λ (x : Scalar). Some x) w.1)
 mantissa_taken p e false v l k told mandatory is s =
-    absurd (spelt_there p e l k (told_part part.Mantissa kind.Int64 p refl told).typed mandatory (subst (λ (v : Option Scalar). Spelt p e v l k) is s))
+    let none = subst (λ (v : Option Scalar). Spelt p e v l k) is s in
+    absurd (value_there p (told_part part.Mantissa kind.Int64 p refl told).typed mandatory e none.bit none.form (none.best.cut, none.best.form))
 
 -- ---- entries
 
@@ -77,7 +93,5 @@ only_memory level p e v bytes rest f fits is holds goes (inl h) =
     let read : field_at level p e true bytes ≡ Ok (v, rest) =
     ap (λ (b : List ℕ). field_at level p e true b) (sym (append-nil bytes)) ∙ goes [] ∙ ap (λ (r : List ℕ). done {F = FieldFault} (v, r)) (append-nil rest) in
     let t = (field_forms Usual p e true (λ none. refl) is.typed.default_has_value).found bytes v rest fits (read_usually level p e true bytes (v, rest) read) in
-    absurd (let none = not_refused p e true t.front v is holds t.form in none_is_some f (sym none ∙ h))
-  where
-    none_is_some : (f : FieldRefusal) → None ≡ Some f → ⊥
-    none_is_some f h = absurd cc
+    let none = not_refused p e true t.front v is holds t.form in
+    absurd (let both : None ≡ Some f = sym none ∙ h in cc)

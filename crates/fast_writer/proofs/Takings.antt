@@ -1,10 +1,9 @@
 -- Fields that are taken one after the other into the segment that is open.
-use Rattle.std.proofs.Common.{◌≡◌, ◌≤◌, ◌<◌, ◌-◌, ◌+◌, ℕ, zero, suc, ℤ, pos, Bool, true, false, List, [], ◌∷◌, ◌++◌, length, get_or, Option, Some, None, drop, take, refl, sym, ap, ◌∙◌, subst, arith}
-use Rattle.std.proofs.lemmas.List.{take_all}
+use Rattle.std.proofs.Common.{◌≡◌, ◌≤◌, ◌<◌, ◌-◌, ◌+◌, ℕ, suc, ℤ, pos, Bool, false, List, [], ◌∷◌, ◌++◌, length, Option, Some, None, drop, take, refl, sym, ap, ◌∙◌, subst, arith}
+use Rattle.std.proofs.lemmas.List.{drop-drop, take_all}
 use Rattle.std.specs.Option.{is_some}
 use Rattle.std.specs.List.{slice_get}
 use Rattle.std.specs.Borrow.{Bor}
-use Rattle.std.specs.Prelude.{slice_range}
 use Rattle.fast_value.specs.declared.scalar.Scalar.{Scalar}
 use Rattle.fast_value.specs.declared.scalar.Scalar.TheVariants.{I64, Decimal}
 use Rattle.fast_value.specs.declared.kind.Presence.{Presence}
@@ -16,57 +15,29 @@ use Rattle.fast_dictionary.specs.declared.entry.Entry.{Entry}
 use Rattle.fast_wire.specs.declared.level.Level.{Level}
 use Rattle.fast_stream.specs.Nodes.{single}
 use Rattle.fast_stream.specs.Bits.{bit_for, after_bit}
-use Rattle.fast_walk.specs.OpenSegments.{Next, at_mantissa, cursor}
-use Rattle.fast_walk.specs.Received.{Received, Took, moved, passed, exponent_of}
-use Rattle.fast_walk.specs.Passing.{Passes, next_behind}
-use Rattle.fast_walk.specs.Walks.{AreServed, IsNextServed, IsServed}
+use Rattle.fast_walk.specs.OpenSegments.{Body, Next, at_instruction, at_mantissa, cursor, top_on, with_item}
+use Rattle.fast_walk.specs.Received.{Received, Took, moved, exponent_of}
+use Rattle.fast_walk.specs.Passing.{next_behind}
+use Rattle.fast_walk.specs.Walks.{AreServed, IsNextServed, IsServed, bare_next}
 use Rattle.fast_value.specs.declared.key.Key.{Key}
 use Rattle.fast_walk.proofs.Steps.{count_goes, part_goes}
 use Rattle.fast_walk.proofs.Walking.{field_on, exponent_on, no_exponent_on, mantissa_on_goes, is_instruction, is_mantissa}
-use Rattle.fast_writer.specs.Written.{Segment, Spelt}
-use Rattle.fast_writer.specs.Takings.{BeginsWith, EndsPart, Front, MatchTaken, Takes, TakesPart, TakesUnder, TookEntry, TookFields, TookUnder, behind, front_at}
+use Rattle.fast_writer.specs.Written.{IsOpened, Segment, Spelt}
+use Rattle.fast_writer.specs.Takings.{BeginsWith, EndsPart, Front, MatchTaken, Takes, TakesPart, TakesUnder, TookEntry, TookFields, TookUnder, behind}
 use Rattle.fast_writer.specs.Levels.{level_in, level_of}
 use Rattle.fast_writer.specs.Quick.{Relayed}
 use Rattle.fast_writer.specs.declared.segment.Segment.{Segment as LevelNow}
 use Rattle.fast_writer.specs.declared.fields.Taken.{Taken}
 use Rattle.fast_writer.specs.declared.fields.Taken.TheVariants.{Part, Elsewhere, Refused}
 use Rattle.fast_relay.specs.Relayed.{IsThere}
-use Rattle.fast_relay.specs.Judged.{JudgedTo}
 use Rattle.fast_writer.specs.Runs.{IsRun, written}
 use Rattle.fast_writer.specs.declared.run.Run.{Run}
-use Rattle.fast_field.specs.AsUsual.{ReadsAsUsual}
 use Rattle.fast_field.specs.Parts.{IsFieldPart}
 use Rattle.fast_walk.specs.Told.{KeepScalars}
 use Rattle.fast_writer.proofs.MapRoom.{asked_room}
-use Rattle.fast_writer.proofs.Relays.{judged_relayed, took_entry, took_of}
-use Rattle.fast_writer.proofs.SpeltParts.{mantissa_taken, spelt_keeps}
-use Rattle.fast_writer.proofs.QuickWays.{exponent_there}
+use Rattle.fast_writer.proofs.Relays.{took_entry, took_of}
+use Rattle.fast_writer.proofs.SpeltParts.{exponent_there, mantissa_taken, spelt_keeps}
 use Rattle.fast_writer.proofs.Writers.{has_field, has_exponent, has_mantissa}
-use Rattle.fast_relay.specs.Best.{HasBest, form_of}
-use Rattle.fast_relay.specs.declared.best.Best.{Best}
-use Rattle.fast_writer.specs.Written.{with_bytes}
-
--- the instruction that is next in a body
-pub next_flat : (flats : List Flat) (i : ℕ) (f : Flat) → f ≡ get_or flats i f → i < length flats → list_of (drop i flats) ≡ then_instruction (instruction_of f) (list_of (drop (i + 1) flats))
-next_flat [] i f is within = absurd (omega arith)
-next_flat (g ∷ flats) zero f is within = ap (λ (x : Flat). then_instruction (instruction_of x) (list_of flats)) (sym is)
-next_flat (g ∷ flats) (suc i) f is within =
-    let later : suc i + 1 ≡ suc (i + 1) = omega arith in rw later (next_flat flats i f is (omega (arith, within)))
-
--- an instruction that stands in front of what is left of a body, where that is what stands behind so many
-pub record InFront (flats : List Flat) (i : ℕ) (f : Flat) (later : List Flat) : Type 0 where
-  pub within : i < length flats
-  pub is : f ≡ get_or flats i f
-  pub later_is : later ≡ drop (i + 1) flats
-
-pub in_front : (flats : List Flat) (i : ℕ) (f : Flat) (later : List Flat) → drop i flats ≡ f ∷ later → InFront flats i f later
-in_front [] zero f later front = absurd cc
-in_front [] (suc i) f later front = absurd cc
-in_front (g ∷ flats) zero f later front = record { within = omega arith; is = cc; later_is = cc }
-in_front (g ∷ flats) (suc i) f later front =
-    let on = in_front flats i f later front in
-    let more : suc i + 1 ≡ suc (i + 1) = omega arith in
-    record { within = omega (arith, on.within); is = on.is; later_is = rw more on.later_is }
 
 abbrev behind_first : List Flat → List Flat
 behind_first others = take (length others - 1) (drop 1 others)
@@ -74,7 +45,7 @@ behind_first others = take (length others - 1) (drop 1 others)
 -- the instruction in front of what is left of a body, told by how many are left, and what is left behind it
 pub record Ahead (flats others : List Flat) (f : Flat) : Type 0 where
   pub within : length flats - length others < length flats
-  pub is : f ≡ get_or flats (length flats - length others) f
+  pub goes : list_of (drop (length flats - length others) flats) ≡ then_instruction (instruction_of f) (list_of (drop (length flats - length others + 1) flats))
   pub fewer : length (behind_first others) ≤ length flats
   pub next : length flats - length (behind_first others) ≡ length flats - length others + 1
   pub later_is : behind_first others ≡ drop (length flats - length others + 1) flats
@@ -90,92 +61,54 @@ none_ahead flats (g ∷ others) none = absurd cc
 
 pub ahead : (flats : List Flat) {others : List Flat} {f : Flat} → length others ≤ length flats → others ≡ drop (length flats - length others) flats → Some f ≡ slice_get others 0 → Ahead flats others f
 ahead flats {others} {f} few is first =
+    let count = length flats - length others in
     let whole = first_of others f first in
-    let front = in_front flats (length flats - length others) f (drop 1 others) (sym is ∙ whole) in
     let one : length others ≡ suc (length (drop 1 others)) = ap length whole in
     let all : behind_first others ≡ drop 1 others = take_all (length others - 1) (drop 1 others) (omega (arith, one)) in
+    let on : drop 1 others ≡ drop (count + 1) flats = ap (drop 1) is ∙ drop-drop 1 count flats in
     record {
-      within = front.within;
-      is = front.is;
+      within = omega (arith, one, few);
+      goes = ap list_of (sym is ∙ whole) ∙ ap (λ (later : List Flat). then_instruction (instruction_of f) (list_of later)) on;
       fewer = rw all (omega (arith, one, few));
       next = rw all (omega (arith, one, few));
-      later_is = rw all front.later_is;
+      later_is = all ∙ on;
     }
 
 -- the parts that it may come to are served
 pub served_ahead : (serves : Key → Bool) {flats others : List Flat} {f : Flat} → Ahead flats others f → AreServed serves (list_of (drop (length flats - length others) flats))
     → IsServed serves (instruction_of f) × AreServed serves (list_of (drop (length flats - length others + 1) flats))
-served_ahead serves {flats} {others} {f} front served = subst (AreServed serves) (next_flat flats (length flats - length others) f front.is front.within) served
-
--- what is next behind a field's first part: nothing behind a field's own
-pub behind_whole : (there : Bool) (m : Option (Bor FieldPart)) → m ≡ None → behind there m ≡ None
-behind_whole true m none = none
-behind_whole false m none = refl
-
--- of another receiver
-pub passes_with : (level : Level) (Has Had : Received → Type 0) (o : Received) (next : Next) (left : Instructions) (d e : Dictionary) (bits later : List Bool) (spare fewer : ℕ) (bytes rest : List ℕ)
-    → ((p : Received) → p.set ≡ o.set → p.before ≡ o.before → p.start ≡ o.start → Has p → Had p)
-    → Passes level Has o next left d bits spare bytes e later fewer rest → Passes level Had o next left d bits spare bytes e later fewer rest
-passes_with level Has Had o next left d e bits later spare fewer bytes rest f p = record {
-  received = p.received;
-  has = f p.received p.same.set p.same.before p.same.start p.has;
-  same = p.same;
-  around = p.around;
-  next_is = p.next_is;
-  left_is = p.left_is;
-  reads = p.reads;
-}
+served_ahead serves front served = subst (AreServed serves) front.goes served
 
 -- ---- a part
 
--- its form is written, and its bit taken and asked for
-pub ended : (level : Level) (p : FieldPart) (old new : Entry) (bit best needed there : Bool) (v : Option Scalar) (bits later : List Bool) (bytes : List ℕ) (at next : ℕ) (l k : LevelNow) (r : Run) (t : Taken)
-    → bit_for (part_needs_bit p) bits ≡ bit → needed ≡ part_needs_bit p → (bit ≡ false → best ≡ false) → at ≤ next → IsRun bytes next r → IsThere p.kind there v
-    → Relayed level p old new bit best v (drop at bytes) (drop next bytes) (written bytes l.bytes) (written bytes r)
+-- the bit is taken and asked for behind what is noted
+pub ended : {bytes : List ℕ} {next : ℕ} (there needed best : Bool) (bits later : List Bool) (l k : LevelNow) (r : Run) (t : Taken) → IsRun bytes next r
     → MatchTaken t (λ is. (is ≡ there) × EndsPart needed best bits later (record { bits = l.bits; own = l.own; bytes = r.out.items }) (level_of k) × (k.bytes ≡ r)) ⊥
-    → TakesPart level p old new bits later bytes at l k t
-ended level p old new bit best needed there v bits later bytes at next l k r (Part there_now) is needs low forward run value relayed e =
-    let asked = e.1.asked in
-    let place : k.bytes.place ≡ next = ap (λ (s : Run). s.place) e.2 ∙ run.place in
-    record {
-      place = rw (place) forward;
-      run = subst (λ (s : Run). IsRun bytes s.place s) (sym e.2) (subst (λ (n : ℕ). IsRun bytes n r) (sym run.place) run);
-      value = v;
-      is_there = rw (e.0) value;
-      took = subst (λ (n : ℕ). TookEntry level p old new bits v (drop at bytes) (drop n bytes) (level_in bytes l) (level_in bytes k)) (sym place)
-          (took_entry is needs low relayed (record { bits = asked.bits; own = asked.own; bytes = ap (written bytes) e.2 }));
-      left = rw (needs) at e.1.left;
-    }
-ended level p old new bit best needed there v bits later bytes at next l k r Elsewhere is needs low forward run value relayed e = absurd e
-ended level p old new bit best needed there v bits later bytes at next l k r Refused is needs low forward run value relayed e = tt
+    → MatchTaken t (λ is. (is ≡ there) × EndsPart needed best bits later (record { bits = l.bits; own = l.own; bytes = written bytes r }) (level_in bytes k) × IsRun bytes next k.bytes) ⊥
+ended {bytes} {next} there needed best bits later l k r (Part is) run e = (
+  e.0,
+  record { asked = record { bits = e.1.asked.bits; own = e.1.asked.own; bytes = ap (written bytes) e.2 }; left = e.1.left },
+  subst (λ (s : Run). IsRun bytes next s) (sym e.2) run,
+)
+ended there needed best bits later l k r Elsewhere run e = e
+ended there needed best bits later l k r Refused run e = e
 
--- it stands in its best form
-pub stood : (level : Level) (p : FieldPart) (old new : Entry) (needed : Bool) (bits later : List Bool) (bytes : List ℕ) (at next : ℕ) (l k : LevelNow) (r : Run) (t : Taken)
-    → bit_for (part_needs_bit p) bits ≡ true → needed ≡ part_needs_bit p → ReadsAsUsual level p (drop at bytes) → JudgedTo true p old new bytes at at next
-    → IsRun bytes next r → written bytes r ≡ written bytes l.bytes ++ slice_range bytes at next
-    → MatchTaken t (λ is. (is ≡ true) × EndsPart needed true bits later (record { bits = l.bits; own = l.own; bytes = r.out.items }) (level_of k) × (k.bytes ≡ r)) ⊥
+-- its best form is written
+pub taken : {p : FieldPart} {old new : Entry} {bit best needed : Bool} {v : Option Scalar} {after : List ℕ} (level : Level) (there : Bool) (bits later : List Bool) (bytes : List ℕ) (at next : ℕ) (l k : LevelNow) (t : Taken)
+    → bit_for (part_needs_bit p) bits ≡ bit → needed ≡ part_needs_bit p → (bit ≡ false → best ≡ false) → at ≤ next → IsThere p.kind there v
+    → Relayed level p old new bit best v (drop at bytes) (drop next bytes) (written bytes l.bytes) after
+    → MatchTaken t (λ is. (is ≡ there) × EndsPart needed best bits later (record { bits = l.bits; own = l.own; bytes = after }) (level_in bytes k) × IsRun bytes next k.bytes) ⊥
     → TakesPart level p old new bits later bytes at l k t
-stood level p old new needed bits later bytes at next l k r t is needs usual judged run noted e =
-    let v = judged.gives.0 in
-    ended level p old new true true needed true (Some v) bits later bytes at next l k r t is needs (λ low. low) judged.place run (v, refl, judged.gives.1.0)
-    (judged_relayed usual judged.gives.1.1 noted) e
-
--- it was judged, and its best form is written
-pub judged_taken : {p : FieldPart} {old new : Entry} {needed : Bool} {bytes : List ℕ} {at : ℕ} {b : Best} (level : Level) (bits later : List Bool) (l k : LevelNow) (t : Taken)
-    → bit_for (part_needs_bit p) bits ≡ true → needed ≡ part_needs_bit p → ReadsAsUsual level p (drop at bytes) → HasBest p old new bytes at b
-    → MatchTaken t (λ is. (is ≡ b.there) × EndsPart needed b.bit bits later (with_bytes (level_in bytes l) (form_of bytes b)) (level_in bytes k) × IsRun bytes b.next k.bytes) ⊥
-    → TakesPart level p old new bits later bytes at l k t
-judged_taken {p} {old} {new} {needed} {bytes} {at} {b} level bits later l k (Part there) is needs usual j e = record {
-  place = rw (e.2.place) j.place;
+taken {p} {old} {new} {v = v} level there bits later bytes at next l k (Part is) bit needs low forward value relayed e = record {
+  place = rw (e.2.place) forward;
   run = subst (λ (n : ℕ). IsRun bytes n k.bytes) (sym e.2.place) e.2;
-  value = j.value;
-  is_there = rw (e.0) j.is_there;
-  took = subst (λ (n : ℕ). TookEntry level p old new bits j.value (drop at bytes) (drop n bytes) (level_in bytes l) (level_in bytes k)) (sym e.2.place)
-      (took_entry is needs (λ low. absurd cc) (judged_relayed usual j.judges refl) e.1.asked);
+  value = v;
+  is_there = rw (e.0) value;
+  took = subst (λ (n : ℕ). TookEntry level p old new bits v (drop at bytes) (drop n bytes) (level_in bytes l) (level_in bytes k)) (sym e.2.place) (took_entry bit needs low relayed e.1.asked);
   left = rw (needs) at e.1.left;
 }
-judged_taken level bits later l k Elsewhere is needs usual j e = absurd e
-judged_taken level bits later l k Refused is needs usual j e = tt
+taken level there bits later bytes at next l k Elsewhere bit needs low forward value relayed e = absurd e
+taken level there bits later bytes at next l k Refused bit needs low forward value relayed e = tt
 
 -- its entry is put under its key
 pub taken_under : (level : Level) (p : FieldPart) (d e : Dictionary) (old new : Entry) (bits later : List Bool) (bytes : List ℕ) (at : ℕ) (l k : LevelNow) (t : Taken)
@@ -194,8 +127,8 @@ taken_under level p d e old new bits later bytes at l k (Part there) part kept i
       took = took;
       spelt = spelt;
       left = t.left;
-      room = λ room. rw (t.left)
-          (asked_room needs (bit_for needs bits) t.took.spelt.bit (level_in bytes l) (level_in bytes k) bits refl t.took.lower t.took.spelt.bits t.took.spelt.own room);
+      room = λ around room. rw (t.left)
+          (asked_room needs (bit_for needs bits) t.took.spelt.bit (level_in bytes l) (level_in bytes k) bits around refl t.took.lower t.took.spelt.bits t.took.spelt.own room);
       kept = spelt_keeps p d e v (level_in bytes l) (level_in bytes k) part kept took.entry spelt;
     }
 taken_under level p d e old new bits later bytes at l k Elsewhere part kept is put s =
@@ -205,26 +138,32 @@ taken_under level p d e old new bits later bytes at l k Refused part kept is put
 -- ---- fields
 
 module _ {level : Level} {bytes : List ℕ} where
-  -- where nothing was taken
-  takes_none : {l : Segment} {d : Dictionary} {bits : List Bool} {f : Front} → Takes level bytes l d bits f l d bits f
-  takes_none = record {
-    passes = λ outer o next first opened. record {
-      received = o;
-      has = opened;
-      same = record { set = refl; before = refl; template = refl; members = refl; start = refl };
-      around = refl;
-      next_is = next;
-      left_is = first;
-      reads = λ more. refl;
-    };
+  -- a piece, from what is next and its body to others
+  takes_one : {l k : Segment} {d e : Dictionary} {bits later : List Bool} {f g : Front}
+      → ((out : List ℕ) (outer : List Segment) (o : Received) → bare_next o.next ≡ next_behind f.mantissa → o.body.rest ≡ f.rest
+      → (next : Next) × (body : Body) × (IsOpened out outer l o d → IsOpened out outer k (moved o next body o.around) e) × (bare_next next ≡ next_behind g.mantissa) × (body.rest ≡ g.rest)
+      × ((more : List ℕ) → top_on level o.next o.body (cursor d bits f.spare (drop f.place bytes ++ more)) ≡ top_on level next body (cursor e later g.spare (drop g.place bytes ++ more))))
+      → Takes level bytes l d bits f k e later g
+  takes_one goes = record {
+    passes = λ out outer o at left opened.
+        let r = goes out outer o at left in
+        record {
+          received = moved o r.0 r.1 o.around;
+          has = r.2 opened;
+          same = record { set = refl; before = refl; template = refl; members = refl; start = refl };
+          around = refl;
+          next_is = r.3;
+          left_is = r.4;
+          reads = r.5;
+        };
   }
 
   -- one behind the other
   takes_on : {l k j : Segment} {d e c : Dictionary} {bits later last : List Bool} {f g h : Front} → Takes level bytes l d bits f k e later g → Takes level bytes k e later g j c last h → Takes level bytes l d bits f j c last h
   takes_on one two = record {
-    passes = λ outer o next first opened.
-        let p = one.passes outer o next first opened in
-        let q = two.passes outer p.received p.next_is p.left_is p.has in
+    passes = λ out outer o next first opened.
+        let p = one.passes out outer o next first opened in
+        let q = two.passes out outer p.received p.next_is p.left_is p.has in
         record {
           received = q.received;
           has = q.has;
@@ -246,87 +185,64 @@ module _ {level : Level} {bytes : List ℕ} where
   takes_field : {l k : Segment} {d e : Dictionary} {bits later : List Bool} {p : FieldPart} {v : Option Scalar} (name : List ℕ) (number : ℕ) (presence : Presence) (is : Instructions) (spare place next : ℕ) → 0 < spare
       → Took level p (bit_for (part_needs_bit p) bits) d e v (drop place bytes) (drop next bytes) → Spelt p (entry_at d p.key) v l k → later ≡ after_bit (part_needs_bit p) bits
       → Takes level bytes l d bits (record { mantissa = None; rest = then_instruction (whole_field name number presence p) is; spare = spare; place = place }) k e later (record { mantissa = None; rest = is; spare = spare - 1; place = next })
-  takes_field {l} {k} {d} {e} {bits} {later} {p} {v} name number presence is spare place next some took spelt map = record {
-    passes = λ outer o at left opened.
-        let here = is_instruction o.next at in
-        record {
-          received = passed o is (single v);
-          has = has_field outer l k o name number presence p is d e v here left took.entry spelt opened;
-          same = record { set = refl; before = refl; template = refl; members = refl; start = refl };
-          around = refl;
-          next_is = refl;
-          left_is = refl;
-          reads = λ more.
-              rw (map, took.entry)
-              (field_on level [] o.next o.body name number presence p is (cursor d bits spare (drop place bytes ++ more)) (cursor d bits (spare - 1) (drop place bytes ++ more)) _ v here left
-              (count_goes number spare d bits (drop place bytes ++ more) some)
-              (part_goes level p d bits (spare - 1) (drop place bytes ++ more) (drop next bytes ++ more) v (took.value more)));
-        };
-  }
+  takes_field {l} {k} {d} {e} {bits} {later} {p} {v} name number presence is spare place next some took spelt map = takes_one (λ out outer o at left.
+      let here = is_instruction o.next at in (
+        at_instruction,
+        record { rest = is; done = o.body.done ++ single v ∷ [] },
+        has_field out outer l k o name number presence p is d e v here left took.entry spelt,
+        refl,
+        refl,
+        λ more. rw (map, took.entry)
+            (field_on level [] o.next o.body name number presence p is (cursor d bits spare (drop place bytes ++ more)) (cursor d bits (spare - 1) (drop place bytes ++ more)) _ v here left
+            (count_goes number spare d bits (drop place bytes ++ more) some)
+            (part_goes level p d bits (spare - 1) (drop place bytes ++ more) (drop next bytes ++ more) v (took.value more))),
+      ))
 
   -- the exponent of a decimal in parts
-  takes_exponent : {l k : Segment} {d e : Dictionary} {bits later : List Bool} {p : FieldPart} (z : Option ℤ) (there : Bool) (name : List ℕ) (number : ℕ) (presence : Presence) (q : Bor FieldPart) (is : Instructions) (spare place next : ℕ)
-      → is_some z ≡ there → 0 < spare
+  takes_exponent : {l k : Segment} {d e : Dictionary} {bits later : List Bool} {p : FieldPart} (z : Option ℤ) (name : List ℕ) (number : ℕ) (presence : Presence) (q : Bor FieldPart) (is : Instructions) (spare place next : ℕ) → 0 < spare
       → Took level p (bit_for (part_needs_bit p) bits) d e (exponent_of z) (drop place bytes) (drop next bytes) → Spelt p (entry_at d p.key) (exponent_of z) l k → later ≡ after_bit (part_needs_bit p) bits
       → Takes level bytes l d bits (record { mantissa = None; rest = then_instruction (field_in_parts name number presence p q.now) is; spare = spare; place = place })
-      k e later (record { mantissa = behind there (Some q); rest = is; spare = spare - 1; place = next })
-  takes_exponent None true name number presence q is spare place next there_is some took spelt map = absurd cc
-  takes_exponent (Some z) false name number presence q is spare place next there_is some took spelt map = absurd cc
-  takes_exponent {l} {k} {d} {e} {bits} {later} {p} None false name number presence q is spare place next there_is some took spelt map = record {
-    passes = λ outer o at left opened.
-        let here = is_instruction o.next at in
-        record {
-          received = passed o is (single None);
-          has = has_exponent None outer l k o name number presence p q.now is d e here left took.entry spelt opened;
-          same = record { set = refl; before = refl; template = refl; members = refl; start = refl };
-          around = refl;
-          next_is = refl;
-          left_is = refl;
-          reads = λ more.
-              rw (map, took.entry)
-              (no_exponent_on level [] o.next o.body name number presence p q.now is (cursor d bits spare (drop place bytes ++ more)) (cursor d bits (spare - 1) (drop place bytes ++ more)) _ None here left refl
-              (count_goes number spare d bits (drop place bytes ++ more) some)
-              (part_goes level p d bits (spare - 1) (drop place bytes ++ more) (drop next bytes ++ more) None (took.value more)));
-        };
-  }
-  takes_exponent {l} {k} {d} {e} {bits} {later} {p} (Some z) true name number presence q is spare place next there_is some took spelt map = record {
-    passes = λ outer o at left opened.
-        let here = is_instruction o.next at in
-        record {
-          received = moved o (at_mantissa z q.now) (record { rest = is; done = o.body.done }) o.around;
-          has = has_exponent (Some z) outer l k o name number presence p q.now is d e here left took.entry spelt opened;
-          same = record { set = refl; before = refl; template = refl; members = refl; start = refl };
-          around = refl;
-          next_is = refl;
-          left_is = refl;
-          reads = λ more.
-              rw (map, took.entry)
-              (exponent_on level [] o.next o.body name number presence p q.now is (cursor d bits spare (drop place bytes ++ more)) (cursor d bits (spare - 1) (drop place bytes ++ more)) _ (exponent_of (Some z)) z here left refl
-              (count_goes number spare d bits (drop place bytes ++ more) some)
-              (part_goes level p d bits (spare - 1) (drop place bytes ++ more) (drop next bytes ++ more) (exponent_of (Some z)) (took.value more)));
-        };
-  }
+      k e later (record { mantissa = behind (is_some z) (Some q); rest = is; spare = spare - 1; place = next })
+  takes_exponent {l} {k} {d} {e} {bits} {later} {p} None name number presence q is spare place next some took spelt map = takes_one (λ out outer o at left.
+      let here = is_instruction o.next at in (
+        at_instruction,
+        record { rest = is; done = o.body.done ++ single None ∷ [] },
+        has_exponent None out outer l k o name number presence p q.now is d e here left took.entry spelt,
+        refl,
+        refl,
+        λ more. rw (map, took.entry)
+            (no_exponent_on level [] o.next o.body name number presence p q.now is (cursor d bits spare (drop place bytes ++ more)) (cursor d bits (spare - 1) (drop place bytes ++ more)) _ None here left refl
+            (count_goes number spare d bits (drop place bytes ++ more) some)
+            (part_goes level p d bits (spare - 1) (drop place bytes ++ more) (drop next bytes ++ more) None (took.value more))),
+      ))
+  takes_exponent {l} {k} {d} {e} {bits} {later} {p} (Some z) name number presence q is spare place next some took spelt map = takes_one (λ out outer o at left.
+      let here = is_instruction o.next at in (
+        at_mantissa z q.now,
+        record { rest = is; done = o.body.done },
+        has_exponent (Some z) out outer l k o name number presence p q.now is d e here left took.entry spelt,
+        refl,
+        refl,
+        λ more. rw (map, took.entry)
+            (exponent_on level [] o.next o.body name number presence p q.now is (cursor d bits spare (drop place bytes ++ more)) (cursor d bits (spare - 1) (drop place bytes ++ more)) _ (exponent_of (Some z)) z here left refl
+            (count_goes number spare d bits (drop place bytes ++ more) some)
+            (part_goes level p d bits (spare - 1) (drop place bytes ++ more) (drop next bytes ++ more) (exponent_of (Some z)) (took.value more))),
+      ))
 
   -- the mantissa of a decimal whose exponent is there
   takes_mantissa : {l k : Segment} {d e : Dictionary} {bits later : List Bool} (q : Bor FieldPart) (m : ℤ) (is : Instructions) (spare place next : ℕ)
       → Took level q.now (bit_for (part_needs_bit q.now) bits) d e (Some (I64 m)) (drop place bytes) (drop next bytes) → Spelt q.now (entry_at d q.now.key) (Some (I64 m)) l k → later ≡ after_bit (part_needs_bit q.now) bits
       → Takes level bytes l d bits (record { mantissa = Some q; rest = is; spare = spare; place = place }) k e later (record { mantissa = None; rest = is; spare = spare; place = next })
-  takes_mantissa {l} {k} {d} {e} {bits} {later} q m is spare place next took spelt map = record {
-    passes = λ outer o at left opened.
-        let here = is_mantissa o.next (pos 0) q.now at in
-        record {
-          received = passed o o.body.rest (single (Some (Decimal here.exponent m)));
-          has = has_mantissa outer l k o here.exponent m q.now d e here.is took.entry spelt opened;
-          same = record { set = refl; before = refl; template = refl; members = refl; start = refl };
-          around = refl;
-          next_is = refl;
-          left_is = left;
-          reads = λ more.
-              rw (map, took.entry)
-              (mantissa_on_goes level [] o.next here.exponent m q.now o.body (cursor d bits spare (drop place bytes ++ more)) _ here.is
-              (part_goes level q.now d bits spare (drop place bytes ++ more) (drop next bytes ++ more) (Some (I64 m)) (took.value more)));
-        };
-  }
+  takes_mantissa {l} {k} {d} {e} {bits} {later} q m is spare place next took spelt map = takes_one (λ out outer o at left.
+      let here = is_mantissa o.next (pos 0) q.now at in (
+        at_instruction,
+        with_item o.body (single (Some (Decimal here.exponent m))),
+        has_mantissa out outer l k o here.exponent m q.now d e here.is took.entry spelt,
+        refl,
+        left,
+        λ more. rw (map, took.entry)
+            (mantissa_on_goes level [] o.next here.exponent m q.now o.body (cursor d bits spare (drop place bytes ++ more)) _ here.is
+            (part_goes level q.now d bits spare (drop place bytes ++ more) (drop next bytes ++ more) (Some (I64 m)) (took.value more))),
+      ))
 
   -- an instruction that is a field, or begins with the exponent of a decimal in parts
   takes_first : (i : Instruction) {there : Bool} {p : FieldPart} {d e : Dictionary} {bits later : List Bool} {k j : LevelNow} (m : Option (Bor FieldPart)) (is : Instructions) (spare : ℕ)
@@ -334,19 +250,12 @@ module _ {level : Level} {bytes : List ℕ} where
       → Takes level bytes (level_in bytes k) d bits (record { mantissa = None; rest = then_instruction i is; spare = spare; place = k.bytes.place })
       (level_in bytes j) e later (record { mantissa = behind there m; rest = is; spare = spare - 1; place = j.bytes.place })
   takes_first (whole_field name number presence whole) {there} m is spare begins some t =
-      rw (behind_whole there m begins.1, sym begins.0) (takes_field name number presence is spare _ _ some t.took t.spelt t.left)
+      rw (begins.1, sym begins.0) (takes_field name number presence is spare _ _ some t.took t.spelt t.left)
   takes_first (field_in_parts name number presence exponent q) {there} {p} m is spare begins some t =
       let x = exponent_there p.kind there t.value begins.1 t.is_there in
-      rw (begins.2.1, sym begins.0, sym begins.2.2) (takes_exponent x.0 there name number presence begins.2.0 is spare _ _ x.2 some (rw (x.1) at t.took) (rw (x.1) at t.spelt) t.left)
+      rw (begins.2.1, sym begins.0, sym begins.2.2, sym x.2) (takes_exponent x.0 name number presence begins.2.0 is spare _ _ some (rw (x.1) at t.took) (rw (x.1) at t.spelt) t.left)
   takes_first (group_of name number presence members) m is spare begins some t = absurd begins
   takes_first (sequence_of name number presence part members) m is spare begins some t = absurd begins
-
-  -- from the beginning of a body on, the segment and the place as they are called otherwise
-  pub takes_from : (l m k : Segment) (d e : Dictionary) (bits later : List Bool) (flats : List Flat) (spare a at : ℕ) (g : Front) → m ≡ l → a ≡ at
-      → Takes level bytes m d bits (front_at flats spare 0 None a) k e later g → Takes level bytes l d bits (record { mantissa = None; rest = list_of flats; spare = spare; place = at }) k e later g
-  takes_from l m k d e bits later flats spare a at g same place t =
-      let whole : spare - 0 ≡ spare = omega arith in
-      rw (sym same, sym place) (subst (λ (n : ℕ). Takes level bytes m d bits (record { mantissa = None; rest = list_of flats; spare = n; place = a }) k e later g) whole t)
 
   -- ---- fields from the front of a body
 
@@ -358,8 +267,10 @@ module _ {level : Level} {bytes : List ℕ} where
     some = λ one. absurd cc;
     served = served;
     next_served = tt;
-    takes = λ spare few. takes_none;
-    room = λ room. room;
+    takes = λ spare few.
+        let whole : spare - 0 ≡ spare = omega arith in
+        rw whole (takes_one (λ out outer o at left. (o.next, o.body, (λ h. h), at, left, λ more. refl)));
+    room = λ around room. room;
     kept = kept;
   }
 
@@ -379,8 +290,8 @@ module _ {level : Level} {bytes : List ℕ} where
         takes = λ spare few.
             let less : spare - (count + 1) ≡ spare - count - 1 = omega arith in
             takes_on (so_far.takes spare few)
-            (rw (after, less, next_flat rest count f front.is front.within) (takes_first (instruction_of f) m (list_of (drop (count + 1) rest)) (spare - count) begins (omega (arith, few, front.within)) t));
-        room = λ room. t.room (so_far.room room);
+            (rw (after, less, front.goes) (takes_first (instruction_of f) m (list_of (drop (count + 1) rest)) (spare - count) begins (omega (arith, few, front.within)) t));
+        room = λ around room. t.room around (so_far.room around room);
         kept = t.kept;
       }
 
@@ -399,12 +310,6 @@ module _ {level : Level} {bytes : List ℕ} where
         served = so_far.served;
         next_served = tt;
         takes = λ spare few. takes_on (so_far.takes spare few) (takes_mantissa q x.0 (list_of (drop count rest)) (spare - count) _ _ (rw (x.1) at t.took) (rw (x.1) at t.spelt) t.left);
-        room = λ room. t.room (so_far.room room);
+        room = λ around room. t.room around (so_far.room around room);
         kept = t.kept;
       }
-
-  -- nothing more
-  pub took_stays : {serves : Key → Bool} {rest : List Flat} {l k j : Segment} {d e c : Dictionary} {bits later last : List Bool} {at count : ℕ} {n : Option (Bor FieldPart)} {place next : ℕ}
-      → c ≡ e → j ≡ k → last ≡ later → next ≡ place
-      → TookFields level serves rest bytes l d bits at count n k e later place → TookFields level serves rest bytes l d bits at count n j c last next
-  took_stays entries segment map at_it so_far = rw (entries, segment, map, at_it) so_far

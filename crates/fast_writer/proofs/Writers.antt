@@ -1,41 +1,56 @@
 -- What has been received of a message is written, call by call.
-use Rattle.std.proofs.Common.{◌≡◌, ◌<◌, ◌≤◌, ℕ, Bool, true, false, List, [], ◌∷◌, ◌++◌, Option, Some, None, refl, sym, ap, subst, ◌∙◌, append-nil}
+use Rattle.std.proofs.Common.{◌≡◌, ◌<◌, ◌≤◌, ℕ, Bool, true, false, List, [], ◌∷◌, ◌++◌, Option, Some, None, refl, sym, ap, subst, ◌∙◌, append-nil, true≢false}
 use Rattle.std.specs.FinMap as finite
 use Rattle.std.specs.Prelude.{ℤ}
 use Rattle.std.specs.Option.{is_some}
+use Rattle.std.proofs.lemmas.Bool.{or_parts}
 use Rattle.std.proofs.lemmas.List.{append_assoc}
 use Rattle.fast_value.specs.declared.scalar.Scalar.{Scalar}
 use Rattle.fast_value.specs.declared.scalar.Scalar.TheVariants.{U32, I64, Decimal}
 use Rattle.fast_value.specs.declared.kind.Presence.{Presence}
 use Rattle.fast_template.specs.declared.resolved.FieldPart.{FieldPart}
-use Rattle.fast_template.specs.Resolved.{Instructions, Resolved, whole_field, field_in_parts, group_of, sequence_of, no_instructions, then_instruction, is_optional, has_map, part_needs_bit}
+use Rattle.fast_template.specs.Resolved.{Instruction, Instructions, Resolved, takes_bit, whole_field, field_in_parts, group_of, sequence_of, no_instructions, then_instruction, is_optional, has_map, part_needs_bit}
 use Rattle.fast_dictionary.specs.Dictionary.{Dictionary, entry_at}
 use Rattle.fast_wire.specs.PresenceMap.{IsMap}
 use Rattle.fast_wire.specs.Writing.{IsShortest}
-use Rattle.fast_stream.specs.Nodes.{single, items_of, Content, nodes_in, node_limit}
-use Rattle.fast_stream.specs.Bodies.{written}
+use Rattle.fast_field.specs.Best.{IsBest}
+use Rattle.fast_stream.specs.Nodes.{Item, single, items_of, Content, nodes_in, node_limit}
+use Rattle.fast_stream.specs.Bodies.{State, PartBy, PieceBy, written}
 use Rattle.fast_stream.specs.Streams.{identifier, members_of}
-use Rattle.fast_walk.specs.OpenSegments.{Sequel, Inside, in_group, in_sequence, Waiting, Next, at_instruction, at_mantissa, at_element}
-use Rattle.fast_walk.specs.Received.{Received, IsExponent, opened, passed, entered, after_exponent, after_length, in_element, after_sequence, ended_in, content_received, exponent_of, length_of, bytes_in}
-use Rattle.fast_writer.specs.Canonical.{CanonFrom, CanonMessage}
-use Rattle.fast_writer.specs.Written.{Segment, IsEmpty, state, bits_for, Opening, of_message, IsWritten, with_bytes, IsTop, IsBehind, Chain, IsOpened, IsFinished, Spelt, Asked, Ended, Closes}
+use Rattle.fast_walk.specs.OpenSegments.{Body, with_item, Sequel, Inside, in_group, in_sequence, Waiting, Next, at_instruction, at_mantissa, at_element}
+use Rattle.fast_walk.specs.Received.{Received, IsExponent, moved, opened, passed, entered, after_exponent, after_length, in_element, after_sequence, ended_in, content_received, exponent_of, length_of, bytes_in}
+use Rattle.fast_writer.specs.Canonical.{CanonFrom, CanonMessage, IsShortestMap}
+use Rattle.fast_writer.specs.Written.{Segment, IsEmpty, state, Opening, of_message, IsWritten, with_bytes, IsTop, IsBehind, Chain, IsOpened, IsFinished, Spelt, Asked, Ended, Closes}
 use Rattle.fast_writer.proofs.Leavings.{closed}
-use Rattle.fast_writer.proofs.Writings.{part_by, chain_on, field_written, no_decimal, exponent_waits, mantissa_written, left_out_written, group_entered, ended, segment_left, no_sequence, length_waits, element_entered, elements_written}
+use Rattle.fast_writer.proofs.Writings.{part_by, chain_on, spelt_item, exponent_waits, mantissa_written, left_out_written, group_entered, ended, segment_left, length_waits, element_entered, elements_written}
 
 abbrev message_of : Received → Opening
 message_of o = of_message o.template o.members o.start
 
-at_next : (outer : List Segment) (l : Segment) (o : Received) (d : Dictionary) (next : Next) → o.next ≡ next → IsOpened outer l o d → Chain (message_of o) o.around outer (IsTop next l o.body d)
-at_next outer l o d next is c = subst (λ (n : Next). Chain (message_of o) o.around outer (IsTop n l o.body d)) is c
+at_next : (out : List ℕ) (outer : List Segment) (l : Segment) (o : Received) (d : Dictionary) (next : Next) → o.next ≡ next → IsOpened out outer l o d → Chain (message_of o) o.around outer (IsTop next l o.body d)
+at_next out outer l o d next is has = subst (λ (n : Next). Chain (message_of o) o.around outer (IsTop n l o.body d)) is has.1
+
+-- what is innermost goes on, whatever is open around it
+on_top : (out : List ℕ) (outer : List Segment) (l k : Segment) (o : Received) (d e : Dictionary) (next after : Next) (b : Body) → o.next ≡ next → ((g : Opening) → IsTop next l o.body d g → IsTop after k b e g)
+    → IsOpened out outer l o d → IsOpened out outer k (moved o after b o.around) e
+on_top out outer l k o d e next after b is f has = (
+  has.0,
+  chain_on (message_of o) o.around outer (IsTop next l o.body d) (IsTop after k b e) f (at_next out outer l o d next is has),
+)
 
 -- ---- fields
 
-pub has_field : (outer : List Segment) (l k : Segment) (o : Received) (name : List ℕ) (number : ℕ) (presence : Presence) (p : FieldPart) (is : Instructions) (d e : Dictionary) (v : Option Scalar)
+-- a value that is an item of its own
+pub has_spelt : (i : Instruction) (out : List ℕ) (outer : List Segment) (l k : Segment) (o : Received) (p : FieldPart) (is : Instructions) (d e : Dictionary) (v : Option Scalar) (n : Item)
+    → o.next ≡ at_instruction → o.body.rest ≡ then_instruction i is → ((s t : State) (x : List ℕ) → PartBy IsBest p s x v t → PieceBy IsBest IsShortestMap i s x n t)
+    → (takes_bit i ≡ false → part_needs_bit p ≡ false) → e ≡ written p d v → Spelt p (entry_at d p.key) v l k → IsOpened out outer l o d → IsOpened out outer k (passed o is n) e
+has_spelt i out outer l k o p is d e v n next first piece takes entry s =
+    on_top out outer l k o d e at_instruction at_instruction (record { rest = is; done = o.body.done ++ n ∷ [] }) next (λ g w. spelt_item g l k o.body i p is d e v n first piece takes entry s w)
+
+pub has_field : (out : List ℕ) (outer : List Segment) (l k : Segment) (o : Received) (name : List ℕ) (number : ℕ) (presence : Presence) (p : FieldPart) (is : Instructions) (d e : Dictionary) (v : Option Scalar)
     → o.next ≡ at_instruction → o.body.rest ≡ then_instruction (whole_field name number presence p) is → e ≡ written p d v → Spelt p (entry_at d p.key) v l k
-    → IsOpened outer l o d → IsOpened outer k (passed o is (single v)) e
-has_field outer l k o name number presence p is d e v next first entry s c =
-    chain_on (message_of o) o.around outer (IsTop at_instruction l o.body d) (IsTop at_instruction k (record { rest = is; done = o.body.done ++ single v ∷ [] }) e)
-    (λ g w. field_written g l k o.body name number presence p is d e v first entry s w) (at_next outer l o d at_instruction next c)
+    → IsOpened out outer l o d → IsOpened out outer k (passed o is (single v)) e
+has_field out outer l k o name number presence p is d e v next first = has_spelt (whole_field name number presence p) out outer l k o p is d e v (single v) next first (λ s t x h. h) (λ h. h)
 
 pub is_exponent : (z : Option ℤ) (b : Bool) → is_some z ≡ b → IsExponent b (exponent_of z)
 is_exponent None true h = absurd cc
@@ -43,121 +58,92 @@ is_exponent None false h = refl
 is_exponent (Some e) true h = (e, refl)
 is_exponent (Some e) false h = absurd cc
 
-pub has_exponent : (z : Option ℤ) (outer : List Segment) (l k : Segment) (o : Received) (name : List ℕ) (number : ℕ) (presence : Presence) (p q : FieldPart) (is : Instructions) (d e : Dictionary)
+pub has_exponent : (z : Option ℤ) (out : List ℕ) (outer : List Segment) (l k : Segment) (o : Received) (name : List ℕ) (number : ℕ) (presence : Presence) (p q : FieldPart) (is : Instructions) (d e : Dictionary)
     → o.next ≡ at_instruction → o.body.rest ≡ then_instruction (field_in_parts name number presence p q) is → e ≡ written p d (exponent_of z) → Spelt p (entry_at d p.key) (exponent_of z) l k
-    → IsOpened outer l o d → IsOpened outer k (after_exponent o is q (exponent_of z)) e
-has_exponent None outer l k o name number presence p q is d e next first entry s c =
-    chain_on (message_of o) o.around outer (IsTop at_instruction l o.body d) (IsTop at_instruction k (record { rest = is; done = o.body.done ++ single None ∷ [] }) e)
-    (λ g w. no_decimal g l k o.body name number presence p q is d e first entry s w) (at_next outer l o d at_instruction next c)
-has_exponent (Some z) outer l k o name number presence p q is d e next first entry s c =
-    chain_on (message_of o) o.around outer (IsTop at_instruction l o.body d) (IsTop (at_mantissa z q) k (record { rest = is; done = o.body.done }) e)
-    (λ g w. exponent_waits g l k o.body name number presence p q is d e z first entry s w) (at_next outer l o d at_instruction next c)
+    → IsOpened out outer l o d → IsOpened out outer k (after_exponent o is q (exponent_of z)) e
+has_exponent None out outer l k o name number presence p q is d e next first entry s =
+    has_spelt (field_in_parts name number presence p q) out outer l k o p is d e None (single None) next first (λ s t x h. h) (λ h. (or_parts (part_needs_bit p) (part_needs_bit q) h).0) entry s
+has_exponent (Some z) out outer l k o name number presence p q is d e next first entry s =
+    on_top out outer l k o d e at_instruction (at_mantissa z q) (record { rest = is; done = o.body.done }) next (λ g w. exponent_waits g l k o.body name number presence p q is d e z first entry s w)
 
-pub exponent_finished : (z : Option ℤ) (out : List ℕ) (o : Received) (is : Instructions) (q : FieldPart) → IsFinished out o.set o.before o.start
-    → IsFinished out (after_exponent o is q (exponent_of z)).set (after_exponent o is q (exponent_of z)).before (after_exponent o is q (exponent_of z)).start
-exponent_finished None out o is q h = h
-exponent_finished (Some z) out o is q h = h
-
-pub length_finished : (n : Option ℕ) (out : List ℕ) (o : Received) (number : ℕ) (members is : Instructions) → IsFinished out o.set o.before o.start
-    → IsFinished out (after_length o number members is n).set (after_length o number members is n).before (after_length o number members is n).start
-length_finished None out o number members is h = h
-length_finished (Some n) out o number members is h = h
-
-pub has_mantissa : (outer : List Segment) (l k : Segment) (o : Received) (z m : ℤ) (q : FieldPart) (d e : Dictionary)
+pub has_mantissa : (out : List ℕ) (outer : List Segment) (l k : Segment) (o : Received) (z m : ℤ) (q : FieldPart) (d e : Dictionary)
     → o.next ≡ at_mantissa z q → e ≡ written q d (Some (I64 m)) → Spelt q (entry_at d q.key) (Some (I64 m)) l k
-    → IsOpened outer l o d → IsOpened outer k (passed o o.body.rest (single (Some (Decimal z m)))) e
-has_mantissa outer l k o z m q d e next entry s c =
-    chain_on (message_of o) o.around outer (IsTop (at_mantissa z q) l o.body d) (IsTop at_instruction k (record { rest = o.body.rest; done = o.body.done ++ single (Some (Decimal z m)) ∷ [] }) e)
-    (λ g w. mantissa_written g l k o.body z m q d e entry s w) (at_next outer l o d (at_mantissa z q) next c)
+    → IsOpened out outer l o d → IsOpened out outer k (passed o o.body.rest (single (Some (Decimal z m)))) e
+has_mantissa out outer l k o z m q d e next entry s =
+    on_top out outer l k o d e (at_mantissa z q) at_instruction (with_item o.body (single (Some (Decimal z m)))) next (λ g w. mantissa_written g l k o.body z m q d e entry s w)
 
-pub has_length : (n : Option ℕ) (outer : List Segment) (l k : Segment) (o : Received) (name : List ℕ) (number : ℕ) (presence : Presence) (p : FieldPart) (members is : Instructions) (d e : Dictionary)
+pub has_length : (n : Option ℕ) (out : List ℕ) (outer : List Segment) (l k : Segment) (o : Received) (name : List ℕ) (number : ℕ) (presence : Presence) (p : FieldPart) (members is : Instructions) (d e : Dictionary)
     → o.next ≡ at_instruction → o.body.rest ≡ then_instruction (sequence_of name number presence p members) is → e ≡ written p d (length_of n) → Spelt p (entry_at d p.key) (length_of n) l k
-    → IsOpened outer l o d → IsOpened outer k (after_length o number members is n) e
-has_length None outer l k o name number presence p members is d e next first entry s c =
-    chain_on (message_of o) o.around outer (IsTop at_instruction l o.body d) (IsTop at_instruction k (record { rest = is; done = o.body.done ++ single None ∷ [] }) e)
-    (λ g w. no_sequence g l k o.body name number presence p members is d e first entry s w) (at_next outer l o d at_instruction next c)
-has_length (Some n) outer l k o name number presence p members is d e next first entry s c =
-    chain_on (message_of o) o.around outer (IsTop at_instruction l o.body d)
-    (IsTop (at_element (record { number = number; own_map = has_map members; members = members; left = n; done = [] })) k (record { rest = is; done = o.body.done }) e)
-    (λ g w. length_waits g l k o.body name number presence p members is d e n first entry s w) (at_next outer l o d at_instruction next c)
+    → IsOpened out outer l o d → IsOpened out outer k (after_length o number members is n) e
+has_length None out outer l k o name number presence p members is d e next first entry s =
+    has_spelt (sequence_of name number presence p members) out outer l k o p is d e None (single None) next first (λ s t x h. h) (λ h. h) entry s
+has_length (Some n) out outer l k o name number presence p members is d e next first entry s =
+    on_top out outer l k o d e at_instruction (at_element (record { number = number; own_map = has_map members; members = members; left = n; done = [] })) (record { rest = is; done = o.body.done }) next
+    (λ g w. length_waits g l k o.body name number presence p members is d e n first entry s w)
 
 -- ---- segments
 
-pub has_left_out : (outer : List Segment) (l k : Segment) (o : Received) (name : List ℕ) (number : ℕ) (presence : Presence) (members is : Instructions) (d : Dictionary)
+pub has_left_out : (out : List ℕ) (outer : List Segment) (l k : Segment) (o : Received) (name : List ℕ) (number : ℕ) (presence : Presence) (members is : Instructions) (d : Dictionary)
     → o.next ≡ at_instruction → o.body.rest ≡ then_instruction (group_of name number presence members) is → is_optional presence ≡ true → Asked true false l k
-    → IsOpened outer l o d → IsOpened outer k (passed o is (single None)) d
-has_left_out outer l k o name number presence members is d next first optional asked c =
-    chain_on (message_of o) o.around outer (IsTop at_instruction l o.body d) (IsTop at_instruction k (record { rest = is; done = o.body.done ++ single None ∷ [] }) d)
-    (λ g w. left_out_written g l k o.body name number presence members is d first optional asked w) (at_next outer l o d at_instruction next c)
+    → IsOpened out outer l o d → IsOpened out outer k (passed o is (single None)) d
+has_left_out out outer l k o name number presence members is d next first optional asked =
+    on_top out outer l k o d d at_instruction at_instruction (record { rest = is; done = o.body.done ++ single None ∷ [] }) next (λ g w. left_out_written g l k o.body name number presence members is d first optional asked w)
 
-pub has_entered : (outer later : List Segment) (l k j : Segment) (o : Received) (name : List ℕ) (number : ℕ) (presence : Presence) (members is : Instructions) (bits : List Bool) (d : Dictionary) (optional : Bool)
+pub has_entered : (out : List ℕ) (outer later : List Segment) (l k j : Segment) (o : Received) (name : List ℕ) (number : ℕ) (presence : Presence) (members is : Instructions) (bits : List Bool) (d : Dictionary) (optional : Bool)
     → o.next ≡ at_instruction → o.body.rest ≡ then_instruction (group_of name number presence members) is → optional ≡ is_optional presence → Asked optional true l k
     → later ≡ outer ++ k ∷ [] → IsEmpty (has_map members) j
-    → IsOpened outer l o d → IsOpened later j (entered o number bits members is) d
-has_entered outer later l k j o name number presence members is bits d optional next first is_it asked pushed empty c =
-    rw (pushed)
-    (group_entered (message_of o) o.around outer l k j o.body name number presence members is bits d first (rw (is_it) at asked) empty (at_next outer l o d at_instruction next c))
+    → IsOpened out outer l o d → IsOpened out later j (entered o number bits members is) d
+has_entered out outer later l k j o name number presence members is bits d optional next first is_it asked pushed empty has = rw (pushed) (
+  has.0,
+  group_entered (message_of o) o.around outer l k j o.body name number presence members is bits d first (rw (is_it) at asked) empty (at_next out outer l o d at_instruction next has),
+)
 
-pub has_element : (outer later : List Segment) (l j : Segment) (o : Received) (s : Sequel) (bits : List Bool) (d : Dictionary) (own : Bool)
+pub has_element : (out : List ℕ) (outer later : List Segment) (l j : Segment) (o : Received) (s : Sequel) (bits : List Bool) (d : Dictionary) (own : Bool)
     → o.next ≡ at_element s → own ≡ s.own_map → 0 < s.left → later ≡ outer ++ l ∷ [] → IsEmpty own j
-    → IsOpened outer l o d → IsOpened later j (in_element o bits s) d
-has_element outer later l j o s bits d own next is some pushed empty c =
-    rw (pushed) (element_entered (message_of o) o.around outer l j o.body s bits d some (rw (is) at empty) (at_next outer l o d (at_element s) next c))
+    → IsOpened out outer l o d → IsOpened out later j (in_element o bits s) d
+has_element out outer later l j o s bits d own next is some pushed empty has =
+    rw (pushed) (has.0, element_entered (message_of o) o.around outer l j o.body s bits d some (rw (is) at empty) (at_next out outer l o d (at_element s) next has))
 
 -- the segment around has what ended
-abbrev EndsIn : List Segment → Segment → Received → List Waiting → Waiting → Dictionary → Inside → Type 0
-EndsIn later next o ws w d inside = IsOpened later next (ended_in o ws w.body inside) d
+ends_in : (inside : Inside) (out : List ℕ) (later : List Segment) (next : Segment) (o : Received) (ws : List Waiting) (w : Waiting) (d : Dictionary)
+    → IsFinished out o.set o.before o.start → Chain (message_of o) ws later (λ h. IsBehind inside h next w.body (items_of o.body.done) d) → IsOpened out later next (ended_in o ws w.body inside) d
+ends_in in_group out later next o ws w d before c = (before, c)
+ends_in (in_sequence s) out later next o ws w d before c = (before, c)
 
-ends_in : (inside : Inside) (later : List Segment) (next : Segment) (o : Received) (ws : List Waiting) (w : Waiting) (d : Dictionary)
-    → Chain (message_of o) ws later (λ h. IsBehind inside h next w.body (items_of o.body.done) d) → EndsIn later next o ws w d inside
-ends_in in_group later next o ws w d c = c
-ends_in (in_sequence s) later next o ws w d c = c
-
-pub has_ended : (inside : Inside) (outer later : List Segment) (l k : Segment) (o : Received) (ws : List Waiting) (w : Waiting) (d : Dictionary)
+pub has_ended : (inside : Inside) (out : List ℕ) (outer later : List Segment) (l k : Segment) (o : Received) (ws : List Waiting) (w : Waiting) (d : Dictionary)
     → o.next ≡ at_instruction → o.body.rest ≡ no_instructions → o.around ≡ ws ++ w ∷ [] → w.inside ≡ inside → Closes outer l later k
-    → IsOpened outer l o d → IsOpened later k (ended_in o ws w.body inside) d
-has_ended inside outer later l k o ws w d next rest is inside_is closes c =
-    let behind = segment_left (message_of o) o.around ws w later l closes.around o.body d closes.map rest is closes.shortest closes.none
-    (subst (λ (ls : List Segment). Chain (message_of o) o.around ls (IsTop at_instruction l o.body d)) closes.outer_is (at_next outer l o d at_instruction next c)) in
-    rw (closes.next_is)
-    (ends_in inside later (with_bytes closes.around (closes.map ++ l.bytes)) o ws w d
-    (subst (λ (n : Inside). Chain (message_of o) ws later (λ h. IsBehind n h (with_bytes closes.around (closes.map ++ l.bytes)) w.body (items_of o.body.done) d)) inside_is behind))
+    → IsOpened out outer l o d → IsOpened out later k (ended_in o ws w.body inside) d
+has_ended inside out outer later l k o ws w d next rest is inside_is closes has =
+    let behind = segment_left (message_of o) o.around ws w later l closes.around o.body d closes.ended.map rest is closes.ended.shortest closes.ended.none
+    (subst (λ (ls : List Segment). Chain (message_of o) o.around ls (IsTop at_instruction l o.body d)) closes.outer_is (at_next out outer l o d at_instruction next has)) in
+    rw (closes.next_is, closes.ended.bytes)
+    (ends_in inside out later (with_bytes closes.around (closes.ended.map ++ l.bytes)) o ws w d has.0
+    (subst (λ (n : Inside). Chain (message_of o) ws later (λ h. IsBehind n h (with_bytes closes.around (closes.ended.map ++ l.bytes)) w.body (items_of o.body.done) d)) inside_is behind))
 
-pub has_elements : (outer : List Segment) (l : Segment) (o : Received) (d : Dictionary) (s : Sequel) → o.next ≡ at_element s → s.left ≡ 0 → IsOpened outer l o d → IsOpened outer l (after_sequence o s) d
-has_elements outer l o d s next none c =
-    let at = at_next outer l o d (at_element s) next c in
-    chain_on (message_of o) o.around outer (IsTop (at_element s) l o.body d) (IsTop at_instruction l (after_sequence o s).body d) (λ g w. elements_written g l o.body s d none w) at
+pub has_elements : (out : List ℕ) (outer : List Segment) (l : Segment) (o : Received) (d : Dictionary) (s : Sequel) → o.next ≡ at_element s → s.left ≡ 0 → IsOpened out outer l o d → IsOpened out outer l (after_sequence o s) d
+has_elements out outer l o d s next none = on_top out outer l l o d d (at_element s) at_instruction (after_sequence o s).body next (λ g w. elements_written g l o.body s d none w)
 
 -- ---- messages
 
-pub has_opened : (outer : List Segment) (l k : Segment) (set : List Resolved) (ms : List Content) (id : ℕ) (members : Instructions) (d e : Dictionary)
+pub has_opened : (out : List ℕ) (outer : List Segment) (l k : Segment) (set : List Resolved) (ms : List Content) (id : ℕ) (members : Instructions) (d e : Dictionary)
     → outer ≡ [] → IsEmpty true l → e ≡ written identifier d (Some (U32 id)) → Spelt identifier (entry_at d identifier.key) (Some (U32 id)) l k
-    → IsOpened outer k (opened set ms id members d) e
-has_opened outer l k set ms id members d e none empty entry s = rw (none) top
-  where
-    true_false : true ≡ false → ⊥
-    true_false h = absurd cc
-
-    asked : k.bits ≡ bits_for (part_needs_bit identifier) s.bit
-    asked = s.bits ∙ ap (λ (t : List Bool). t ++ bits_for (part_needs_bit identifier) s.bit) empty.bits
-
-    form : k.bytes ≡ s.form
-    form = s.bytes ∙ ap (λ (t : List ℕ). t ++ s.form) empty.bytes
-
-    top : IsWritten (of_message id members d) k (record { rest = members; done = [] }) e
-    top = record {
-      so_far = λ all later more ns after leaves body. record {
-        between = state e later;
-        front = s.form;
-        back = more;
-        parts = ap (λ (t : List ℕ). t ++ more) form;
-        first = rw (entry) (part_by identifier d (Some (U32 id)) s.bit s.form all later s.needs s.best (rw (asked) at leaves));
-        second = body;
-      };
-      own = s.own ∙ empty.own_is;
-      asked = λ h. absurd (true_false h);
-      none = λ h. absurd (true_false h);
-    }
+    → IsFinished out set ms d → IsOpened out outer k (opened set ms id members d) e
+has_opened out outer l k set ms id members d e none empty entry s before = rw (none) (
+  before,
+  record {
+    so_far = λ all later more ns after leaves body. record {
+      between = state e later;
+      front = s.form;
+      back = more;
+      parts = ap (λ (t : List ℕ). t ++ more) (s.bytes ∙ ap (λ (t : List ℕ). t ++ s.form) empty.bytes);
+      first = rw (entry) (part_by identifier d (Some (U32 id)) s.bit s.form all later s.needs s.best (rw (s.bits, empty.bits) at leaves));
+      second = body;
+    };
+    own = s.own ∙ empty.own_is;
+    asked = λ h. absurd (true≢false h);
+    none = λ h. absurd (true≢false h);
+  },
+)
 
 pub canon_more : (set : List Resolved) (ms : List Content) (m : Content) (a : Dictionary) (front x : List ℕ) (mid after : Dictionary)
     → CanonFrom set a front ms mid → CanonMessage set mid x m after → CanonFrom set a (front ++ x) (ms ++ m ∷ []) after
@@ -210,9 +196,9 @@ message_form set id members start d l o x rest known few shortest w =
 
 pub has_finished : (outer : List Segment) (l : Segment) (o : Received) (d : Dictionary) (out new : List ℕ)
     → o.next ≡ at_instruction → o.body.rest ≡ no_instructions → o.around ≡ [] → members_of o.set o.template ≡ Some o.members → nodes_in (items_of o.body.done) ≤ node_limit
-    → Ended l out new → IsFinished out o.set o.before o.start → IsOpened outer l o d → IsFinished new o.set (o.before ++ content_received o ∷ []) d
-has_finished outer l o d out new next rest none known few end before c =
-    let w : IsWritten (message_of o) l o.body d = alone (message_of o) o.around outer (IsTop at_instruction l o.body d) none (at_next outer l o d at_instruction next c) in
+    → Ended l out new → IsOpened out outer l o d → IsFinished new o.set (o.before ++ content_received o ∷ []) d
+has_finished outer l o d out new next rest none known few end has =
+    let w : IsWritten (message_of o) l o.body d = alone (message_of o) o.around outer (IsTop at_instruction l o.body d) none (at_next out outer l o d at_instruction next has) in
     rw (end.bytes)
-    (finished_more o.set o.before (content_received o) out (end.map ++ l.bytes) o.start d before
+    (finished_more o.set o.before (content_received o) out (end.map ++ l.bytes) o.start d has.0
     (message_form o.set o.template o.members o.start d l o end.map rest known few (end.shortest w.own) w))

@@ -1,27 +1,24 @@
 -- What is written stays so, piece by piece.
-use Rattle.std.proofs.Common.{◌≡◌, ◌<◌, ℕ, Bool, true, false, ◌||◌, List, [], ◌∷◌, ◌++◌, Option, Some, None, refl, sym, ap, subst, ◌∙◌, append-nil, arith}
+use Rattle.std.proofs.Common.{◌≡◌, ◌<◌, ℕ, Bool, true, false, List, [], ◌∷◌, ◌++◌, Option, Some, None, refl, sym, ap, subst, ◌∙◌, append-nil, arith, true≢false}
+use Rattle.std.proofs.lemmas.Bool.{or_parts}
 use Rattle.std.specs.Prelude.{ℤ}
 use Rattle.std.proofs.lemmas.List.{append_assoc}
 use Rattle.fast_value.specs.declared.scalar.Scalar.{Scalar}
 use Rattle.fast_value.specs.declared.scalar.Scalar.TheVariants.{U32, I32, I64, Decimal}
 use Rattle.fast_value.specs.declared.kind.Presence.{Presence}
 use Rattle.fast_template.specs.declared.resolved.FieldPart.{FieldPart}
-use Rattle.fast_template.specs.Resolved.{Instruction, Instructions, whole_field, field_in_parts, group_of, sequence_of, no_instructions, then_instruction, part_needs_bit, is_optional, takes_bit, has_map}
+use Rattle.fast_template.specs.Resolved.{Instruction, Instructions, field_in_parts, group_of, sequence_of, no_instructions, then_instruction, part_needs_bit, is_optional, takes_bit, has_map}
 use Rattle.fast_dictionary.specs.Dictionary.{Dictionary, entry_at}
 use Rattle.fast_wire.specs.PresenceMap.{IsMap}
 use Rattle.fast_wire.specs.Writing.{IsShortest}
 use Rattle.fast_field.specs.Best.{IsBest}
-use Rattle.fast_stream.specs.Nodes.{Item, single, group_items, sequence_elements, no_items, then_item, items_of, Elements, no_elements, then_element, elements_of, element_count}
-use Rattle.fast_stream.specs.Bodies.{State, SegmentBy, PartBy, PieceBy, Each, written}
+use Rattle.fast_stream.specs.Nodes.{Item, single, group_items, sequence_elements, no_items, then_item, items_of, no_elements, then_element, elements_of}
+use Rattle.fast_stream.specs.Bodies.{State, SegmentBy, PartBy, PieceBy, written}
 use Rattle.fast_walk.specs.OpenSegments.{Body, Sequel, in_group, in_sequence, Waiting, at_instruction, at_element, with_item, fewer}
 use Rattle.fast_walk.proofs.Steps.{items_before-more, items_before-end, elements_before-more, elements_before-end}
 use Rattle.fast_writer.specs.Canonical.{CanonBody, IsShortestMap}
-use Rattle.fast_writer.specs.Written.{Segment, IsEmpty, state, bits_for, Leaves, Opening, of_segment, Whole, IsWritten, with_bytes, more_of, WaitsMantissa, CanonSegment, WaitsElements, IsTop, IsBehind, Waits, Chain, Spelt, Asked}
+use Rattle.fast_writer.specs.Written.{Segment, IsEmpty, state, bits_for, Leaves, Opening, of_segment, Whole, IsWritten, with_bytes, more_of, WaitsMantissa, WaitsElements, IsTop, IsBehind, Waits, Chain, Spelt, Asked}
 use Rattle.fast_writer.proofs.Leavings.{leaves_split, bit_of, behind_of, no_bits, closed}
-
-or_false : (a b : Bool) → (a || b) ≡ false → (a ≡ false) × (b ≡ false)
-or_false true b h = absurd cc
-or_false false b h = (refl, h)
 
 -- ---- one item more
 
@@ -36,8 +33,8 @@ piece_written g l i is done d e used x n w piece none = record {
       rw (append_assoc l.bytes x more, items_before-more done n ns)
       (w.so_far all s.0 (x ++ more) (then_item n ns) after s.1 (record { between = state e later; front = x; back = more; parts = refl; first = piece s.0 later s.2; second = body }));
   own = w.own;
-  asked = λ h. (or_false (takes_bit i) (has_map is) (w.asked h)).1;
-  none = λ h. rw (w.none h, none ((or_false (takes_bit i) (has_map is) (w.asked h)).0)) refl;
+  asked = λ h. (or_parts (takes_bit i) (has_map is) (w.asked h)).1;
+  none = λ h. rw (w.none h, none ((or_parts (takes_bit i) (has_map is) (w.asked h)).0)) refl;
 }
 
 pub part_by : (p : FieldPart) (d : Dictionary) (v : Option Scalar) (bit : Bool) (x : List ℕ) (mid later : List Bool) → (part_needs_bit p ≡ false → bit ≡ true)
@@ -86,7 +83,7 @@ chain_pop g (v ∷ u ∷ ws) [] w l J c = absurd c.3
 -- ---- fields
 
 -- a value that is an item of its own
-spelt_item : (g : Opening) (l k : Segment) (b : Body) (i : Instruction) (p : FieldPart) (is : Instructions) (d e : Dictionary) (v : Option Scalar) (n : Item)
+pub spelt_item : (g : Opening) (l k : Segment) (b : Body) (i : Instruction) (p : FieldPart) (is : Instructions) (d e : Dictionary) (v : Option Scalar) (n : Item)
     → b.rest ≡ then_instruction i is
     → ((s t : State) (x : List ℕ) → PartBy IsBest p s x v t → PieceBy IsBest IsShortestMap i s x n t)
     → (takes_bit i ≡ false → part_needs_bit p ≡ false)
@@ -97,59 +94,38 @@ spelt_item g l k b i p is d e v n first piece takes entry s w =
     (λ mid later leaves. piece (state d mid) (state (written p d v) later) s.form (part_by p d v s.bit s.form mid later s.needs s.best leaves)) (λ h. no_bits (part_needs_bit p) s.bit (takes h)) in
     rw (sym entry) at (level_is g (more_of l used s.form) k (record { rest = is; done = b.done ++ n ∷ [] }) (written p d v) (sym s.bits) (sym s.own) (sym s.bytes) now)
 
-pub field_written : (g : Opening) (l k : Segment) (b : Body) (name : List ℕ) (number : ℕ) (presence : Presence) (p : FieldPart) (is : Instructions) (d e : Dictionary) (v : Option Scalar)
-    → b.rest ≡ then_instruction (whole_field name number presence p) is → e ≡ written p d v → Spelt p (entry_at d p.key) v l k
-    → IsWritten g l b d → IsWritten g k (record { rest = is; done = b.done ++ single v ∷ [] }) e
-field_written g l k b name number presence p is d e v first entry s w =
-    spelt_item g l k b (whole_field name number presence p) p is d e v (single v) first (λ s t x h. h) (λ h. h) entry s w
+-- a part in front of the rest of its piece
+front_written : (g : Opening) (l k : Segment) (b : Body) (i : Instruction) (p : FieldPart) (is : Instructions) (d : Dictionary) (v : Option Scalar) (s : Spelt p (entry_at d p.key) v l k) (more : List Bool) (y : List ℕ) (n : Item) (h : Dictionary)
+    → b.rest ≡ then_instruction i is
+    → ((mid t later : List Bool) → PartBy IsBest p (state d mid) s.form v (state (written p d v) t) → Leaves more t later → PieceBy IsBest IsShortestMap i (state d mid) (s.form ++ y) n (state h later))
+    → (takes_bit i ≡ false → (part_needs_bit p ≡ false) × (more ≡ [])) → IsWritten g l b d → IsWritten g (more_of k more y) (record { rest = is; done = b.done ++ n ∷ [] }) h
+front_written g l k b i p is d v s more y n h first piece none w =
+    let used = bits_for (part_needs_bit p) s.bit in
+    level_is g (more_of l (used ++ more) (s.form ++ y)) (more_of k more y) (record { rest = is; done = b.done ++ n ∷ [] }) h
+    (sym (append_assoc l.bits used more) ∙ ap (λ (t : List Bool). t ++ more) (sym s.bits)) (sym s.own) (sym (append_assoc l.bytes s.form y) ∙ ap (λ (t : List ℕ). t ++ y) (sym s.bytes))
+    (piece_written g l i is b.done d h (used ++ more) (s.form ++ y) n (body_is g l b (then_instruction i is) d first w)
+    (λ mid later leaves.
+    let t = leaves_split used more mid later leaves in
+    piece mid t.0 later (part_by p d v s.bit s.form mid t.0 s.needs s.best t.1) t.2)
+    (λ q. let t = none q in rw (no_bits (part_needs_bit p) s.bit t.0, t.1) refl))
 
 -- ---- decimals in parts
-
-pub no_decimal : (g : Opening) (l k : Segment) (b : Body) (name : List ℕ) (number : ℕ) (presence : Presence) (p q : FieldPart) (is : Instructions) (d e : Dictionary)
-    → b.rest ≡ then_instruction (field_in_parts name number presence p q) is → e ≡ written p d None → Spelt p (entry_at d p.key) None l k
-    → IsWritten g l b d → IsWritten g k (record { rest = is; done = b.done ++ single None ∷ [] }) e
-no_decimal g l k b name number presence p q is d e first entry s w =
-    spelt_item g l k b (field_in_parts name number presence p q) p is d e None (single None) first (λ s t x h. h)
-    (λ h. (or_false (part_needs_bit p) (part_needs_bit q) h).0) entry s w
 
 pub exponent_waits : (g : Opening) (l k : Segment) (b : Body) (name : List ℕ) (number : ℕ) (presence : Presence) (p q : FieldPart) (is : Instructions) (d e : Dictionary) (z : ℤ)
     → b.rest ≡ then_instruction (field_in_parts name number presence p q) is → e ≡ written p d (Some (I32 z)) → Spelt p (entry_at d p.key) (Some (I32 z)) l k
     → IsWritten g l b d → WaitsMantissa g k (record { rest = is; done = b.done }) z q e
-exponent_waits g l k b name number presence p q is d e z first entry s w = record { then = λ bit x m needs best. later bit x m needs (rw (entry) at best) }
-  where
-    f : Dictionary
-    f = written p d (Some (I32 z))
-
-    used : List Bool
-    used = bits_for (part_needs_bit p) s.bit
-
-    none : (takes_bit (field_in_parts name number presence p q) ≡ false) → (bit : Bool) → used ++ bits_for (part_needs_bit q) bit ≡ []
-    none h bit = let t = or_false (part_needs_bit p) (part_needs_bit q) h in rw (no_bits (part_needs_bit p) s.bit t.0, no_bits (part_needs_bit q) bit t.1) refl
-
-    later : (bit : Bool) (x : List ℕ) (m : ℤ) → (part_needs_bit q ≡ false → bit ≡ true) → IsBest q (entry_at f q.key) bit x (Some (I64 m))
-        → IsWritten g (more_of k (bits_for (part_needs_bit q) bit) x) (record { rest = is; done = b.done ++ single (Some (Decimal z m)) ∷ [] }) (written q e (Some (I64 m)))
-    later bit x m needs best =
-        let more = bits_for (part_needs_bit q) bit in
-        let now = piece_written g l (field_in_parts name number presence p q) is b.done d (written q f (Some (I64 m))) (used ++ more) (s.form ++ x) (single (Some (Decimal z m)))
-        (body_is g l b (then_instruction (field_in_parts name number presence p q) is) d first w)
-        (λ mid after leaves.
-        let t = leaves_split used more mid after leaves in
-        record {
-          between = state f t.0;
-          front = s.form;
-          back = x;
-          parts = refl;
-          first = part_by p d (Some (I32 z)) s.bit s.form mid t.0 s.needs s.best t.1;
-          second = part_by q f (Some (I64 m)) bit x t.0 after needs best t.2;
-        })
-        (λ h. none h bit) in
-        rw (sym entry) at (level_is g (more_of l (used ++ more) (s.form ++ x)) (more_of k more x) (record { rest = is; done = b.done ++ single (Some (Decimal z m)) ∷ [] }) (written q f (Some (I64 m)))
-        (sym (append_assoc l.bits used more) ∙ ap (λ (t : List Bool). t ++ more) (sym s.bits)) (sym s.own) (sym (append_assoc l.bytes s.form x) ∙ ap (λ (t : List ℕ). t ++ x) (sym s.bytes)) now)
+exponent_waits g l k b name number presence p q is d e z first entry s w = rw entry (record {
+  then = λ bit x m needs best.
+      let f = written p d (Some (I32 z)) in
+      front_written g l k b (field_in_parts name number presence p q) p is d (Some (I32 z)) s (bits_for (part_needs_bit q) bit) x (single (Some (Decimal z m))) (written q f (Some (I64 m))) first
+      (λ mid t later part leaves. record { between = state f t; front = s.form; back = x; parts = refl; first = part; second = part_by q f (Some (I64 m)) bit x t later needs best leaves })
+      (λ h. let t = or_parts (part_needs_bit p) (part_needs_bit q) h in (t.0, no_bits (part_needs_bit q) bit t.1)) w;
+})
 
 pub mantissa_written : (g : Opening) (l k : Segment) (b : Body) (z m : ℤ) (q : FieldPart) (d e : Dictionary) → e ≡ written q d (Some (I64 m)) → Spelt q (entry_at d q.key) (Some (I64 m)) l k
     → WaitsMantissa g l b z q d → IsWritten g k (with_item b (single (Some (Decimal z m)))) e
 mantissa_written g l k b z m q d e entry s w =
-    rw (sym entry) at (level_is g (more_of l (bits_for (part_needs_bit q) s.bit) s.form) k (with_item b (single (Some (Decimal z m)))) (written q d (Some (I64 m))) (sym s.bits) (sym s.own) (sym s.bytes)
+    rw entry (level_is g (more_of l (bits_for (part_needs_bit q) s.bit) s.form) k (with_item b (single (Some (Decimal z m)))) (written q d (Some (I64 m))) (sym s.bits) (sym s.own) (sym s.bytes)
     (w.then s.bit s.form m s.needs s.best))
 
 -- ---- groups
@@ -169,21 +145,17 @@ pub left_out_written : (g : Opening) (l k : Segment) (b : Body) (name : List ℕ
 left_out_written g l k b name number presence inner is d first optional asked w =
     level_is g (more_of l (false ∷ []) []) k (record { rest = is; done = b.done ++ single None ∷ [] }) d (sym asked.bits) (sym asked.own) (append-nil l.bytes ∙ sym asked.bytes)
     (piece_written g l (group_of name number presence inner) is b.done d d (false ∷ []) [] (single None) (body_is g l b (then_instruction (group_of name number presence inner) is) d first w)
-    (λ mid later leaves. rw optional (leaves.0, refl, ap (state d) (sym leaves.1))) (λ h. absurd (true_false (sym optional ∙ h))))
-  where
-    true_false : true ≡ false → ⊥
-    true_false h = absurd cc
+    (λ mid later leaves. rw optional (leaves.0, refl, ap (state d) (sym leaves.1))) (λ h. absurd (true≢false (sym optional ∙ h))))
 
-begun : (inner : Instructions) (d : Dictionary) → IsWritten (of_segment inner d) (record { bits = []; own = has_map inner; bytes = [] }) (record { rest = inner; done = [] }) d
-begun inner d = record {
-  so_far = λ all later more ns after leaves body. rw (sym leaves) at body;
-  own = refl;
+new_segment : (inner : Instructions) (d : Dictionary) (l : Segment) → IsEmpty (has_map inner) l → IsWritten (of_segment inner d) l (record { rest = inner; done = [] }) d
+new_segment inner d l empty = record {
+  so_far = λ all later more ns after leaves body.
+      let same : all ≡ later = rw (empty.bits) at leaves in
+      rw (empty.bytes, same) body;
+  own = empty.own_is;
   asked = λ h. h;
-  none = λ h. refl;
+  none = λ h. empty.bits;
 }
-
-pub new_segment : (inner : Instructions) (d : Dictionary) (l : Segment) → IsEmpty (has_map inner) l → IsWritten (of_segment inner d) l (record { rest = inner; done = [] }) d
-new_segment inner d l empty = rw (sym empty.bits, sym empty.own_is, sym empty.bytes) at (begun inner d)
 
 -- in a group
 pub group_entered : (g : Opening) (ws : List Waiting) (ls : List Segment) (l k j : Segment) (b : Body) (name : List ℕ) (number : ℕ) (presence : Presence) (inner is : Instructions) (bits : List Bool) (d : Dictionary)
@@ -220,54 +192,28 @@ with_map true inner s d l b x is rest shortest none w =
 with_map false inner s d l b x is rest shortest none w =
     rw (none refl) (ended (of_segment inner s) l b d [] [] rest (rw (w.none (sym is)) refl) w)
 
-segment_of : (inner : Instructions) (s d : Dictionary) (l : Segment) (b : Body) (x : List ℕ) → b.rest ≡ no_instructions
-    → (l.own ≡ true → IsShortest IsMap x l.bits) → (l.own ≡ false → x ≡ []) → IsWritten (of_segment inner s) l b d → CanonSegment inner s (x ++ l.bytes) (items_of b.done) d
-segment_of inner s d l b x rest shortest none w = with_map (has_map inner) inner s d l b x refl rest (λ t. shortest (w.own ∙ t)) (λ t. none (w.own ∙ t)) w
-
 -- behind a segment, in the one that waited for it
 pub segment_left : (g : Opening) (us ws : List Waiting) (w : Waiting) (ls : List Segment) (l k : Segment) (b : Body) (d : Dictionary) (x : List ℕ)
     → b.rest ≡ no_instructions → us ≡ ws ++ w ∷ [] → (l.own ≡ true → IsShortest IsMap x l.bits) → (l.own ≡ false → x ≡ [])
     → Chain g us (ls ++ k ∷ []) (IsTop at_instruction l b d) → Chain g ws ls (λ h. IsBehind w.inside h (with_bytes k (x ++ l.bytes)) w.body (items_of b.done) d)
 segment_left g us ws w ls l k b d x rest is shortest none c =
     chain_on g ws ls (Inner k w (IsTop at_instruction l b d)) (λ h. IsBehind w.inside h (with_bytes k (x ++ l.bytes)) w.body (items_of b.done) d) (λ h t.
-    t.2 (x ++ l.bytes) (items_of b.done) d (segment_of t.0 t.1 d l b x rest shortest none t.3))
+    t.2 (x ++ l.bytes) (items_of b.done) d (with_map (has_map t.0) t.0 t.1 d l b x refl rest (λ own. shortest (t.3.own ∙ own)) (λ own. none (t.3.own ∙ own)) t.3))
     (chain_pop g ws ls w k (IsTop at_instruction l b d) (rw is at c))
 
 -- ---- sequences
-
-pub no_sequence : (g : Opening) (l k : Segment) (b : Body) (name : List ℕ) (number : ℕ) (presence : Presence) (p : FieldPart) (inner is : Instructions) (d e : Dictionary)
-    → b.rest ≡ then_instruction (sequence_of name number presence p inner) is → e ≡ written p d None → Spelt p (entry_at d p.key) None l k
-    → IsWritten g l b d → IsWritten g k (record { rest = is; done = b.done ++ single None ∷ [] }) e
-no_sequence g l k b name number presence p inner is d e first entry s w =
-    spelt_item g l k b (sequence_of name number presence p inner) p is d e None (single None) first (λ s t x h. h) (λ h. h) entry s w
 
 pub length_waits : (g : Opening) (l k : Segment) (b : Body) (name : List ℕ) (number : ℕ) (presence : Presence) (p : FieldPart) (inner is : Instructions) (d e : Dictionary) (n : ℕ)
     → b.rest ≡ then_instruction (sequence_of name number presence p inner) is → e ≡ written p d (Some (U32 n)) → Spelt p (entry_at d p.key) (Some (U32 n)) l k
     → IsWritten g l b d
     → WaitsElements g k (record { rest = is; done = b.done }) (record { number = number; own_map = has_map inner; members = inner; left = n; done = [] }) e
-length_waits g l k b name number presence p inner is d e n first entry s w = record { own = refl; then = λ y es f count each. elements y es f count (rw (entry) at each) }
-  where
-    f : Dictionary
-    f = written p d (Some (U32 n))
-
-    used : List Bool
-    used = bits_for (part_needs_bit p) s.bit
-
-    elements : (y : List ℕ) (es : Elements) (h : Dictionary) → element_count es ≡ n → Each (CanonSegment inner) f y es h → IsWritten g (with_bytes k y) (record { rest = is; done = b.done ++ sequence_elements es ∷ [] }) h
-    elements y es h count each =
-        let now = piece_written g l (sequence_of name number presence p inner) is b.done d h used (s.form ++ y) (sequence_elements es)
-        (body_is g l b (then_instruction (sequence_of name number presence p inner) is) d first w)
-        (λ mid later leaves. record {
-          between = state f later;
-          front = s.form;
-          back = y;
-          parts = refl;
-          first = rw (count) (part_by p d (Some (U32 n)) s.bit s.form mid later s.needs s.best leaves);
-          second = (refl, each);
-        })
-        (no_bits (part_needs_bit p) s.bit) in
-        level_is g (more_of l used (s.form ++ y)) (with_bytes k y) (record { rest = is; done = b.done ++ sequence_elements es ∷ [] }) h
-        (sym s.bits) (sym s.own) (sym (append_assoc l.bytes s.form y) ∙ ap (λ (t : List ℕ). t ++ y) (sym s.bytes)) now
+length_waits g l k b name number presence p inner is d e n first entry s w = rw entry (record {
+  own = refl;
+  then = λ y es h count each.
+      rw (append-nil k.bits) at (front_written g l k b (sequence_of name number presence p inner) p is d (Some (U32 n)) s [] y (sequence_elements es) h first
+      (λ mid t later part leaves. record { between = state (written p d (Some (U32 n))) t; front = s.form; back = y; parts = refl; first = rw count part; second = (sym leaves, each) })
+      (λ q. (q, refl)) w);
+})
 
 -- in an element
 element_waits : (g : Opening) (l : Segment) (b : Body) (s : Sequel) (d : Dictionary) (bits : List Bool) → 0 < s.left → WaitsElements g l b s d

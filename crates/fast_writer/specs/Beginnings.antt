@@ -2,7 +2,10 @@
 use Rattle.std.specs.Prelude.{◌≡◌, ◌≤◌, ℕ, Bool, false, List, [], ◌∷◌}
 use Rattle.fast_value.specs.declared.kind.Kind.{Kind}
 use Rattle.fast_value.specs.declared.kind.Kind.TheVariants as kind
+use Rattle.fast_value.specs.declared.kind.Operator.{Operator}
+use Rattle.fast_value.specs.declared.kind.Operator.TheVariants as operator
 use Rattle.fast_field.specs.Spelled.{overlong_number}
+use Rattle.fast_field.specs.Values.{is_unsigned}
 
 -- no entity that begins with these two bytes is longer than its number needs
 abbrev pub BeginsShort : Bool → List ℕ → Type 0
@@ -21,3 +24,10 @@ BeginsNumber kind.Ascii unsigned bytes = ⊥
 BeginsNumber kind.Unicode unsigned bytes = ⊥
 BeginsNumber kind.Bytes unsigned bytes = ⊥
 BeginsNumber k unsigned bytes = BeginsShort unsigned bytes
+
+-- and of what is sent for a field; of a constant nothing is
+abbrev pub BeginsField : Operator → Kind → List ℕ → Type 0
+BeginsField operator.Constant k bytes = Unit {0}
+BeginsField operator.Delta k bytes = BeginsNumber k false bytes
+BeginsField operator.Tail k bytes = ⊥
+BeginsField o k bytes = BeginsNumber k (is_unsigned k) bytes

@@ -21,4 +21,4 @@ HasFinished w set ms d = IsFinished w.out.items set ms d
 
 -- the messages before, and what is written of the one that is open
 abbrev pub HasWritten : Writer → Received → Dictionary → Type 0
-HasWritten w o d = HasFinished w o.set o.before o.start × IsOpened (map level_of w.outer) (level_of w.inner) o d
+HasWritten w o d = IsOpened w.out.items (map level_of w.outer) (level_of w.inner) o d

@@ -21,6 +21,7 @@ have_room ls around = false
 abbrev pub writer_room : Writer → List (List Bool) → List Bool → Bool
 writer_room w around left = has_room (level_of w.inner) left && have_room (map level_of w.outer) around
 
--- a map that had room for the bit of a part that was read has room for the one that is written
+-- a map that had room for the bit of a part that was read has room for the one that is written, and so whatever is around it
 abbrev pub KeepsRoom : FieldPart → Bool → Segment → Segment → Type 0
-KeepsRoom p bit old new = (left : List Bool) → bit ≡ bit_for (part_needs_bit p) left → IsTrue (has_room old left) → IsTrue (has_room new (after_bit (part_needs_bit p) left))
+KeepsRoom p bit old new = (around : Bool) (left : List Bool) → bit ≡ bit_for (part_needs_bit p) left → IsTrue (has_room old left && around)
+    → IsTrue (has_room new (after_bit (part_needs_bit p) left) && around)

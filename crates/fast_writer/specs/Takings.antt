@@ -1,5 +1,5 @@
 -- Fields that are taken one after the other into the segment that is open.
-use Rattle.std.specs.Prelude.{◌≡◌, ◌≤◌, ◌<◌, ℕ, ◌-◌, Bool, true, false, List, ◌++◌, Option, Some, None, Ok, IsSome, IsTrue, drop, length}
+use Rattle.std.specs.Prelude.{◌≡◌, ◌≤◌, ◌<◌, ℕ, ◌-◌, ◌&&◌, Bool, true, false, List, ◌++◌, Option, Some, None, Ok, IsSome, IsTrue, drop, length}
 use Rattle.fast_value.specs.declared.key.Key.{Key}
 use Rattle.fast_value.specs.declared.kind.Kind.TheVariants as kind
 use Rattle.fast_value.specs.declared.kind.Part.TheVariants as part
@@ -39,14 +39,10 @@ pub record Front : Type 0 where
 abbrev pub front_of : Fields → Front
 front_of f = record { mantissa = f.mantissa; rest = list_of f.rest.now; spare = f.spare; place = f.place }
 
--- the same behind so many instructions of a body, each of which is a node
-abbrev pub front_at : List Flat → ℕ → ℕ → Option (Bor FieldPart) → ℕ → Front
-front_at flats spare count mantissa place = record { mantissa = mantissa; rest = list_of (drop count flats); spare = spare - count; place = place }
-
 -- From one segment, dictionary, map and place to others: whatever is open around it, fields were passed.
 pub record Takes (level : Level) (bytes : List ℕ) (l : Segment) (d : Dictionary) (bits : List Bool) (f : Front) (k : Segment) (e : Dictionary) (later : List Bool) (g : Front) : Type 0 where
-  pub passes : (outer : List Segment) (o : Received) → bare_next o.next ≡ next_behind f.mantissa → o.body.rest ≡ f.rest → IsOpened outer l o d
-      → Passes level (λ p. IsOpened outer k p e) o (next_behind g.mantissa) g.rest d bits f.spare (drop f.place bytes) e later g.spare (drop g.place bytes)
+  pub passes : (out : List ℕ) (outer : List Segment) (o : Received) → bare_next o.next ≡ next_behind f.mantissa → o.body.rest ≡ f.rest → IsOpened out outer l o d
+      → Passes level (λ p. IsOpened out outer k p e) o (next_behind g.mantissa) g.rest d bits f.spare (drop f.place bytes) e later g.spare (drop g.place bytes)
 
 -- The part that a field begins with: its own, or the exponent of a decimal in parts, an integer, with its mantissa behind.
 abbrev pub BeginsWith : Instruction → FieldPart → Option (Bor FieldPart) → Type 0
@@ -63,8 +59,9 @@ IsFirstTold (Some mantissa) p = IsTold part.Exponent kind.Int32 p
 
 -- the mantissa that is next behind an exponent, whether that is there
 abbrev pub behind : Bool → Option (Bor FieldPart) → Option (Bor FieldPart)
-behind true mantissa = mantissa
-behind false mantissa = None
+behind there None = None
+behind true (Some mantissa) = Some mantissa
+behind false (Some mantissa) = None
 
 -- The next bit, or 1, and the bytes before `rest` give the value of a part, its entry is the one afterwards, and its best
 -- form was put into a segment.
@@ -84,7 +81,7 @@ pub record TookThere (level : Level) (p : FieldPart) (there : Bool) (old new : E
   pub took : TookEntry level p old new bits value (drop at bytes) (drop k.bytes.place bytes) (level_in bytes l) (level_in bytes k)
   pub left : later ≡ after_bit (part_needs_bit p) bits
 
--- the same of a part whose entry is put under its key; a map that had room for what was left still has
+-- the same of a part whose entry is put under its key; a map that had room for what was left still has, and so whatever is around it
 pub record TookUnder (level : Level) (p : FieldPart) (there : Bool) (d e : Dictionary) (bits later : List Bool) (bytes : List ℕ) (at : ℕ) (l k : LevelNow) : Type 0 where
   pub place : at ≤ k.bytes.place
   pub run : IsRun bytes k.bytes.place k.bytes
@@ -93,7 +90,7 @@ pub record TookUnder (level : Level) (p : FieldPart) (there : Bool) (d e : Dicti
   pub took : Took level p (bit_for (part_needs_bit p) bits) d e value (drop at bytes) (drop k.bytes.place bytes)
   pub spelt : Spelt p (entry_at d p.key) value (level_in bytes l) (level_in bytes k)
   pub left : later ≡ after_bit (part_needs_bit p) bits
-  pub room : IsTrue (has_room (level_in bytes l) bits) → IsTrue (has_room (level_in bytes k) later)
+  pub room : (around : Bool) → IsTrue (has_room (level_in bytes l) bits && around) → IsTrue (has_room (level_in bytes k) later && around)
   pub kept : KeepScalars e
 
 -- Nothing has changed, of an entry or a dictionary, of the map and of what is written, and what is noted ends at that place.
@@ -130,6 +127,7 @@ pub record TookFields (level : Level) (serves : Key → Bool) (rest : List Flat)
   pub some : IsSome mantissa → 0 < count
   pub served : AreServed serves (list_of (drop count rest))
   pub next_served : IsNextServed serves (next_behind mantissa)
-  pub takes : (spare : ℕ) → length rest ≤ spare → Takes level bytes l d bits (front_at rest spare 0 None at) k e later (front_at rest spare count mantissa next)
-  pub room : IsTrue (has_room l bits) → IsTrue (has_room k later)
+  pub takes : (spare : ℕ) → length rest ≤ spare → Takes level bytes l d bits (record { mantissa = None; rest = list_of rest; spare = spare; place = at })
+      k e later (record { mantissa = mantissa; rest = list_of (drop count rest); spare = spare - count; place = next })
+  pub room : (around : Bool) → IsTrue (has_room l bits && around) → IsTrue (has_room k later && around)
   pub kept : KeepScalars e

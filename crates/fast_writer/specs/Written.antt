@@ -111,9 +111,10 @@ Chain g [] [] Inner = Inner g
 Chain g (w ∷ ws) (l ∷ ls) Inner = (members : Instructions) × (d : Dictionary) × Waits g l w members d × Chain (of_segment members d) ws ls Inner
 Chain g ws ls Inner = ⊥
 
--- All that is written of a message, in segments, the innermost apart.
-abbrev pub IsOpened : List Segment → Segment → Received → Dictionary → Type 0
-IsOpened outer now o d = Chain (of_message o.template o.members o.start) o.around outer (IsTop o.next now o.body d)
+-- All that is written: of the messages before, and of the one that is open, in segments, the innermost apart.
+abbrev pub IsOpened : List ℕ → List Segment → Segment → Received → Dictionary → Type 0
+IsOpened out outer now o d =
+    IsFinished out o.set o.before o.start × Chain (of_message o.template o.members o.start) o.around outer (IsTop o.next now o.body d)
 
 -- nothing is written of a segment, which has a map of its own or not
 pub record IsEmpty (own : Bool) (l : Segment) : Type 0 where
@@ -156,11 +157,10 @@ pub record AppendsForm (p : FieldPart) (e : Entry) (v : Option Scalar) (bit : Bo
 -- the innermost segment ends, and stands in the one around it
 pub record Closes (outer : List Segment) (now : Segment) (later : List Segment) (next : Segment) : Type 0 where
   pub around : Segment
-  pub map : List ℕ
+  pub bytes : List ℕ
   pub outer_is : outer ≡ later ++ around ∷ []
-  pub next_is : next ≡ with_bytes around (map ++ now.bytes)
-  pub shortest : now.own ≡ true → IsShortest IsMap map now.bits
-  pub none : now.own ≡ false → map ≡ []
+  pub next_is : next ≡ record { bits = around.bits; own = around.own; bytes = bytes }
+  pub ended : Ended now around.bytes bytes
 
 -- the innermost segment has ended in the one around it, which is still around
 pub record ClosesIn (outer : List Segment) (now : Segment) (later : List Segment) : Type 0 where

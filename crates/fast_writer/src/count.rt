@@ -92,6 +92,7 @@ fn count_generally(
 ///
 /// The first fault of the part; nothing has changed. Memory: a growth was refused.
 #[inline(never)]
+#[tactic(auto, using(fast_walk::proofs::Telling::kept_hold))]
 pub(crate) fn relay_count<E: Entries>(
     alloc: Global,
     entries: &mut E,

@@ -1,6 +1,6 @@
 //! Fields that are taken one after the other, with no call of the walk between them.
 
-ghost use Rattle.std.specs.Prelude.{◌≡◌, ◌≤◌, ◌<◌, ◌+◌, Bool, true, false, Option, None, IsSome, IfOk, IfSome, MatchOption, OnOk, IsTrue, length, drop, slice_range};
+ghost use Rattle.std.specs.Prelude.{◌≡◌, ◌≤◌, ◌<◌, ◌+◌, ◌&&◌, Bool, true, false, Option, None, IsSome, IfOk, IfSome, MatchOption, OnOk, IsTrue, length, drop, slice_range};
 ghost use Rattle.fast_template.specs.Resolved.{instruction_of, list_of, part_needs_bit as part_needs_bit_of};
 ghost use Rattle.fast_value.specs.declared.scalar.Scalar.{Scalar as ScalarOf};
 ghost use Rattle.fast_dictionary.specs.declared.entry.Entry.{Entry as EntryOf};
@@ -212,6 +212,7 @@ fn take_sent<L: Leveled>(
 
 // Takes a part and its bit, where the quick way serves.
 #[inline(always)]
+#[tactic(auto, using(fast_walk::proofs::Telling::kept_hold, crate::proofs::Takings::taken_under))]
 fn take_part<L: Leveled, E: Entries>(
     which: Part,
     alloc: Global,
@@ -393,8 +394,8 @@ pub(crate) fn take_fields<'a, L: Leveled, E: Entries>(
         (E.contents entries.old) bits.old
         (record { mantissa = None; rest = list_of rest.now; spare = spare; place = at })
         (level_of segment.new) (E.contents entries.new) bits.new (front_of f)) }
-    ensures room { OnOk result (IsTrue (has_room (level_of segment.old) bits.old)
-        → IsTrue (has_room (level_of segment.new) bits.new)) }
+    ensures room { OnOk result ((around : Bool) → IsTrue (has_room (level_of segment.old) bits.old && around)
+        → IsTrue (has_room (level_of segment.new) bits.new && around)) }
     ensures kept { OnOk result (KeepScalars (E.contents entries.new)) }
     ensures same_keys { E.serves entries.new ≡ E.serves entries.old }
 {

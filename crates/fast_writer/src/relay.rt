@@ -1,16 +1,12 @@
 //! A part that is read, and its value written, one after the other: the general way.
 
-ghost use Rattle.std.specs.Prelude.{◌≡◌, ◌≢◌, ◌≤◌, ◌++◌, ℕ, List, Ok, Err, IfOk, IfErr, OnErr, IsTrue, MatchResult, Option, length, drop, [], false, true};
+ghost use Rattle.std.specs.Prelude.{◌≡◌, ◌≤◌, IsTrue, MatchResult, Option, length, drop, false, true};
 ghost use Rattle.fast_value.specs.declared.scalar.Scalar.{Scalar as ScalarOf};
 ghost use Rattle.fast_relay.specs.Relayed.{IsThere};
 ghost use Rattle.fast_walk.specs.Told.{KeepScalars};
 ghost use Rattle.fast_writer.specs.Levels.{level_of};
 ghost use Rattle.fast_template.specs.Resolved.{part_needs_bit as part_needs_bit_of};
-ghost use Rattle.fast_field.specs.Bases.{next};
-ghost use Rattle.fast_field.specs.Best.{IsBest};
-ghost use Rattle.fast_field.specs.FieldReading.{field_at};
-ghost use Rattle.fast_field.specs.Found.{value_found};
-ghost use Rattle.fast_field.specs.Parts.{HasDefault, IsFieldPart};
+ghost use Rattle.fast_field.specs.Parts.{IsFieldPart};
 ghost use Rattle.fast_field.specs.Within.{HoldsScalar};
 ghost use Rattle.fast_writer.specs.Quick.{RelaysEntry, RelaysField, RelaysFound, StopsEntry};
 
@@ -20,33 +16,6 @@ use fast_field::{FieldFault, FieldRefusal, Found, find_field, read_in_place, wri
 use fast_template::{FieldPart, part_needs_bit};
 use fast_wire::Level;
 use std::alloc::Global;
-
-// Reads a part that bit 0 gives. Bit 0 is its best form too.
-#[inline(always)]
-fn repeat(
-    alloc: Global,
-    part: &FieldPart,
-    entry: &mut Entry,
-    level: Level,
-    bytes: &[u8],
-    at: usize,
-) -> Result<(Found, usize), FieldFault>
-    requires place { at ≤ length bytes.now }
-    requires default { HasDefault part.now }
-    ensures place { IfOk result (λ x. (at ≤ x.1) × (x.1 ≤ length bytes.now)) }
-    ensures goes { IfOk result (λ x. (more : List ℕ)
-        → field_at level part.now entry.old false (drop at bytes.now ++ more)
-        ≡ Ok (value_found part.now entry.new x.0, drop x.1 bytes.now ++ more)) }
-    ensures entry { IfOk result (λ x. entry.new
-        ≡ next part.now entry.old (value_found part.now entry.new x.0)) }
-    ensures best { IfOk result (λ x. part_needs_bit_of part.now ≡ true →
-        IsBest part.now entry.old false [] (value_found part.now entry.new x.0)) }
-    ensures stops { IfErr result (λ f. f ≢ FieldFault.Memory
-        → field_at level part.now entry.old false (drop at bytes.now) ≡ Err f) }
-    ensures unchanged { OnErr result (entry.new ≡ entry.old) }
-{
-    read_in_place(alloc, part, entry, false, level, bytes, at)
-}
 
 // The fault of a part whose form was refused: what was read has one, so no other refusal comes.
 fn want_of_memory(refusal: FieldRefusal) -> FieldFault
@@ -108,7 +77,8 @@ pub(crate) fn relay_entry(
     if bit {
         return rewrite(alloc, part, entry, level, bytes, at, out);
     }
-    let (found, next) = repeat(alloc, part, entry, level, bytes, at)?;
+    // what bit 0 gives is best written with bit 0
+    let (found, next) = read_in_place(alloc, part, entry, false, level, bytes, at)?;
     Ok((found, false, next))
 }
 
@@ -146,6 +116,7 @@ fn relay_generally(
 ///
 /// The first fault of the part; nothing has changed. Memory: a growth was refused.
 #[inline(always)]
+#[tactic(auto, using(fast_walk::proofs::Telling::kept_hold))]
 pub(crate) fn relay_part<E: Entries>(
     alloc: Global,
     entries: &mut E,

@@ -44,6 +44,7 @@ impl Run {
 
     /// Notes the bytes up to a place, which are written as they stand.
     #[inline(always)]
+    #[tactic(auto, using(crate::proofs::Runs::kept))]
     pub fn keep(&mut self, next: usize)
         requires place { self.now.place ≤ next }
         ensures written { (bytes : List ℕ) (at : ℕ) → IsRun bytes at self.old

@@ -2,7 +2,7 @@
 
 ghost use Rattle.std.specs.Prelude.{◌≡◌, ◌⊎◌, ◌&&◌, true, false, drop, IfErr, OnOk, OnErr};
 ghost use Rattle.fast_wire.specs.declared.fault.WireFault.TheVariants as fault;
-ghost use Rattle.fast_writer.specs.Written.{Asked, Ended, has_set};
+ghost use Rattle.fast_writer.specs.Written.{Asked, Ended, IsEmpty, has_set};
 ghost use Rattle.fast_writer.specs.Levels.{level_of};
 
 use crate::run::Run;
@@ -21,14 +21,10 @@ pub struct Segment {
 }
 
 impl Segment {
-    ghost use Rattle.std.specs.Prelude.{[]};
-
     /// Of nothing. Takes no memory.
     #[inline(always)]
     pub fn new(alloc: Global, own: bool) -> Segment
-        ensures bits { result.bits ≡ [] }
-        ensures own { result.own ≡ own }
-        ensures bytes { result.bytes.out.items ≡ [] }
+        ensures { IsEmpty own (level_of result) }
     {
         Segment {
             bits: MapBuilder::new(alloc),
@@ -40,9 +36,7 @@ impl Segment {
     /// Begins anew, in the same memory.
     #[inline(always)]
     pub fn begin(&mut self, own: bool)
-        ensures bits { self.new.bits ≡ [] }
-        ensures own { self.new.own ≡ own }
-        ensures bytes { self.new.bytes.out.items ≡ [] }
+        ensures { IsEmpty own (level_of self.new) }
     {
         self.bits.clear();
         self.own = own;

@@ -55,6 +55,7 @@ fn begins_number(kind: Kind, unsigned: bool, bytes: &[u8], at: usize) -> bool
 // Whether two bytes of a field's number show that the strict level reads it as the usual one does. (A call of its own: few
 // fields have a number that begins with a group of the sign alone.)
 #[inline(never)]
+#[tactic(auto, using(crate::proofs::Beginnings::as_usual, crate::proofs::Beginnings::whole_begins))]
 fn is_number_read_so(part: &FieldPart, bytes: &[u8], at: usize) -> bool
     requires { at ≤ length bytes.now }
     ensures { result ≡ true → ReadsAsUsual Strict part.now (drop at bytes.now) }

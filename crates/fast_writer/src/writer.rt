@@ -28,12 +28,14 @@ pub struct Writer {
 impl Writer {
     ghost use Rattle.std.specs.Prelude.{◌≡◌, [], ◌∷◌, ◌++◌, List, map, OnOk};
     ghost use Rattle.std.specs.FinMap as finite;
-    ghost use Rattle.fast_template.specs.Resolved.{Resolved};
-    ghost use Rattle.fast_walk.specs.Received.{handed_on};
+    ghost use Rattle.fast_template.specs.Resolved.{Resolved, no_instructions};
+    ghost use Rattle.fast_dictionary.specs.Dictionary.{Dictionary};
+    ghost use Rattle.fast_walk.specs.OpenSegments.{Inside, Waiting, at_instruction};
+    ghost use Rattle.fast_walk.specs.Received.{Received, ended_in, handed_on};
     ghost use Rattle.fast_walk.specs.Room.{HasRoomInside, HasRoomOutside};
-    ghost use Rattle.fast_writer.specs.Levels.{level_of};
+    ghost use Rattle.fast_writer.specs.Levels.{HasWritten, level_of};
     ghost use Rattle.fast_writer.specs.Room.{writer_room};
-    ghost use Rattle.fast_writer.specs.Written.{Closes, ClosesIn, IsEmpty};
+    ghost use Rattle.fast_writer.specs.Written.{ClosesIn, IsEmpty};
 
     /// With no message, and nothing handed on. Takes no memory.
     #[inline(always)]
@@ -66,9 +68,9 @@ impl Writer {
     #[inline(always)]
     fn close(&mut self) -> Result<(), AllocError>
         requires room { HasRoomInside (writer_room self.now) }
-        ensures closed { OnOk result (Closes (map level_of self.old.outer)
-            (level_of self.old.inner) (map level_of self.new.outer)
-            (level_of self.new.inner)) }
+        ensures ended { OnOk result ((inside : Inside) (o : Received) (d : Dictionary) (ws : List Waiting) (w : Waiting)
+            → o.next ≡ at_instruction → o.body.rest ≡ no_instructions → o.around ≡ ws ++ w ∷ [] → w.inside ≡ inside
+            → HasWritten self.old o d → HasWritten self.new (ended_in o ws w.body inside) d) }
         ensures room { OnOk result (HasRoomOutside (writer_room self.old) (writer_room self.new)) }
         ensures out { self.new.out ≡ self.old.out }
     {
@@ -133,6 +135,7 @@ impl Receiver for Writer {
     }
 
     #[inline(always)]
+    #[tactic(auto, using(crate::proofs::Writers::has_finished))]
     fn finish(&mut self, _alloc: Global) -> Result<(), AllocError> {
         self.inner.end(&mut self.out)?;
         Ok(())
@@ -144,6 +147,7 @@ impl Receiver for Writer {
     }
 
     #[inline(always)]
+    #[tactic(auto, using(fast_walk::proofs::Telling::told_part))]
     fn field<E: Entries>(
         &mut self,
         alloc: Global,
@@ -275,6 +279,7 @@ impl Receiver for Writer {
     }
 
     #[inline(always)]
+    #[tactic(auto, using(crate::proofs::Writers::has_element))]
     fn enter_element(
         &mut self,
         alloc: Global,
@@ -303,6 +308,7 @@ impl Receiver for Writer {
     }
 
     #[inline(always)]
+    #[tactic(auto, using(crate::proofs::Writers::has_elements))]
     fn end_sequence(&mut self, _alloc: Global) -> Result<(), AllocError> {
         Ok(())
     }

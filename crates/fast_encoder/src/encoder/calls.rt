@@ -22,6 +22,7 @@ use std::alloc::Global;
 
 impl<'a, E: Entries> Encoder<'a, E> {
     /// An encoder of a set, at the beginning of a stream. The entries are reset. Takes no memory.
+    #[tactic(auto, using(fast_walk::proofs::Telling::empty_kept))]
     pub fn new(alloc: Global, set: &'a TemplateSet, entries: E) -> Encoder<'a, E>
         requires { ServesAll (E.serves entries) set.now }
         ensures set { result.set.now ≡ set.now }
@@ -58,6 +59,7 @@ impl<'a, E: Entries> Encoder<'a, E> {
     ///
     /// The first reason why the message has no form from these entries, or Memory where a growth was refused. Then
     /// nothing is appended, and the entries are as they were.
+    #[tactic(auto, using(fast_walk::proofs::Telling::are_kept, fast_nodes::proofs::Messages::early_first))]
     pub fn encode(&mut self, message: &Message, out: &mut Vec<u8>) -> Result<(), EncodeFault>
         ensures written { OnOk result ((bytes : List ℕ) × (out.new.items ≡ out.old.items ++ bytes)
             × CanonMessage (templates_in self.old.set.now) (E.contents self.old.journal.entries)
@@ -93,6 +95,7 @@ impl<'a, E: Entries> Encoder<'a, E> {
     }
 
     /// Begins a new stream, with all entries undefined. Takes no memory.
+    #[tactic(auto, using(fast_walk::proofs::Telling::empty_kept))]
     pub fn reset(&mut self)
         ensures empty { E.contents self.new.journal.entries ≡ finite.empty }
         ensures set { self.new.set ≡ self.old.set }

@@ -114,6 +114,7 @@ impl<'a, W: ByteOutput, E: Entries> MessageOutputStream<'a, W, E> {
 
     /// Begins a new stream of messages behind what is written, with all entries undefined. Where a write has failed it
     /// changes nothing. Takes no memory.
+    #[tactic(auto, using(crate::proofs::Outputs::sent_reset))]
     pub fn reset(&mut self)
         ensures kept { self.old.failed ≡ true → self.new ≡ self.old }
         ensures empty { self.old.failed ≡ false

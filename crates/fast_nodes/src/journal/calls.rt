@@ -9,9 +9,9 @@ ghost use Rattle.fast_stream.specs.Bodies.{written};
 ghost use Rattle.fast_nodes.specs.Added.{CanTryPart, Changed, IsValuePut, NoValuePut, Puts, books_of, of_part};
 ghost use Rattle.fast_writer.specs.Levels.{level_of};
 
-use crate::fault::EncodeFault;
+use crate::fault::{EncodeCause, EncodeFault};
 use crate::journal::{Change, Journal};
-use crate::put::{no_memory, put_part};
+use crate::put::{put_part, refuse};
 use fast_dictionary::{Entries, Entry};
 use fast_template::{FieldPart, Scalar};
 use fast_writer::Segment;
@@ -39,12 +39,13 @@ pub fn put_value<E: Entries>(
     ensures same_keys { E.serves entries.new ≡ E.serves entries.old }
 {
     match entries.entry_mut(&part.key) {
-        Err(_) => Err(no_memory()),
+        Err(_) => Err(refuse(EncodeCause::Memory)),
         Ok(entry) => Ok(put_part(alloc, part, entry, value, level)?),
     }
 }
 
 /// Puts the entry of a part back that was written last. Takes no memory.
+#[tactic(auto, using(crate::proofs::Changes::set_back, crate::proofs::Changes::still_undefined))]
 pub fn put_back<E: Entries>(entries: &mut E, part: &FieldPart, before: Entry)
     requires served { IsTrue (E.serves entries.now part.now.key) }
     ensures back { (d : Dictionary) (v : Option ScalarOf) → before ≡ entry_at d part.now.key
@@ -86,6 +87,7 @@ impl<'a, E: Entries> Journal<'a, E> {
     }
 
     /// Puts back what was changed, the last first. Takes no memory.
+    #[tactic(auto, using(crate::proofs::Changes::changed_last))]
     pub fn put_back(&mut self)
         requires changed { (d : Dictionary) × Changed (E.serves self.now.entries)
             self.now.changes.items d (E.contents self.now.entries) }
@@ -118,7 +120,7 @@ impl<'a, E: Entries> Journal<'a, E> {
             (books_of E.Entries self.new) (level_of level.new) result }
     {
         if self.changes.reserve(1).is_err() {
-            return Err(no_memory());
+            return Err(refuse(EncodeCause::Memory));
         }
         let before = put_value(alloc, &mut self.entries, part, value, level)?;
         self.changes.push(Change { part, before }).unwrap();

@@ -1,12 +1,15 @@
-use Rattle.std.proofs.Common.{rules, ◌≢◌, ◌∙◌, Ok, Err, ap, length, arith}
+use Rattle.std.proofs.Common.{rules, ◌≢◌, ◌∙◌, [], Some, Ok, Err, ap, length, arith}
 use Rattle.std.proofs.lemmas.Result.{err_from_is_err_and}
+use Rattle.fast_value.specs.declared.scalar.Scalar.TheVariants.{I64}
 use Rattle.fast_template.specs.Resolved.{has_map, list_of}
 use Rattle.fast_stream.specs.Nodes.{items_in}
-use Rattle.fast_nodes.specs.Added.{CanTry, books_of}
+use Rattle.fast_nodes.specs.Added.{CanTry, books_of, of_part}
 use Rattle.fast_writer.specs.Levels.{level_of}
 use Rattle.fast_writer.specs.Written.{IsEmpty}
-use Rattle.fast_nodes.proofs.Shapes.{other_number}
-use Rattle.fast_nodes.proofs.Tries.{can_each, can_segment, element_refused, elements_end, elements_next, few_elements, group_put, length_refused, next_of, no_group_put, parts_put, nodes_end, nodes_next, segment_put, sequence_put}
+use Rattle.fast_nodes.proofs.Views.{count_seen, is_absent, is_elements, is_group, is_parts, is_sequence, is_value, other_number}
+use Rattle.fast_nodes.proofs.Tries.{can_each, can_segment, element_refused, elements_end, elements_next, group_put, next_of, nodes_end, nodes_next, puts_then, refused_then, segment_put, sequence_put}
+use Rattle.fast_nodes.proofs.Additions.{no_group_added}
+use Rattle.fast_nodes.proofs.Changes.{goes_same}
 use Rattle.fast_nodes.proofs.nodes.+nodes.Goals as goal
 
 -- ---- nodes in a row
@@ -64,23 +67,30 @@ put_node-returns-in-Ok-ask g t c =
     group_put c.in-Group.members c.in-Group-node-3.nodes _ _ c.put_segment.new.out.items c.put_segment.result c.in-Group.is c.in-Group-node-3.is (rw (c.may_be_absent-in-Group-node-3.ensures) at c.in-Ok-ask.ensures.asked) (rw (c.deref.ensures.value, c.deref-in-Ok-ask.ensures.value) at c.put_segment.ensures)
 
 pub put_node-returns-in-Ok : goal.put_node-returns-in-Ok
-put_node-returns-in-Ok g t c = no_group_put c.in-Group.members c.in-Group.is c.in-Absent-node-2.is c.requires (rw (c.may_be_absent.ensures) at c.in-Ok.ensures.asked)
+put_node-returns-in-Ok g t c =
+    let ready = rw (is_group c.in-Group.members c.in-Group.is, is_absent c.in-Absent-node-2.is) at c.requires in
+    rw (is_group c.in-Group.members c.in-Group.is, is_absent c.in-Absent-node-2.is)
+    (record { adds = no_group_added [] 0 _ (list_of c.in-Group.members.items) ready.fits (rw (c.may_be_absent.ensures) at c.in-Ok.ensures.asked); goes = goes_same })
 
 pub put_node-returns-in_ok-put-in-Decimal : goal.put_node-returns-in_ok-put-in-Decimal
 put_node-returns-in_ok-put-in-Decimal g t c =
     let v = c.in-Decimal in
-    parts_put v.e v.m _ _ c.put-in-Decimal-2.result c.in-Parts.is c.in-Value-node.is v.is (rw (c.exponent_of.ensures) at c.in_ok-put-in-Decimal.ensures) (rw (c.mantissa_of.ensures) at c.put-in-Decimal-2.ensures)
+    rw (is_parts c.in-Parts.is, is_value c.in-Value-node.is, v.is)
+    (puts_then (of_part c.in-Parts.mantissa (Some (I64 v.m))) _ _ c.put-in-Decimal-2.result (rw (c.exponent_of.ensures) at c.in_ok-put-in-Decimal.ensures) (rw (c.mantissa_of.ensures) at c.put-in-Decimal-2.ensures))
 
 -- ---- one sequence
 
-pub put_node-length_of-requires : goal.put_node-length_of-requires
-put_node-length_of-requires g t c = rw (c.deref-elements.ensures.value) (few_elements c.in-Sequence.members c.in-Sequence-node.elements c.in-Sequence.is c.in-Sequence-node.is c.requires)
+pub put_node-overflow_cast-elements : goal.put_node-overflow_cast-elements
+put_node-overflow_cast-elements g t c =
+    let ready = rw (is_sequence c.in-Sequence.members c.in-Sequence.is, is_elements c.in-Sequence-node.elements c.in-Sequence-node.is) at c.requires in
+    let few = rw (count_seen c.in-Sequence-node.elements.items) at ready.small.0 in
+    rw (c.deref-elements.ensures.value) (omega (arith, few))
 
 pub put_node-returns-in_err-put-in-Sequence-node : goal.put_node-returns-in_err-put-in-Sequence-node
 put_node-returns-in_err-put-in-Sequence-node g t c =
     let p = err_from_is_err_and c.from_residual-in_err-put-in-Sequence-node.result c.from_residual-in_err-put-in-Sequence-node.ensures.1 in
-    let part = rw (c.length_of.ensures, c.deref-elements.ensures.value) at c.in_err-put-in-Sequence-node.ensures in
-    rw (p.1 ∙ ap Err p.2) (length_refused c.in-Sequence.members c.in-Sequence-node.elements (level_of c.args.level.now) c.in-Sequence.is c.in-Sequence-node.is part)
+    let part = rw (c.deref-elements.ensures.value) at c.in_err-put-in-Sequence-node.ensures in
+    rw (p.1 ∙ ap Err p.2, is_sequence c.in-Sequence.members c.in-Sequence.is, is_elements c.in-Sequence-node.elements c.in-Sequence-node.is, count_seen c.in-Sequence-node.elements.items) (refused_then _ part)
 
 pub put_node-tell_elements-requires : goal.put_node-tell_elements-requires
 put_node-tell_elements-requires g t c =
@@ -88,6 +98,6 @@ put_node-tell_elements-requires g t c =
 
 pub put_node-returns-in_ok-put-in-Sequence-node : goal.put_node-returns-in_ok-put-in-Sequence-node
 put_node-returns-in_ok-put-in-Sequence-node g t c =
-    let part = rw (c.length_of.ensures, c.deref-elements.ensures.value) at c.in_ok-put-in-Sequence-node.ensures in
+    let part = rw (c.deref-elements.ensures.value) at c.in_ok-put-in-Sequence-node.ensures in
     sequence_put c.in-Sequence.members c.in-Sequence-node.elements _ c.put_elements.new.out.items c.put_elements.result c.in-Sequence.is c.in-Sequence-node.is part
     (rw (c.deref-members.ensures.value, c.deref-elements.ensures.value) at c.put_elements.ensures)

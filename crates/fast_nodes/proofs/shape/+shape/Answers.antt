@@ -1,12 +1,5 @@
-use Rattle.std.proofs.Common.{rules, ◌≢◌, length}
-use Rattle.fast_nodes.proofs.Shapes.{other_number}
 use Rattle.fast_nodes.proofs.Views.{is_elements, is_sequence}
 use Rattle.fast_nodes.proofs.shape.+shape.Goals as goal
-
-pub all_fit-returns-then-flats-nodes : goal.all_fit-returns-then-flats-nodes
-all_fit-returns-then-flats-nodes t c =
-    let other : length c.args.flats.now ≢ length c.args.nodes.now = search rules in
-    other_number c.args.flats.now c.args.nodes.now other
 
 pub fits-returns-in-Sequence-node : goal.fits-returns-in-Sequence-node
 fits-returns-in-Sequence-node t c =

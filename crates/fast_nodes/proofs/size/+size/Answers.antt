@@ -1,10 +1,11 @@
 use Rattle.std.proofs.Common.{rules, ◌≡◌, ◌<◌, ◌≤◌, ◌+◌, ◌∷◌, ◌∙◌, sym, ap, length, drop, inr, None, Some}
 use Rattle.std.specs.Prelude.{nat_lt}
 use Rattle.std.specs.Global.{Vec}
+use Rattle.std.proofs.lemmas.Bool.{lt-ltb, or_left}
 use Rattle.std.proofs.lemmas.List.{drop_more}
 use Rattle.fast_stream.specs.declared.message.Node.{Node}
 use Rattle.fast_nodes.specs.FirstRefusal.{has_large_in}
-use Rattle.fast_nodes.proofs.Sizes.{of_sequence, too_many, none_left, element_refused, all_left}
+use Rattle.fast_nodes.proofs.Sizes.{of_sequence, none_left, element_refused, all_left}
 use Rattle.fast_nodes.proofs.Views.{seen}
 use Rattle.fast_nodes.proofs.size.+size.Goals as goal
 
@@ -12,7 +13,7 @@ pub left_behind-returns-then-len-gt-SIZE_LIMIT : goal.left_behind-returns-then-l
 left_behind-returns-then-len-gt-SIZE_LIMIT t c =
     let es = c.in-Sequence.elements in
     let many : 65535 < length es.items = search rules in
-    of_sequence es c.args.node.now c.args.left None c.in-Sequence.is (inr (too_many (length es.items) (has_large_in (seen es.items)) many))
+    of_sequence es c.args.node.now c.args.left None c.in-Sequence.is (inr (or_left (nat_lt 65535 (length es.items)) (has_large_in (seen es.items)) (lt-ltb 65535 (length es.items) many)))
 
 pub left_behind-returns-then-left-eq0-2 : goal.left_behind-returns-then-left-eq0-2
 left_behind-returns-then-left-eq0-2 t c =

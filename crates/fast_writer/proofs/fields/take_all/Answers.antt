@@ -1,7 +1,7 @@
 use Rattle.std.proofs.Common.{◌≡◌, ◌-◌, None, Some, arith, length, refl, sym, ◌∙◌}
 use Rattle.fast_value.specs.declared.kind.Part.TheVariants as part
 use Rattle.fast_walk.proofs.Telling.{told_part}
-use Rattle.fast_writer.proofs.Takings.{behind_whole, ahead, none_ahead, served_ahead, took_mantissa, took_next, took_none, took_stays}
+use Rattle.fast_writer.proofs.Takings.{ahead, none_ahead, served_ahead, took_mantissa, took_next, took_none}
 use Rattle.fast_writer.proofs.fields.take_all.Goals as goal
 
 pub pieces-init : goal.pieces-init
@@ -29,7 +29,7 @@ pieces-preserved-in-Part g c =
       others = rw (front.next) front.later_is;
       run = taken.run;
       took = rw (front.next, one.same_keys)
-          (took_next None None front taken inv.took (rw (first.field-0-1-is) at first.ensures.begins) (sym (behind_whole c.in-Part._there None refl)) tt);
+          (took_next None None front taken inv.took (rw (first.field-0-1-is) at first.ensures.begins) refl tt);
       same_keys = one.same_keys ∙ inv.same_keys;
     }
 
@@ -80,7 +80,7 @@ returns-in-Elsewhere-take_part-2-clause-took g c =
     let same = c.in-Elsewhere-take_part-2.ensures.taken in
     let took = rw (inv.same_keys) at inv.took in
     let next = (rw (first.field-0-1-is) at (first.ensures.served serves (served_ahead serves front took.served).0)).2 in
-    took_stays same.same same.segment same.left same.run.place
+    rw (same.same, same.segment, same.left, same.run.place)
     (took_next m m front c.in-Part-true.ensures.taken took (rw (first.field-0-1-is) at first.ensures.begins) (rw (c.in-Part-true.field-0-test) refl) next)
 
 pub returns-clause-took : goal.returns-clause-took

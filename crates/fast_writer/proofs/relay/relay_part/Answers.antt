@@ -3,11 +3,7 @@ use Rattle.std.specs.Result.{is_ok}
 use Rattle.std.proofs.lemmas.Result.{err_from_is_err_and}
 use Rattle.fast_writer.specs.Levels.{level_of}
 use Rattle.fast_writer.proofs.Relays.{relays_under, stops_under}
-use Rattle.fast_walk.proofs.Telling.{kept_hold}
 use Rattle.fast_writer.proofs.relay.relay_part.Goals as goal
-
-pub relay_generally-requires-clause-entry : goal.relay_generally-requires-clause-entry
-relay_generally-requires-clause-entry g c = rw (c.in_ok-entry.ensures.value) (kept_hold (g.E.Entries.contents c.args.entries.now) c.requires.kept c.args.part.now.key)
 
 pub returns-in_err-there-clause-relays : goal.returns-in_err-there-clause-relays
 returns-in_err-there-clause-relays g c =

@@ -1,12 +1,24 @@
-use Rattle.std.proofs.Common.{rules, drop, inl, inr, refl, sym, ◌∙◌}
+use Rattle.std.proofs.Common.{◌≡◌, ℕ, zero, suc, Bool, true, false, List, [], ◌∷◌, rules, drop, inl, inr, refl, sym, ◌∙◌}
 use Rattle.fast_wire.specs.declared.fault.WireFault.TheVariants as fault
-use Rattle.fast_writer.proofs.Rooms.{has_set_of, none_set_of}
+use Rattle.fast_wire.specs.PresenceMap.{bit_at, HasSetBit}
+use Rattle.fast_writer.specs.Written.{has_set}
 use Rattle.fast_writer.proofs.segment.Segment.seal.Goals.{then-self+in-Ok, else-self}
 use Rattle.fast_writer.proofs.segment.Segment.seal.Goals as goal
 
+set_at : (bits : List Bool) (i : ℕ) → bit_at bits i ≡ true → has_set bits ≡ true
+set_at [] i h = absurd cc
+set_at (true ∷ bits) i h = refl
+set_at (false ∷ bits) zero h = absurd cc
+set_at (false ∷ bits) (suc i) h = set_at bits i h
+
+none_set_of : (bits : List Bool) → (HasSetBit bits → ⊥) → has_set bits ≡ false
+none_set_of [] h = refl
+none_set_of (true ∷ bits) h = absurd (h (zero, refl))
+none_set_of (false ∷ bits) h = none_set_of bits (λ s. h (suc s.0, s.1))
+
 pub returns-in-Err-TooLong-clause-refused : goal.returns-in-Err-TooLong-clause-refused
 returns-in-Err-TooLong-clause-refused c = elim c.in-Err-TooLong.ensures.err [
-  | inl many ↦ inr (refl, rw (c.if-self.true, has_set_of (drop 1792 c.args.self.now.bits) many.1) refl)
+  | inl many ↦ inr (refl, rw (c.if-self.true, set_at (drop 1792 c.args.self.now.bits) many.1.0 many.1.1) refl)
   | inr memory ↦ absurd (let both = sym c.in-Err-TooLong.field-0-is ∙ memory.0 in cc)
 ]
 

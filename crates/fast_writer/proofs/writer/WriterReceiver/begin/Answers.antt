@@ -1,4 +1,4 @@
-use Rattle.std.proofs.Common.{refl, ap, map, rules, ◌≡◌}
+use Rattle.std.proofs.Common.{true, refl, ap, map, rules, ◌≡◌}
 use Rattle.fast_stream.specs.Streams.{identifier}
 use Rattle.fast_writer.specs.Levels.{level_of}
 use Rattle.fast_writer.proofs.Writers.{has_opened}
@@ -7,18 +7,14 @@ use Rattle.fast_writer.proofs.writer.WriterReceiver.begin.Goals as goal
 
 pub returns-clause-goes : goal.returns-clause-goes
 returns-clause-goes g c =
+    let old = c.args.self.now in
     let d = g.E.Entries.contents c.args.entries.now in
-    let e = g.E.Entries.contents c.relay_identifier.new.entries in
     let named : c.args.identifier.now ≡ identifier = search rules in
     let relays = rw (c.in-Some.is) at c.in_ok-id.ensures.relays in (
       relays.took,
-      λ set ms members stands. (
-        stands,
-        has_opened (map level_of c.clear.new.self) (level_of c.begin.new.self) (level_of c.relay_identifier.new.segment) set ms c.in-Some.id members d e
-            (ap (map level_of) c.clear.ensures) (record { bits = c.begin.ensures.bits; own_is = c.begin.ensures.own; bytes = c.begin.ensures.bytes }) (rw (named) at relays.took.entry) (rw (named) at relays.spelt),
-      ),
+      λ set ms members stands. has_opened old.out.items (map level_of c.clear.new.self) (level_of c.begin.new.self) (level_of c.relay_identifier.new.segment) set ms c.in-Some.id members d _
+          (ap (map level_of) c.clear.ensures) c.begin.ensures (rw (named) at relays.took.entry) (rw (named) at relays.spelt) stands,
     )
 
 pub returns-clause-room : goal.returns-clause-room
-returns-clause-room g c = λ left is few.
-    rw (c.in_ok-id.ensures.relays.room left is (fresh_room (level_of c.begin.new.self) left c.begin.ensures.bits few), c.clear.ensures) refl
+returns-clause-room g c = λ left is few. rw (c.clear.ensures) (c.in_ok-id.ensures.relays.room true left is (fresh_room (level_of c.begin.new.self) left true c.begin.ensures.bits few refl))

@@ -1,24 +1,15 @@
 use Rattle.std.proofs.Common.{map}
 use Rattle.std.proofs.lemmas.Result.{MatchResult-weaker}
 use Rattle.fast_writer.specs.Levels.{level_of}
-use Rattle.fast_writer.proofs.Writers.{length_finished, has_length}
+use Rattle.fast_writer.proofs.Writers.{has_length}
 use Rattle.fast_writer.specs.Room.{have_room}
-use Rattle.fast_writer.proofs.MapRoom.{inner_room}
 use Rattle.fast_writer.proofs.writer.WriterReceiver.begin_sequence.Goals as goal
 
 pub returns-clause-goes : goal.returns-clause-goes
 returns-clause-goes g c = MatchResult-weaker c.relay_length.result c.relay_length.ensures.relays (λ y r.
     let old = c.args.self.now in
     let d = g.E.Entries.contents c.args.entries.now in
-    let e = g.E.Entries.contents c.relay_length.new.entries in
-    let n = y.0 in (
-      r.took,
-      λ number members is o next first has. (
-        length_finished n old.out.items o number members is has.0,
-        has_length n (map level_of old.outer) (level_of old.inner) (level_of c.relay_length.new.segment) o c.args._name.now number c.args._presence c.args.part.now members is d e next first r.took.entry r.spelt has.1,
-      ),
-    )) (λ f stops. tt)
+    (r.took, λ number members is o next first. has_length y.0 old.out.items (map level_of old.outer) (level_of old.inner) (level_of c.relay_length.new.segment) o c.args._name.now number c.args._presence c.args.part.now members is d _ next first r.took.entry r.spelt)) (λ f stops. tt)
 
 pub returns-clause-room : goal.returns-clause-room
-returns-clause-room g c = MatchResult-weaker c.relay_length.result c.relay_length.ensures.relays (λ y r around left is.
-    inner_room _ _ (have_room (map level_of c.args.self.now.outer) around) (r.room left is)) (λ f stops. tt)
+returns-clause-room g c = MatchResult-weaker c.relay_length.result c.relay_length.ensures.relays (λ y r around. r.room (have_room (map level_of c.args.self.now.outer) around)) (λ f stops. tt)

@@ -2,24 +2,19 @@ use Rattle.std.proofs.Common.{true, sym, map}
 use Rattle.fast_writer.specs.Levels.{level_of}
 use Rattle.fast_writer.proofs.Writers.{has_entered}
 use Rattle.fast_stream.specs.Bits.{after_bit}
-use Rattle.fast_writer.specs.Room.{has_room, have_room}
-use Rattle.fast_writer.proofs.MapRoom.{asked_room, both_room, fresh_room, push_room}
+use Rattle.fast_writer.specs.Room.{have_room}
+use Rattle.fast_writer.proofs.MapRoom.{asked_room, opened_room}
 use Rattle.fast_writer.proofs.writer.WriterReceiver.enter.Goals as goal
 
 pub returns-clause-has : goal.returns-clause-has
-returns-clause-has c = λ number presence members is bits o d next first optional own has.
+returns-clause-has c = λ number presence members is bits o d next first optional own.
     let old = c.args.self.now in
-    let new = c.open.new.self in (
-      rw (c.open.ensures.out) has.0,
-      has_entered (map level_of old.outer) (map level_of new.outer) (level_of old.inner) (level_of c.ask.new.self) (level_of new.inner) o c.args._name.now number presence members is bits d c.args.optional
-          next first optional c.in_ok-ask.ensures.asked c.in_ok-open.ensures.outer (rw (own) at c.in_ok-open.ensures.begun) has.1,
-    )
+    let new = c.open.new.self in
+    rw (c.open.ensures.out) (has_entered old.out.items (map level_of old.outer) (map level_of new.outer) (level_of old.inner) (level_of c.ask.new.self) (level_of new.inner) o c.args._name.now number presence members is bits d c.args.optional
+    next first optional c.in_ok-ask.ensures.asked c.in_ok-open.ensures.outer (rw (own) at c.in_ok-open.ensures.begun))
 
 pub returns-clause-room : goal.returns-clause-room
 returns-clause-room c = λ around left bits bit few room.
     let old = c.args.self.now in
-    let new = c.open.new.self in
-    let r = both_room (has_room (level_of old.inner) left) (have_room (map level_of old.outer) around) room in
-    let asked = asked_room c.args.optional true true (level_of old.inner) (level_of c.ask.new.self) left (sym bit) (λ e. absurd cc) c.in_ok-ask.ensures.asked.bits c.in_ok-ask.ensures.asked.own r.0 in
-    rw (fresh_room (level_of new.inner) bits c.in_ok-open.ensures.begun.bits few, c.in_ok-open.ensures.outer)
-    (push_room (map level_of old.outer) around (level_of c.ask.new.self) (after_bit c.args.optional left) r.1 asked)
+    let asked = asked_room c.args.optional true true (level_of old.inner) (level_of c.ask.new.self) left (have_room (map level_of old.outer) around) (sym bit) (λ e. absurd cc) c.in_ok-ask.ensures.asked.bits c.in_ok-ask.ensures.asked.own room in
+    opened_room (map level_of old.outer) (map level_of c.open.new.self.outer) around (level_of c.ask.new.self) (level_of c.open.new.self.inner) (after_bit c.args.optional left) bits c.in_ok-open.ensures.outer c.in_ok-open.ensures.begun.bits few asked

@@ -2,28 +2,22 @@ use Rattle.std.proofs.Common.{map}
 use Rattle.std.proofs.lemmas.Result.{MatchResult-weaker}
 use Rattle.fast_walk.specs.Received.{exponent_of}
 use Rattle.fast_writer.specs.Levels.{level_of}
-use Rattle.fast_writer.proofs.QuickWays.{exponent_there}
-use Rattle.fast_writer.proofs.Writers.{exponent_finished, has_exponent, is_exponent}
+use Rattle.fast_writer.proofs.SpeltParts.{exponent_there}
+use Rattle.fast_writer.proofs.Writers.{has_exponent, is_exponent}
 use Rattle.fast_writer.specs.Room.{have_room}
-use Rattle.fast_writer.proofs.MapRoom.{inner_room}
 use Rattle.fast_writer.proofs.writer.WriterReceiver.exponent.Goals as goal
 
 pub returns-clause-goes : goal.returns-clause-goes
 returns-clause-goes g c = MatchResult-weaker c.relay_part.result c.relay_part.ensures.relays (λ y r.
     let old = c.args.self.now in
     let d = g.E.Entries.contents c.args.entries.now in
-    let e = g.E.Entries.contents c.relay_part.new.entries in
     let x = exponent_there c.args.part.now.kind y.0 r.0 c.requires.told.kind_is r.1 in
     let took = rw (x.1) at r.2.took in (
       exponent_of x.0,
       took,
       is_exponent x.0 y.0 x.2,
-      λ number mantissa is o next first has. (
-        exponent_finished x.0 old.out.items o is mantissa has.0,
-        has_exponent x.0 (map level_of old.outer) (level_of old.inner) (level_of c.relay_part.new.segment) o c.args._name.now number c.args._presence c.args.part.now mantissa is d e next first took.entry (rw (x.1) at r.2.spelt) has.1,
-      ),
+      λ number mantissa is o next first. has_exponent x.0 old.out.items (map level_of old.outer) (level_of old.inner) (level_of c.relay_part.new.segment) o c.args._name.now number c.args._presence c.args.part.now mantissa is d _ next first took.entry (rw (x.1) at r.2.spelt),
     )) (λ f stops. tt)
 
 pub returns-clause-room : goal.returns-clause-room
-returns-clause-room g c = MatchResult-weaker c.relay_part.result c.relay_part.ensures.relays (λ y r around left is.
-    inner_room _ _ (have_room (map level_of c.args.self.now.outer) around) (r.2.room left is)) (λ f stops. tt)
+returns-clause-room g c = MatchResult-weaker c.relay_part.result c.relay_part.ensures.relays (λ y r around. r.2.room (have_room (map level_of c.args.self.now.outer) around)) (λ f stops. tt)

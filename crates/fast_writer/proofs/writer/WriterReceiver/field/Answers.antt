@@ -1,29 +1,15 @@
 use Rattle.std.proofs.Common.{map}
 use Rattle.fast_writer.specs.Levels.{level_of}
 use Rattle.fast_writer.proofs.Writers.{has_field}
-use Rattle.fast_value.specs.declared.kind.Part.TheVariants as part
-use Rattle.fast_walk.proofs.Telling.{told_part}
 use Rattle.fast_writer.specs.Room.{have_room}
-use Rattle.fast_writer.proofs.MapRoom.{inner_room}
 use Rattle.fast_writer.proofs.writer.WriterReceiver.field.Goals as goal
 
 pub returns-clause-goes : goal.returns-clause-goes
 returns-clause-goes g c =
     let old = c.args.self.now in
     let d = g.E.Entries.contents c.args.entries.now in
-    let e = g.E.Entries.contents c.relay_part.new.entries in
-    let r = c.in_ok-_there.ensures.relays in (
-      r.0,
-      r.2.took,
-      λ number is o next first has. (
-        has.0,
-        has_field (map level_of old.outer) (level_of old.inner) (level_of c.relay_part.new.segment) o c.args._name.now number c.args._presence c.args.part.now is d e r.0 next first r.2.took.entry r.2.spelt has.1,
-      ),
-    )
-
-pub relay_part-requires-clause-part : goal.relay_part-requires-clause-part
-relay_part-requires-clause-part g c = told_part part.Whole c.args.part.now.kind c.args.part.now tt c.requires.told
+    let r = c.in_ok-_there.ensures.relays in
+    (r.0, r.2.took, λ number is o next first. has_field old.out.items (map level_of old.outer) (level_of old.inner) (level_of c.relay_part.new.segment) o c.args._name.now number c.args._presence c.args.part.now is d _ r.0 next first r.2.took.entry r.2.spelt)
 
 pub returns-clause-room : goal.returns-clause-room
-returns-clause-room g c = λ around left is.
-    inner_room _ _ (have_room (map level_of c.args.self.now.outer) around) (c.in_ok-_there.ensures.relays.2.room left is)
+returns-clause-room g c = λ around. c.in_ok-_there.ensures.relays.2.room (have_room (map level_of c.args.self.now.outer) around)
