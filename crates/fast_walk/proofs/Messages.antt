@@ -1,5 +1,5 @@
 -- Reading a message piece by piece: a step in front of what is read behind it, and where nothing is read.
-use Rattle.std.proofs.Common.{◌≡◌, ◌≢◌, ◌≤◌, ◌<◌, ◌++◌, ℕ, true, List, [], Result, Ok, Err, length, drop, refl, sym, ap, subst, ◌∙◌, inl, inr, arith}
+use Rattle.std.proofs.Common.{◌≡◌, ◌≢◌, ◌≤◌, ◌++◌, ℕ, true, List, [], Result, Ok, Err, length, drop, refl, sym, ap, subst, ◌∙◌, inl, inr, arith}
 use Rattle.fast_template.specs.Resolved.{list_of, no_instructions}
 use Rattle.fast_template.specs.TemplateSets.{templates_in}
 use Rattle.fast_wire.specs.Level.{IsLeftClear, some_set}
@@ -10,7 +10,7 @@ use Rattle.fast_stream.specs.declared.fault.Cause.TheVariants.{Truncated, Memory
 use Rattle.fast_stream.specs.Nodes.{Content, Items, items_of}
 use Rattle.fast_stream.specs.Reading.{Reads, message_at}
 use Rattle.fast_stream.specs.Streams.{identifier}
-use Rattle.fast_walk.specs.Messages.{CanRead, IsStep, LeftOf, MessageRead, MessageStops, ReadsMessage}
+use Rattle.fast_walk.specs.Messages.{CanRead, IsStep, LeftOf, MapRead, MessageRead, MessageStops, ReadsMessage}
 use Rattle.fast_walk.specs.OpenSegments.{Reading, at_instruction, cursor, message_of}
 use Rattle.fast_walk.specs.Pieces.{Holds}
 use Rattle.fast_walk.specs.Received.{Carries, Completes}
@@ -100,19 +100,24 @@ module _ {R E : Type 0} {receiver : Receiving R} {entries : Ghosts E} {t : Trave
   read_behind v q f (Err x) step read = stops_behind step read
 
   -- a message's map is the first step
-  pub map_step : {m : ℕ} {u : TraversalNow} → t.stage ≡ stage.Map → (at < m) × (m ≤ length bytes) → u.stage ≡ stage.Identifier → u.level ≡ t.level → u.set ≡ t.set
-      → ((d : Dictionary) (more : List ℕ) → message_at t.level (templates_in t.set.now) d (drop at bytes ++ more) ≡ identifier_on t.level (templates_in t.set.now) d u.walk.bits (drop m bytes ++ more))
-      → IsStep receiver entries t r d bytes at m u r d
-  map_step {m = m} {u = u} map place next level same goes = record {
-    place = (let p = place.0 in omega (arith, p), place.1);
-    took = λ other. place.0;
-    inside = λ other. let k : stage.Identifier ≡ stage.Map = sym next ∙ other in absurd cc;
+  map_read : {m : ℕ} {u : TraversalNow} → t.stage ≡ stage.Map → MapRead t bytes at m u → IsStep receiver entries t r d bytes at m u r d
+  map_read {m = m} {u = u} map read = record {
+    place = (let p = read.place.0 in omega (arith, p), read.place.1);
+    took = λ other. read.place.0;
+    inside = λ other. let k : stage.Identifier ≡ stage.Map = sym read.stage ∙ other in absurd cc;
     leaves = λ before start now was.
         let s = rw map at was in
         let set = templates_in t.set.now in
         let later = identifier_on t.level set (entries.contents d) u.walk.bits in
-        (later, rw (next, level, same) (record { stands = s.stands; start_is = s.start_is; reads = λ bytes. refl }), λ more. s.reads (drop at bytes ++ more) ∙ goes (entries.contents d) more);
+        (later, rw (read.stage, read.level, read.set) (record { stands = s.stands; start_is = s.start_is; reads = λ bytes. refl }), λ more. s.reads (drop at bytes ++ more) ∙ read.goes (entries.contents d) more);
   }
+
+  pub read_behind_map : {m : ℕ} {u : TraversalNow} (v : TraversalNow) (q : R) (f : E) (result : Result ℕ (ℕ × Halt)) → CanRead receiver entries t r d → t.stage ≡ stage.Map → MapRead t bytes at m u → ReadsMessage receiver entries u r d bytes m result v q f
+      → ReadsMessage receiver entries t r d bytes at result v q f
+  read_behind_map v q f result can map read behind = read_behind v q f result (map_read map read) behind
+
+  pub map_can : {m : ℕ} {u : TraversalNow} → t.stage ≡ stage.Map → MapRead t bytes at m u → CanRead receiver entries t r d → CanRead receiver entries u r d
+  map_can map read can = record { ready = rw (read.stage) (read.template ∙ rw map at can.ready, read.spare); kept = can.kept; room = rw (read.stage) read.room }
 
   -- a message's map is not read
   pub map_stops : {u : TraversalNow} {h : Halt} → t.stage ≡ stage.Map → at ≤ length bytes → CanRead receiver entries t r d

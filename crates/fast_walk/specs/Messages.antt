@@ -1,11 +1,15 @@
 -- What reading the next message comes to.
-use Rattle.std.specs.Prelude.{◌≡◌, ◌≢◌, ◌≤◌, ◌<◌, ◌+◌, ℕ, List, Result, Ok, Err, length, drop}
+use Rattle.std.specs.Prelude.{◌≡◌, ◌≢◌, ◌≤◌, ◌<◌, ◌+◌, ◌++◌, ℕ, List, Result, Ok, Err, length, drop}
 use Rattle.fast_template.specs.TemplateSets.{templates_in}
+use Rattle.fast_wire.specs.Sizes.{CanBeMap}
+use Rattle.fast_dictionary.specs.Dictionary.{Dictionary}
 use Rattle.fast_dictionary.specs.declared.entries.Entries.{Ghosts}
 use Rattle.fast_stream.specs.declared.fault.Cause.TheVariants.{Truncated, Memory}
+use Rattle.fast_stream.specs.Nodes.{node_limit}
+use Rattle.fast_stream.specs.Reading.{message_at}
 use Rattle.fast_walk.specs.Room.{HasRoomAt}
 use Rattle.fast_walk.specs.Told.{KeepScalars}
-use Rattle.fast_walk.specs.Traversals.{CanGoOn, Continues, Finishes, KeepsBefore, LeavesOn, Left, StopsAt}
+use Rattle.fast_walk.specs.Traversals.{CanGoOn, Continues, Finishes, KeepsBefore, LeavesOn, Left, StopsAt, identifier_on}
 use Rattle.fast_walk.specs.declared.halt.Halt.{Halt}
 use Rattle.fast_walk.specs.declared.receiver.Receiver.{Ghosts as Receiving}
 use Rattle.fast_walk.specs.declared.traversal.Stage.TheVariants as stage
@@ -26,6 +30,18 @@ pub record IsSameSet {E : Type 0} (entries : Ghosts E) (t : TraversalNow) (d : E
   pub set : u.set ≡ t.set
   pub level : u.level ≡ t.level
   pub same_keys : entries.serves e ≡ entries.serves d
+
+-- A message's map is read, up to a place.
+pub record MapRead (t : TraversalNow) (bytes : List ℕ) (at n : ℕ) (u : TraversalNow) : Type 0 where
+  pub place : (at < n) × (n ≤ length bytes)
+  pub goes : (d : Dictionary) (more : List ℕ)
+      → message_at t.level (templates_in t.set.now) d (drop at bytes ++ more) ≡ identifier_on t.level (templates_in t.set.now) d u.walk.bits (drop n bytes ++ more)
+  pub stage : u.stage ≡ stage.Identifier
+  pub template : u.template ≡ t.template
+  pub spare : u.walk.spare ≡ node_limit
+  pub room : CanBeMap u.walk.bits
+  pub set : u.set ≡ t.set
+  pub level : u.level ≡ t.level
 
 -- Reading has gone on from one place to another, inside a message.
 pub record IsStep {R E : Type 0} (receiver : Receiving R) (entries : Ghosts E) (t : TraversalNow) (r : R) (d : E) (bytes : List ℕ) (at n : ℕ) (u : TraversalNow) (s : R) (e : E) : Type 0 where

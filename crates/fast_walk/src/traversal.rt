@@ -51,8 +51,8 @@ pub struct Traversal<'a> {
 }
 
 impl<'a> Traversal<'a> {
-    ghost use Rattle.fast_walk.specs.Messages.{CanRead, IsSameSet, ReadsMessage};
-    ghost use Rattle.fast_walk.specs.Traversals.{ServesAll, begun_of};
+    ghost use Rattle.fast_walk.specs.Messages.{CanRead, IsSameSet, IsStep, MapRead, MessageStops, ReadsMessage};
+    ghost use Rattle.fast_walk.specs.Traversals.{ServesAll, begun_of, stop_of};
 
     /// At the beginning of a stream. Takes no memory.
     pub fn new(alloc: Global, set: &'a TemplateSet, level: Level) -> Traversal<'a>
@@ -128,6 +128,61 @@ impl<'a> Traversal<'a> {
         self.template = 0;
     }
 
+    // Reads a message's map.
+    #[inline(always)]
+    fn map(&mut self, bytes: &[u8], at: usize) -> Result<usize, Halt>
+        requires place { at ≤ length bytes.now }
+        ensures { MatchResult result (λ n. MapRead self.old bytes.now at n self.new)
+            (λ h. (self.new ≡ self.old) × (h.cause ≢ Cause.Memory → (d : Dictionary)
+            → message_at self.old.level (templates_in self.old.set.now) d (drop at bytes.now)
+            ≡ Err (stop_of 0 h (drop at bytes.now)))) }
+    {
+        let (bits, next) = read_own_map(self.alloc, 0, true, self.level, bytes, at)?;
+        // the rest of the walk begins with the body, in the memory of the last one
+        self.walk.bits = bits;
+        self.walk.spare = NODE_LIMIT;
+        self.stage = Stage::Identifier;
+        Ok(next)
+    }
+
+    // Reads a message's identifier, and opens the body of the template that it names.
+    #[inline(always)]
+    fn identifier<R: Receiver, E: Entries>(
+        &mut self,
+        receiver: &mut R,
+        entries: &mut E,
+        bytes: &[u8],
+        at: usize,
+    ) -> Result<usize, Halt>
+        requires place { at ≤ length bytes.now }
+        requires stage { self.now.stage ≡ Stage.Identifier }
+        requires served { ServesAll (E.serves entries.now) self.now.set.now }
+        requires can { CanRead R.Receiver E.Entries self.now receiver.now entries.now }
+        ensures reads { MatchResult result
+            (λ n. IsStep R.Receiver E.Entries self.old receiver.old entries.old bytes.now at n self.new receiver.new entries.new)
+            (λ h. MessageStops R.Receiver E.Entries self.old receiver.old entries.old bytes.now at (at, h) self.new receiver.new entries.new) }
+        ensures stage { OnOk result (self.new.stage ≡ Stage.Body) }
+        ensures can { OnOk result (CanRead R.Receiver E.Entries self.new receiver.new entries.new) }
+        ensures same { IsSameSet E.Entries self.old entries.old self.new entries.new }
+    {
+        let needs = part_needs_bit(&self.identifier);
+        let bit = first_for(&self.walk.bits, needs);
+        let level = self.level();
+        match receiver.begin(self.alloc, entries, &self.identifier, bit, level, bytes, at) {
+            Err(fault) => Err(part_halt(&self.identifier, fault)),
+            Ok((id, next)) => match self.set.find(id) {
+                None => Err(Halt::new(Cause::D9, 0)),
+                Some(template) => {
+                    self.set_is_sound();
+                    self.template = id;
+                    self.walk.open_message(needs, &template.members);
+                    self.stage = Stage::Body;
+                    Ok(next)
+                }
+            },
+        }
+    }
+
     // Reads what is left of a message's body, and ends it.
     #[inline(always)]
     fn body<R: Receiver, E: Entries>(
@@ -160,7 +215,8 @@ impl<'a> Traversal<'a> {
         }
     }
 
-    // Reads a message from its identifier on, in the body of the template that it names.
+    // Reads a message from its identifier on.
+    #[tactic(auto, using(crate::proofs::Messages::read_behind))]
     #[inline(always)]
     fn behind_map<R: Receiver, E: Entries>(
         &mut self,
@@ -177,26 +233,15 @@ impl<'a> Traversal<'a> {
             self.new receiver.new entries.new }
         ensures same { IsSameSet E.Entries self.old entries.old self.new entries.new }
     {
-        let needs = part_needs_bit(&self.identifier);
-        let bit = first_for(&self.walk.bits, needs);
-        let level = self.level();
-        match receiver.begin(self.alloc, entries, &self.identifier, bit, level, bytes, at) {
-            Err(fault) => Err((at, part_halt(&self.identifier, fault))),
-            Ok((id, next)) => match self.set.find(id) {
-                None => Err((at, Halt::new(Cause::D9, 0))),
-                Some(template) => {
-                    self.set_is_sound();
-                    self.template = id;
-                    self.walk.open_message(needs, &template.members);
-                    self.stage = Stage::Body;
-                    self.body(receiver, entries, bytes, next)
-                }
-            },
+        match self.identifier(receiver, entries, bytes, at) {
+            Err(halt) => Err((at, halt)),
+            Ok(next) => self.body(receiver, entries, bytes, next),
         }
     }
 
     // Reads the next message from its map on, or from its identifier on where that is next. (A function of its own: where
     // a body is next, nothing of this is set up.)
+    #[tactic(auto, using(crate::proofs::Messages::map_can, crate::proofs::Messages::read_behind_map))]
     #[inline(never)]
     fn begin<R: Receiver, E: Entries>(
         &mut self,
@@ -214,15 +259,9 @@ impl<'a> Traversal<'a> {
         ensures same { IsSameSet E.Entries self.old entries.old self.new entries.new }
     {
         match self.stage {
-            Stage::Map => match read_own_map(self.alloc, 0, true, self.level, bytes, at) {
+            Stage::Map => match self.map(bytes, at) {
                 Err(halt) => Err((at, halt)),
-                Ok((bits, next)) => {
-                    // the rest of the walk begins with the body, in the memory of the last one
-                    self.walk.bits = bits;
-                    self.walk.spare = NODE_LIMIT;
-                    self.stage = Stage::Identifier;
-                    self.behind_map(receiver, entries, bytes, next)
-                }
+                Ok(next) => self.behind_map(receiver, entries, bytes, next),
             },
             Stage::Identifier => self.behind_map(receiver, entries, bytes, at),
             Stage::Body => unreachable!(),

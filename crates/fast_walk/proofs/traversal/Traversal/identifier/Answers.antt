@@ -11,7 +11,7 @@ use Rattle.fast_walk.specs.Received.{opened}
 use Rattle.fast_walk.specs.Walks.{next_of, reads_on, frame_of}
 use Rattle.fast_walk.proofs.Heads.{identifier_goes, unknown_stops}
 use Rattle.fast_walk.proofs.Heads.{identifier_stops as part_stops}
-use Rattle.fast_walk.proofs.Messages.{identifier_stops, read_behind}
+use Rattle.fast_walk.proofs.Messages.{identifier_stops}
 use Rattle.fast_walk.proofs.Serving.{found_members, members_served}
 use Rattle.fast_value.specs.declared.kind.Kind.TheVariants as kind
 use Rattle.fast_value.specs.declared.kind.Part.TheVariants as part
@@ -19,7 +19,7 @@ use Rattle.fast_value.specs.declared.scalar.Scalar.TheVariants.{U32}
 use Rattle.fast_walk.proofs.ShortWalks.{want_of_bytes}
 use Rattle.fast_walk.specs.declared.traversal.Stage.TheVariants as stage
 use Rattle.fast_walk.proofs.Telling.{asked_for, identifier_told, told_keeps}
-use Rattle.fast_walk.proofs.traversal.Traversal.behind_map.Goals as goal
+use Rattle.fast_walk.proofs.traversal.Traversal.identifier.Goals as goal
 
 abbrev members_found : Option FlatTemplate → Option Instructions
 members_found o = option_map (λ (f : FlatTemplate). list_of f.members.items) o
@@ -59,7 +59,7 @@ returns-in-Some-clause-reads g c =
     let named = found_members old.set.now id ∙ ap members_found (sym (rw (c.in-Some.is) at c.find.ensures.value)) in
     let walk = c.open_message.new.self in
     let end = c.open_message.ensures in
-    read_behind _ _ _ c.body.result (record {
+    record {
       place = c.in-Ok.ensures.place;
       took = λ map. let k : stage.Identifier ≡ stage.Map = sym c.requires.stage ∙ map in absurd cc;
       inside = λ map. absurd cc;
@@ -81,10 +81,10 @@ returns-in-Some-clause-reads g c =
             λ more. s.reads (drop c.args.at c.args.bytes.now ++ more) ∙ rw (end.bits, end.spare, (rw (c.requires.stage) at c.requires.can.ready).1, c.part_needs_bit-needs.ensures, old.identifier_is)
                 (identifier_goes old.level set d e old.walk.bits (drop c.args.at c.args.bytes.now) (drop c.in-Ok.next c.args.bytes.now) more id members took named),
           );
-    }) c.body.ensures.reads
+    }
 
-pub body-requires-clause-can : goal.body-requires-clause-can
-body-requires-clause-can g c =
+pub returns-in-Some-clause-can : goal.returns-in-Some-clause-can
+returns-in-Some-clause-can g c =
     let old = c.args.self.now in
     let id = c.in-Ok.id in
     let members = list_of c.in-Some.template.now.members.items in
