@@ -18,7 +18,7 @@ ghost use Rattle.fast_walk.specs.Told.{IsTold};
 
 use fast_dictionary::{Entries, Entry};
 use fast_field::{FieldFault, Found, pass_found, read_in_place, reads_as_usual};
-use fast_relay::{take_kept_number, take_number};
+use fast_relay::{keeps_value, take_kept_number, take_number};
 use fast_template::{FieldPart, Kind, Operator, Part, Scalar};
 use fast_wire::Level;
 use std::alloc::{AllocError, Global};
@@ -105,11 +105,12 @@ fn take_value(
         return Ok((value, at));
     }
     if bit && reads_as_usual(level, part, bytes, at) {
-        if let Some(next) = take_kept_number(part, entry, bytes, at) {
-            let value = copied(alloc, Found::Kept.value(part, entry.view()))?;
-            return Ok((value, next));
-        }
-        if let Some((value, next)) = take_number(part, bytes, at) {
+        if keeps_value(part.operator) {
+            if let Some(next) = take_kept_number(part, entry, bytes, at) {
+                let value = copied(alloc, Found::Kept.value(part, entry.view()))?;
+                return Ok((value, next));
+            }
+        } else if let Some((value, next)) = take_number(part, bytes, at) {
             return Ok((Some(value), next));
         }
     }

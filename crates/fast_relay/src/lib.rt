@@ -7,8 +7,8 @@
 //! in one byte that no entry keeps. Where nothing has changed the field goes the general way of `fast_field`: `find_field`
 //! and `write_found`.
 //!
-//! For those who make messages or tell them [`take_kept`] reads a value that its entry keeps ([`take_kept_number`] an integer
-//! alone), and [`take_number`] and [`take_aside`] an integer and an ASCII string that it does not keep.
+//! For those who make messages or tell them [`take_kept`] reads a value that its entry keeps ([`keeps_value`];
+//! [`take_kept_number`] an integer alone), and [`take_number`] and [`take_aside`] an integer and an ASCII string that it does not keep.
 //!
 //! What a field's forms are is defined in `fast_field`; `specs/Relayed` says what it is to have read one, and what its best
 //! form is, `specs/Judged` to have judged one as it stands, `specs/Best` otherwise.
@@ -41,5 +41,5 @@ pub use integers::is_unsigned;
 pub use judged::{Judged, judge_field};
 pub use one_byte::read_short_length;
 pub use passed::pass_quickly;
-pub use taken::{take_kept, take_kept_number, take_number};
+pub use taken::{keeps_value, take_kept, take_kept_number, take_number};
 pub use taken_text::take_aside;

@@ -18,7 +18,7 @@ use std::alloc::Global;
 
 /// Whether a value that was read is in its entry afterwards.
 #[inline(always)]
-fn keeps_value(operator: Operator) -> bool
+pub fn keeps_value(operator: Operator) -> bool
     ensures { result ≡ kept.keeps_value operator }
 {
     match operator {
@@ -59,12 +59,10 @@ pub fn take_kept_number(
     bytes: &[u8],
     at: usize,
 ) -> Option<usize>
-    requires { at ≤ length bytes.now }
+    requires place { at ≤ length bytes.now }
+    requires operator { IsTrue (kept.keeps_value instr.now.operator) }
     ensures { kept.TakesKept instr.now bytes.now at result entry.old entry.new }
 {
-    if !keeps_value(instr.operator) {
-        return None;
-    }
     match instr.kind {
         Kind::UInt32 => take_as(Kind::UInt32, instr, entry, bytes, at),
         Kind::Int32 => take_as(Kind::Int32, instr, entry, bytes, at),
@@ -109,11 +107,9 @@ pub fn take_kept(
 ) -> Option<usize>
     requires place { at ≤ length bytes.now }
     requires kept { HoldsScalar entry.now }
+    requires operator { IsTrue (kept.keeps_value instr.now.operator) }
     ensures { kept.TakesKept instr.now bytes.now at result entry.old entry.new }
 {
-    if !keeps_value(instr.operator) {
-        return None;
-    }
     match instr.kind {
         // (read with no look at how they are best written: of a feed with slack many are not as they are best)
         Kind::Ascii => take_text(alloc, instr, entry, bytes, at),

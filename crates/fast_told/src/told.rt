@@ -18,7 +18,7 @@ use fast_dictionary::{Entries, Entry};
 use fast_field::{FieldFault, Found, read_in_place, reads_as_usual};
 use fast_lines::Signs;
 use fast_part::take_given;
-use fast_relay::{take_aside, take_kept, take_number};
+use fast_relay::{keeps_value, take_aside, take_kept, take_number};
 use fast_template::{FieldPart, Name, Presence};
 use fast_wire::Level;
 use std::alloc::Global;
@@ -70,15 +70,15 @@ fn take<S: Signs>(
         return Ok(at);
     }
     if bit && reads_as_usual(level, part, bytes, at) {
-        if let Some(next) = take_kept(alloc, part, entry, bytes, at) {
-            line.tell(signs, name, part, Found::Kept.value(part, entry.view()))?;
-            return Ok(next);
-        }
-        if let Some((value, next)) = take_number(part, bytes, at) {
+        if keeps_value(part.operator) {
+            if let Some(next) = take_kept(alloc, part, entry, bytes, at) {
+                line.tell(signs, name, part, Found::Kept.value(part, entry.view()))?;
+                return Ok(next);
+            }
+        } else if let Some((value, next)) = take_number(part, bytes, at) {
             line.tell(signs, name, part, Some(&value))?;
             return Ok(next);
-        }
-        if let Some(next) = take_aside(alloc, part, &mut line.aside, bytes, at) {
+        } else if let Some(next) = take_aside(alloc, part, &mut line.aside, bytes, at) {
             line.tell_aside(signs, name, part)?;
             return Ok(next);
         }

@@ -4,7 +4,7 @@ use crate::fields::{Kept, Shape, Value, is_kept};
 use crate::judged::holds_scalar;
 use crate::same::same;
 use fast_dictionary::Entry;
-use fast_relay::{take_aside, take_kept, take_kept_number, take_number};
+use fast_relay::{keeps_value, take_aside, take_kept, take_kept_number, take_number};
 use fast_template::{FieldPart, Kind, Operator, Presence, Scalar};
 use std::alloc::{AllocError, Global};
 use std::process::Abort;
@@ -29,9 +29,13 @@ fn take(alloc: Global, row: &Taken) -> Result<Answer, AllocError> {
     let instr = row.of.instr(alloc)?;
     let mut entry = row.before.entry(alloc)?;
     let at = row.bytes.len().min(1);
+    if !keeps_value(instr.operator) {
+        let taken = take_number(&instr, row.bytes, at);
+        return Ok(Answer { taken, entry });
+    }
     let taken = match (take_kept_number(&instr, &mut entry, row.bytes, at), &entry) {
         (Some(next), Entry::Assigned(value)) => Some((value.copy(alloc)?, next)),
-        _ => take_number(&instr, row.bytes, at),
+        _ => None,
     };
     Ok(Answer { taken, entry })
 }
@@ -77,12 +81,11 @@ fn is_put(
     entry: &mut Entry,
     row: &Put,
 ) -> Result<(), AllocError> {
-    // no other is taken
-    if !holds_scalar(entry) {
-        same(rt, false, true);
-        return Ok(());
-    }
-    let next = take_kept(alloc, instr, entry, row.bytes, row.bytes.len().min(1));
+    let next = if holds_scalar(entry) && keeps_value(instr.operator) {
+        take_kept(alloc, instr, entry, row.bytes, row.bytes.len().min(1))
+    } else {
+        None
+    };
     if next.is_none() && row.taken {
         is_kept(rt, alloc, entry, row.before)?;
         return Err(AllocError);

@@ -15,5 +15,5 @@ returns-in-Some-clause-taken c =
 
 pub returns-in-Some-take_number-clause-taken : goal.returns-in-Some-take_number-clause-taken
 returns-in-Some-take_number-clause-taken c =
-    rw (c.if-bit.true, c.in_default-take_kept_number.ensures, c.in_default.ensures.entry)
+    rw (c.if-bit.true, c.in_default.ensures.entry)
     (took_as_usual (c.reads_as_usual.ensures c.if-reads_as_usual.true) (c.in-Some-take_number.ensures.2 c.args.entry.now))

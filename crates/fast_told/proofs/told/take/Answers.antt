@@ -19,13 +19,13 @@ returns-in-Some-take_kept g c =
 pub returns-in-Some-take_number : goal.returns-in-Some-take_number
 returns-in-Some-take_number g c =
     let taken = c.in-Some-take_number.ensures in
-    rw (c.if-bit.true, c.in_default-take_kept.ensures, c.in_default.ensures.entry)
+    rw (c.if-bit.true, c.in_default.ensures.entry)
     (tells c.args.bytes.now c.args.at c.in-Some-take_number.next c.args.line.now c.tell-in-Some-take_number.new.self c.type_inv.bytes c.requires.next (λ _. refl) (taken.0, taken.1)
     (took_as_usual (c.reads_as_usual.ensures c.if-reads_as_usual.true) (taken.2 c.args.entry.now)) refl c.in_ok-tell-3.ensures)
 
 pub returns-in-Some-take_aside : goal.returns-in-Some-take_aside
 returns-in-Some-take_aside g c =
     let taken = c.in-Some-take_aside.ensures.taken in
-    rw (c.if-bit.true, c.in_default-take_kept.ensures, c.in_default.ensures.entry)
+    rw (c.if-bit.true, c.in_default.ensures.entry)
     (tells c.args.bytes.now c.args.at c.in-Some-take_aside.next c.args.line.now c.tell_aside.new.self c.type_inv.bytes c.requires.next (λ _. refl) (taken.0, taken.1)
     (took_as_usual (c.reads_as_usual.ensures c.if-reads_as_usual.true) (taken.2 c.args.entry.now)) refl c.in_ok-tell_aside.ensures)
