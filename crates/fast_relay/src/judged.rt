@@ -2,8 +2,8 @@
 //! and nothing is written. Here are integers and constants, and the way to the others; what is not judged here goes by
 //! `judge_other`, or the general way.
 
-ghost use Rattle.std.specs.Prelude.{◌≡◌, ◌≤◌, ◌+◌, Some, true, false, not, length, drop, slice_range, IfSome, IsTrue, ⊤};
-ghost use Rattle.fast_value.specs.Scalar.{is_integer, of_integer};
+ghost use Rattle.std.specs.Prelude.{◌≡◌, ◌≤◌, ◌+◌, Some, true, false, not, length, drop, slice_range, IfSome, ⊤};
+ghost use Rattle.fast_value.specs.Scalar.{of_integer};
 ghost use Rattle.fast_value.specs.declared.kind.Operator.TheVariants as operator_type;
 ghost use Rattle.fast_value.specs.declared.kind.Part.TheVariants as part_type;
 ghost use Rattle.fast_wire.specs.Entity.{IsEntity};
@@ -21,7 +21,7 @@ use crate::judged_decimal::judge_decimal;
 use crate::judged_string::judge_string;
 use crate::judged_vector::judge_vector;
 use crate::passed::can_begin;
-use crate::short_number::{fits_field, following, kept, number_of, replace, sum};
+use crate::short_number::ShortInteger;
 use fast_dictionary::Entry;
 use fast_field::set_number;
 use fast_template::{FieldPart, Kind, Operator, Part, Presence};
@@ -128,13 +128,13 @@ pub(crate) fn read_shortest(
 
 /// Judges a number where bit 0 gives the initial value.
 #[inline(always)]
-fn judge_initial(kind: Kind, instr: &FieldPart, number: i64, next: usize) -> Judged
-    requires { IsNumber kind number }
-    ensures { IfFound next result (λ bit. is_same instr.now.initial (Some (of_integer kind number)) ≡ not bit) ⊤ }
+fn judge_initial<T: ShortInteger>(instr: &FieldPart, number: i64, next: usize) -> Judged
+    requires { IsNumber T.kind number }
+    ensures { IfFound next result (λ bit. is_same instr.now.initial (Some (of_integer T.kind number)) ≡ not bit) ⊤ }
 {
     match &instr.initial {
         None => Judged::Stands(next),
-        Some(initial) => match number_of(kind, initial.value()) {
+        Some(initial) => match T::of(initial.value()) {
             Some(given) if given == number => Judged::Given(next),
             Some(_) => Judged::Stands(next),
             None => Judged::Elsewhere,
@@ -144,12 +144,17 @@ fn judge_initial(kind: Kind, instr: &FieldPart, number: i64, next: usize) -> Jud
 
 /// Judges a number where the entry has none; it then has this one. (A call of its own, since it is rare.)
 #[inline(never)]
-fn judge_first(kind: Kind, instr: &FieldPart, entry: &mut Entry, number: i64, next: usize) -> Judged
-    requires kind { kind ≡ instr.now.kind }
+fn judge_first<T: ShortInteger>(
+    instr: &FieldPart,
+    entry: &mut Entry,
+    number: i64,
+    next: usize,
+) -> Judged
+    requires kind { T.kind ≡ instr.now.kind }
     requires predicts { Predicts instr.now.operator }
     requires whole { SpellsWhole instr.now.operator }
-    requires number { IsNumber kind number }
-    ensures { IfFound next result (λ bit. Leaves bit instr.now entry.old entry.new (Some (of_integer kind number)))
+    requires number { IsNumber T.kind number }
+    ensures { IfFound next result (λ bit. Leaves bit instr.now entry.old entry.new (Some (of_integer T.kind number)))
         (entry.new ≡ entry.old) }
 {
     match entry {
@@ -158,7 +163,7 @@ fn judge_first(kind: Kind, instr: &FieldPart, entry: &mut Entry, number: i64, ne
             Judged::Stands(next)
         }
         // bit 0 gives the initial value, also by increment
-        Entry::Undefined => match judge_initial(kind, instr, number, next) {
+        Entry::Undefined => match judge_initial::<T>(instr, number, next) {
             Judged::Stands(_next) => {
                 set_number(instr.kind, entry, i128::from(number));
                 Judged::Stands(next)
@@ -176,47 +181,51 @@ fn judge_first(kind: Kind, instr: &FieldPart, entry: &mut Entry, number: i64, ne
 
 /// Judges a number by the one that the entry has; it then has this one.
 #[inline(always)]
-fn judge_copy(kind: Kind, instr: &FieldPart, entry: &mut Entry, number: i64, next: usize) -> Judged
-    requires kind { kind ≡ instr.now.kind }
-    requires operator { instr.now.operator ≡ operator_type.Copy }
-    requires number { IsNumber kind number }
-    ensures { IfFound next result (λ bit. Leaves bit instr.now entry.old entry.new (Some (of_integer kind number)))
-        (entry.new ≡ entry.old) }
-{
-    let Some(kept) = kept(kind, entry) else {
-        return judge_first(kind, instr, entry, number, next);
-    };
-    if kept == number {
-        return Judged::Given(next);
-    }
-    replace(kind, entry, number);
-    Judged::Stands(next)
-}
-
-/// Judges a number by the one that follows the entry's; it then has this one.
-#[inline(always)]
-fn judge_increment(
-    kind: Kind,
+fn judge_copy<T: ShortInteger>(
     instr: &FieldPart,
     entry: &mut Entry,
     number: i64,
     next: usize,
 ) -> Judged
-    requires kind { kind ≡ instr.now.kind }
-    requires operator { instr.now.operator ≡ operator_type.Increment }
-    requires number { IsNumber kind number }
-    ensures { IfFound next result (λ bit. Leaves bit instr.now entry.old entry.new (Some (of_integer kind number)))
+    requires kind { T.kind ≡ instr.now.kind }
+    requires operator { instr.now.operator ≡ operator_type.Copy }
+    requires number { IsNumber T.kind number }
+    ensures { IfFound next result (λ bit. Leaves bit instr.now entry.old entry.new (Some (of_integer T.kind number)))
         (entry.new ≡ entry.old) }
 {
-    let Some(kept) = kept(kind, entry) else {
-        return judge_first(kind, instr, entry, number, next);
+    let Some(kept) = T::kept(entry) else {
+        return judge_first::<T>(instr, entry, number, next);
+    };
+    if kept == number {
+        return Judged::Given(next);
+    }
+    T::replace(entry, kept, number);
+    Judged::Stands(next)
+}
+
+/// Judges a number by the one that follows the entry's; it then has this one.
+#[inline(always)]
+fn judge_increment<T: ShortInteger>(
+    instr: &FieldPart,
+    entry: &mut Entry,
+    number: i64,
+    next: usize,
+) -> Judged
+    requires kind { T.kind ≡ instr.now.kind }
+    requires operator { instr.now.operator ≡ operator_type.Increment }
+    requires number { IsNumber T.kind number }
+    ensures { IfFound next result (λ bit. Leaves bit instr.now entry.old entry.new (Some (of_integer T.kind number)))
+        (entry.new ≡ entry.old) }
+{
+    let Some(kept) = T::kept(entry) else {
+        return judge_first::<T>(instr, entry, number, next);
     };
     // the least number follows the greatest
-    let Some(following) = following(kind, kept) else {
+    if kept >= T::greatest() {
         return Judged::Elsewhere;
-    };
-    replace(kind, entry, number);
-    if following == number {
+    }
+    T::replace(entry, kept, number);
+    if kept + 1 == number {
         Judged::Given(next)
     } else {
         Judged::Stands(next)
@@ -225,38 +234,41 @@ fn judge_increment(
 
 /// Judges a number that was spelled whole; the entry goes on.
 #[inline(always)]
-fn judge_read(kind: Kind, instr: &FieldPart, entry: &mut Entry, number: i64, next: usize) -> Judged
-    requires kind { kind ≡ instr.now.kind }
-    requires number { IsNumber kind number }
+fn judge_read<T: ShortInteger>(
+    instr: &FieldPart,
+    entry: &mut Entry,
+    number: i64,
+    next: usize,
+) -> Judged
+    requires kind { T.kind ≡ instr.now.kind }
+    requires number { IsNumber T.kind number }
     ensures { IfFound next result (λ bit. SpellsWhole instr.now.operator
-        × Leaves bit instr.now entry.old entry.new (Some (of_integer kind number))) (entry.new ≡ entry.old) }
+        × Leaves bit instr.now entry.old entry.new (Some (of_integer T.kind number))) (entry.new ≡ entry.old) }
 {
     match instr.operator {
         Operator::Plain => Judged::Stands(next),
-        Operator::Default => judge_initial(kind, instr, number, next),
-        Operator::Copy => judge_copy(kind, instr, entry, number, next),
-        Operator::Increment => judge_increment(kind, instr, entry, number, next),
+        Operator::Default => judge_initial::<T>(instr, number, next),
+        Operator::Copy => judge_copy::<T>(instr, entry, number, next),
+        Operator::Increment => judge_increment::<T>(instr, entry, number, next),
         Operator::Constant | Operator::Delta | Operator::Tail => Judged::Elsewhere,
     }
 }
 
 /// The same, of a number that may be out of its field's range.
 #[inline(always)]
-fn judge_as(
-    kind: Kind,
+fn judge_as<T: ShortInteger>(
     which: Part,
     instr: &FieldPart,
     entry: &mut Entry,
     number: i64,
     next: usize,
 ) -> Judged
-    requires kind { kind ≡ instr.now.kind }
-    requires integer { IsTrue (is_integer kind) }
-    ensures { IfFound next result (λ bit. LeavesWhole bit kind which instr.now entry.old entry.new number)
+    requires kind { T.kind ≡ instr.now.kind }
+    ensures { IfFound next result (λ bit. LeavesWhole bit T.kind which instr.now entry.old entry.new number)
         (entry.new ≡ entry.old) }
 {
-    if fits_field(kind, which, number) {
-        judge_read(kind, instr, entry, number, next)
+    if T::is_field_number(which, number) {
+        judge_read::<T>(instr, entry, number, next)
     } else {
         Judged::Elsewhere
     }
@@ -277,30 +289,30 @@ fn judge_whole(
         (entry.new ≡ entry.old) }
 {
     match kind {
-        Kind::UInt32 => judge_as(Kind::UInt32, which, instr, entry, number, next),
-        Kind::Int32 => judge_as(Kind::Int32, which, instr, entry, number, next),
-        Kind::UInt64 => judge_as(Kind::UInt64, which, instr, entry, number, next),
-        Kind::Int64 => judge_as(Kind::Int64, which, instr, entry, number, next),
+        Kind::UInt32 => judge_as::<u32>(which, instr, entry, number, next),
+        Kind::Int32 => judge_as::<i32>(which, instr, entry, number, next),
+        Kind::UInt64 => judge_as::<u64>(which, instr, entry, number, next),
+        Kind::Int64 => judge_as::<i64>(which, instr, entry, number, next),
         Kind::Decimal | Kind::Ascii | Kind::Unicode | Kind::Bytes => Judged::Elsewhere,
     }
 }
 
 /// Adds to the number that an entry has, where the sum is one that the field can have; else nothing has changed.
 #[inline(always)]
-fn add_as(kind: Kind, which: Part, entry: &mut Entry, delta: i64) -> bool
-    ensures added { result ≡ true → Adds kind which delta entry.old entry.new }
+fn add_as<T: ShortInteger>(which: Part, entry: &mut Entry, delta: i64) -> bool
+    ensures added { result ≡ true → Adds T.kind which delta entry.old entry.new }
     ensures entry { result ≡ false → entry.new ≡ entry.old }
 {
-    let Some(kept) = kept(kind, entry) else {
+    let Some(kept) = T::kept(entry) else {
         return false;
     };
-    let Some(number) = sum(kind, kept, delta) else {
+    let Some(number) = T::sum(kept, delta) else {
         return false;
     };
-    if !fits_field(kind, which, number) {
+    if !T::is_field_number(which, number) {
         return false;
     }
-    replace(kind, entry, number);
+    T::replace(entry, kept, number);
     true
 }
 
@@ -311,10 +323,10 @@ fn add(kind: Kind, which: Part, entry: &mut Entry, delta: i64) -> bool
     ensures entry { result ≡ false → entry.new ≡ entry.old }
 {
     match kind {
-        Kind::UInt32 => add_as(Kind::UInt32, which, entry, delta),
-        Kind::Int32 => add_as(Kind::Int32, which, entry, delta),
-        Kind::UInt64 => add_as(Kind::UInt64, which, entry, delta),
-        Kind::Int64 => add_as(Kind::Int64, which, entry, delta),
+        Kind::UInt32 => add_as::<u32>(which, entry, delta),
+        Kind::Int32 => add_as::<i32>(which, entry, delta),
+        Kind::UInt64 => add_as::<u64>(which, entry, delta),
+        Kind::Int64 => add_as::<i64>(which, entry, delta),
         Kind::Decimal | Kind::Ascii | Kind::Unicode | Kind::Bytes => false,
     }
 }

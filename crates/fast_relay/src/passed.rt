@@ -10,7 +10,7 @@ ghost use Rattle.fast_field.specs.Numbers.{Predicts, Repeats};
 ghost use Rattle.fast_field.specs.Parts.{IsFieldPart};
 ghost use Rattle.fast_field.specs.Passed.{IsPassed};
 
-use crate::short_number::{fits_field, following, kept, replace};
+use crate::short_number::ShortInteger;
 use fast_dictionary::Entry;
 use fast_field::{Passed, fits};
 use fast_template::{FieldPart, Kind, Operator, Part, Presence, Scalar};
@@ -103,22 +103,19 @@ fn pass_kept(which: Part, instr: &FieldPart, entry: &Entry) -> Passed
 
 /// One more than the number that the entry has, where that is not the greatest of its type.
 #[inline(always)]
-fn pass_next(kind: Kind, which: Part, instr: &FieldPart, entry: &mut Entry) -> Passed
-    requires kind { kind ≡ instr.now.kind }
+fn pass_next<T: ShortInteger>(which: Part, instr: &FieldPart, entry: &mut Entry) -> Passed
+    requires kind { T.kind ≡ instr.now.kind }
     requires operator { instr.now.operator ≡ operator_type.Increment }
     requires part { which ≡ instr.now.part }
     ensures { IsPassed instr.now entry.old entry.new result }
 {
-    let Some(kept) = kept(kind, entry) else {
+    let Some(kept) = T::kept(entry) else {
         return pass_empty(instr, entry);
     };
-    let Some(number) = following(kind, kept) else {
-        return Passed::Elsewhere;
-    };
-    if !fits_field(kind, which, number) {
+    if kept >= T::greatest() || !T::is_field_number(which, kept + 1) {
         return Passed::Elsewhere;
     }
-    replace(kind, entry, number);
+    T::replace(entry, kept, kept + 1);
     Passed::Present
 }
 
@@ -130,10 +127,10 @@ fn pass_increment(which: Part, instr: &FieldPart, entry: &mut Entry) -> Passed
     ensures { IsPassed instr.now entry.old entry.new result }
 {
     match instr.kind {
-        Kind::UInt32 => pass_next(Kind::UInt32, which, instr, entry),
-        Kind::Int32 => pass_next(Kind::Int32, which, instr, entry),
-        Kind::UInt64 => pass_next(Kind::UInt64, which, instr, entry),
-        Kind::Int64 => pass_next(Kind::Int64, which, instr, entry),
+        Kind::UInt32 => pass_next::<u32>(which, instr, entry),
+        Kind::Int32 => pass_next::<i32>(which, instr, entry),
+        Kind::UInt64 => pass_next::<u64>(which, instr, entry),
+        Kind::Int64 => pass_next::<i64>(which, instr, entry),
         Kind::Decimal | Kind::Ascii | Kind::Unicode | Kind::Bytes => Passed::Elsewhere,
     }
 }

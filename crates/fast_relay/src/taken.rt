@@ -1,19 +1,19 @@
 //! Values that are read at once, where they are not written again: into the entries that keep them, or where no entry does.
 //! What is not served here goes the general way of `read_in_place`.
 
-ghost use Rattle.std.specs.Prelude.{◌≡◌, ◌≤◌, length, IfSome, IsTrue};
+ghost use Rattle.std.specs.Prelude.{◌≡◌, ◌≤◌, length, true, IfSome, IsTrue};
 ghost use Rattle.fast_value.specs.Scalar.{is_integer, of_integer};
-ghost use Rattle.fast_field.specs.Numbers.{IsNumber};
+ghost use Rattle.fast_field.specs.Numbers.{IsFieldNumber, IsNumber};
 ghost use Rattle.fast_field.specs.Within.{HoldsScalar};
 ghost use Rattle.fast_relay.specs.Kept as kept;
 ghost use Rattle.fast_relay.specs.Numbers.{KeepsNothing};
 
 use crate::integers::is_unsigned;
 use crate::judged::{Judged, is_sent_unsigned, judge_long, judge_number, read_number};
-use crate::short_number::fits_field;
 use crate::taken_text::take_text;
 use fast_dictionary::Entry;
-use fast_template::{FieldPart, Kind, Operator, Scalar};
+use fast_field::is_field_number;
+use fast_template::{FieldPart, Kind, Operator, Part, Scalar};
 use std::alloc::Global;
 
 /// Whether a value that was read is in its entry afterwards.
@@ -133,6 +133,15 @@ fn value_of(kind: Kind, number: i64) -> Scalar
         Kind::Int64 => Scalar::I64(number),
         Kind::Decimal | Kind::Ascii | Kind::Unicode | Kind::Bytes => unreachable!(),
     }
+}
+
+/// Whether a field can have a number: in the range of its integer type and within the limit of its part.
+#[inline(always)]
+fn fits_field(kind: Kind, part: Part, number: i64) -> bool
+    requires { IsTrue (is_integer kind) }
+    ensures { result ≡ true → IsFieldNumber kind part number }
+{
+    is_field_number(kind, part, i128::from(number))
 }
 
 /// Takes an integer of a type that is known here, which no entry keeps.

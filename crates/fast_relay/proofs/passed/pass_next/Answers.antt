@@ -1,17 +1,19 @@
 use Rattle.std.specs.Int.{w64}
 use Rattle.std.specs.Int.RustNames.{FitsSigned}
-use Rattle.std.proofs.Common.{rules}
+use Rattle.std.specs.Prelude.{◌+ℤ◌, pos}
+use Rattle.std.proofs.Common.{◌≡◌, rules}
 use Rattle.std.proofs.lemmas.Int.{to_z-of_z}
+use Rattle.fast_field.specs.Numbers.{IsFieldNumber, next_number}
 use Rattle.fast_field.proofs.Passing.{next_passes}
 use Rattle.fast_relay.proofs.passed.pass_next.Goals as goal
 
 pub returns : goal.returns
-returns c =
-    let z = c.in-Some-following.number in
-    let fits : FitsSigned w64 z = search rules in
-    let same = to_z-of_z w64 z fits in
+returns g c =
+    let i = c.args.instr.now in
+    let k = g.T.ShortInteger.kind in
     let y = c.in-Some.kept in
     let kept_fits : FitsSigned w64 y = search rules in
-    let e = rw (to_z-of_z w64 y kept_fits) at c.in-Some-following.ensures in
-    let n = rw (same, c.requires.part, e) at (c.fits_field.ensures c.if-not-fits_field.false) in
-    rw (c.replace.ensures, same, e) (next_passes c.args.kind c.args.instr.now c.args.entry.now y c.requires.kind c.requires.operator c.in-Some.ensures.number n)
+    let fits : FitsSigned w64 (y +ℤ pos 1) = search rules in
+    let e : y +ℤ pos 1 ≡ next_number k y = search rules in
+    let n : IsFieldNumber k i.part (y +ℤ pos 1) = rw (to_z-of_z w64 y kept_fits, to_z-of_z w64 (y +ℤ pos 1) fits, c.requires.part) at (c.is_field_number.ensures c.if-not-is_field_number.false) in
+    rw (c.replace.ensures, to_z-of_z w64 y kept_fits, to_z-of_z w64 (y +ℤ pos 1) fits, e) (next_passes k i c.args.entry.now y c.requires.kind c.requires.operator c.in-Some.ensures (rw e at n))
