@@ -1,4 +1,4 @@
-use Rattle.fast_field.proofs.FieldsGoOn.{field_goes}
+use Rattle.fast_field.proofs.FieldsBehave.{field_goes}
 use Rattle.fast_field.proofs.laws.fields_go_on.Goals as goal
 
 pub returns : goal.returns
