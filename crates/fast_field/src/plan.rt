@@ -35,6 +35,7 @@ pub struct Plan {
 }
 
 /// What their type says of bytes, for the proofs: it does nothing.
+#[tactic(auto, using(crate::proofs::ReadFields::all_bytes))]
 fn tell_bytes(bytes: &[u8])
     ensures { IsBytes bytes.now }
 {
