@@ -14,7 +14,7 @@ use Rattle.fast_dictionary.specs.declared.entry.Entry.TheVariants.{Undefined, Em
 use Rattle.fast_field.specs.declared.fault.FieldRefusal.{FieldRefusal}
 use Rattle.fast_field.specs.declared.fault.FieldRefusal.TheVariants as refusal
 use Rattle.fast_field.specs.Refusals.{value_refusal, refusal_of}
-use Rattle.fast_field.proofs.WorkedFields.{Hold, part_of, field, text, number, tail_s, uni_s, const_k, const_o, fixed_px_exponent, empty_b, delta_s}
+use Rattle.fast_field.proofs.WorkedFields.{Hold, part_of, field, text, number, tail_s, uni_s, const_k, const_o, fixed_px_exponent, delta_s}
 
 abbrev Refused : FieldPart → Entry → Option Scalar → FieldRefusal → Type 0
 Refused i e v r = refusal_of i e v ≡ Some r
@@ -72,7 +72,7 @@ constants = refl
 -- ---- bases
 
 bases : Hold (
-    refused empty_b Empty (Some (U32 1)) refusal.D6 ∷  -- delta_on_empty
+    refused (field kind.UInt32 Mandatory Delta) Empty (Some (U32 1)) refusal.D6 ∷  -- delta_on_empty
     refused delta_s (number 5) (Some (Ascii (codes "A"))) refusal.D4 ∷  -- delta_on_another_type
     refused uni_s (text (codes "xab")) (Some (Unicode (0xC3 ∷ 0xA9 ∷ []))) refusal.D4 ∷  -- tail_on_another_type
     refused tail_s (text (codes "xab")) (Some (Ascii (codes "x"))) refusal.TooShort ∷  -- shorter_than_base

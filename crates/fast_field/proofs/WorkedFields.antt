@@ -45,27 +45,14 @@ quote_seq = field kind.UInt32 Mandatory Increment
 abbrev pub quote_sym : FieldPart
 quote_sym = field kind.Ascii Mandatory Copy
 
-abbrev pub quote_px : FieldPart
-quote_px = field kind.Decimal Mandatory Delta
-
 abbrev pub quote_qty : FieldPart
 quote_qty = field kind.UInt32 Optional Copy
-
-abbrev pub wrap_b : FieldPart
-wrap_b = field kind.UInt32 Mandatory Delta
 
 abbrev pub opt_px_exponent : FieldPart
 opt_px_exponent = part_of Exponent kind.Int32 Optional Default (Some (I32 (pos 2)))
 
 abbrev pub fixed_px_exponent : FieldPart
 fixed_px_exponent = part_of Exponent kind.Int32 Mandatory Constant (Some (I32 (negsuc 1)))
-
--- (of no template: an exponent with the operator increment)
-abbrev pub counted_exponent : FieldPart
-counted_exponent = part_of Exponent kind.Int32 Mandatory Increment None
-
-abbrev pub clash_a : FieldPart
-clash_a = field kind.UInt32 Mandatory Copy
 
 abbrev pub tail_s : FieldPart
 tail_s = field kind.Ascii Optional Tail
@@ -78,9 +65,6 @@ delta_s = field kind.Ascii Mandatory Delta
 
 abbrev pub uni_s : FieldPart
 uni_s = field kind.Unicode Mandatory Tail
-
-abbrev pub empty_b : FieldPart
-empty_b = field kind.UInt32 Mandatory Delta
 
 abbrev pub const_k : FieldPart
 const_k = field_with kind.UInt32 Mandatory Constant (U32 7)
