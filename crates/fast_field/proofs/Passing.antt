@@ -147,32 +147,25 @@ next_passes k i e z same o h n = (of_integer k (next_number k z), next_of_kind k
 pub empty_passes : (i : FieldPart) → Predicts i.operator → i.presence ≡ Optional → IsPassed i Empty Empty Absent
 empty_passes i h optional = predicted_passes i Empty None h (rw optional refl) tt
 
+-- an operator that leaves the entry
+left_given : (o : Operator) (i : FieldPart) (e : Entry) (v : Option Scalar) → i.operator ≡ o → (operator_needs_bit o i.presence ≡ false → false ≡ true) → HasDefault i → FormOf Usual o i e false uncut [] v → IsWithin i.part v → e ≡ next_of o e v
+    → Passes i e e v
+left_given o i e v is bit default row within entry = passes i e e v (rw is bit) default (record { row = subst (λ (x : Operator). FormOf Usual x i e false uncut [] v) (sym is) row; within = within }) (rw is entry)
+
 pub initial_given : (i : FieldPart) (e : Entry) (v : Scalar) → i.operator ≡ operator.Default → i.initial ≡ Some v → IsTrue (within_part i.part v) → Passes i e e (Some v)
-initial_given i e v o initial within =
-    let row : FormOf Usual i.operator i e false uncut [] (Some v) = subst (λ (o : Operator). FormOf Usual o i e false uncut [] (Some v)) (sym o) (refl, refl, initial) in
-    let bit : IsBitOf i false = rw o (λ h. absurd cc) in
-    let default : HasDefault i = λ d m. rw initial refl in
-    let entry : e ≡ next i e (Some v) = rw o refl in
-    passes i e e (Some v) bit default (record { row = row; within = within }) entry
+initial_given i e v o initial within = left_given operator.Default i e (Some v) o (λ h. absurd cc) (λ d m. rw initial refl) (refl, refl, initial) within refl
 
 pub initial_passes : (i : FieldPart) (e : Entry) (v : Scalar) → i.operator ≡ operator.Default → i.initial ≡ Some v → is_of i.kind v ≡ true → IsTrue (within_part i.part v) → IsPassed i e e Present
 initial_passes i e v o initial is within = (v, is, initial_given i e v o initial within)
 
+optional_default : (i : FieldPart) → i.presence ≡ Optional → HasDefault i
+optional_default i optional d m = absurd (let no : Mandatory ≡ Optional = sym m ∙ optional in cc)
+
 pub no_initial_passes : (i : FieldPart) (e : Entry) → i.operator ≡ operator.Default → i.initial ≡ None → i.presence ≡ Optional → IsPassed i e e Absent
-no_initial_passes i e o initial optional =
-    let row : FormOf Usual i.operator i e false uncut [] None = subst (λ (o : Operator). FormOf Usual o i e false uncut [] None) (sym o) (refl, refl, (initial, optional)) in
-    let bit : IsBitOf i false = rw o (λ h. absurd cc) in
-    let default : HasDefault i = λ d m. absurd (let no : Mandatory ≡ Optional = sym m ∙ optional in cc) in
-    let entry : e ≡ next i e None = rw o refl in
-    passes i e e None bit default (record { row = row; within = tt }) entry
+no_initial_passes i e o initial optional = left_given operator.Default i e None o (λ h. absurd cc) (optional_default i optional) (refl, refl, (initial, optional)) tt refl
 
 pub constant_passes : (i : FieldPart) (e : Entry) → i.operator ≡ operator.Constant → i.presence ≡ Optional → IsPassed i e e Absent
-constant_passes i e o optional =
-    let row : FormOf Usual i.operator i e false uncut [] None = subst (λ (o : Operator). FormOf Usual o i e false uncut [] None) (sym o) (refl, refl, optional, refl) in
-    let bit : IsBitOf i false = rw (o, optional) (λ h. absurd cc) in
-    let default : HasDefault i = λ d m. absurd (let no : operator.Constant ≡ operator.Default = sym o ∙ d in cc) in
-    let entry : e ≡ next i e None = rw o refl in
-    passes i e e None bit default (record { row = row; within = tt }) entry
+constant_passes i e o optional = left_given operator.Constant i e None o (rw optional (λ h. absurd cc)) (optional_default i optional) (refl, refl, optional, refl) tt refl
 
 -- ---- where what bit 0 gave is found
 

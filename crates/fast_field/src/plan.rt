@@ -63,15 +63,9 @@ fn tell_value(value: &Scalar)
             let _exponent = *exponent;
             let _mantissa = *mantissa;
         }
-        Scalar::Ascii(text) => {
-            tell_bytes(text.as_slice());
-        }
-        Scalar::Unicode(text) => {
-            tell_bytes(text.as_bytes());
-        }
-        Scalar::Bytes(bytes) => {
-            tell_bytes(bytes.as_slice());
-        }
+        Scalar::Ascii(text) => tell_bytes(text.as_slice()),
+        Scalar::Unicode(text) => tell_bytes(text.as_bytes()),
+        Scalar::Bytes(bytes) => tell_bytes(bytes.as_slice()),
     }
 }
 
