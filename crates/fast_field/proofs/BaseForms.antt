@@ -1,7 +1,8 @@
 -- Deltas and tails are read, and nothing else is.
-use Rattle.std.proofs.Common.{◌≡◌, ℕ, ◌≤◌, Bool, true, false, List, [], ◌++◌, length, Result, Ok, Err, refl, sym, subst, arith, append-nil}
+use Rattle.std.proofs.Common.{◌≡◌, ℕ, Bool, true, false, List, [], ◌++◌, length, Result, Ok, Err, refl, sym, subst, arith, append-nil}
 use Rattle.std.specs.Prelude.{ℤ, ◌+ℤ◌, Option, Some, None, nat_le, nat_lt, if◌then◌else◌}
 use Rattle.std.proofs.lemmas.Bool.Decides.{nat_tests}
+use Rattle.std.proofs.lemmas.Bool.{le-leb, leb-true}
 use Rattle.fast_wire.specs.declared.level.Level.{Level}
 use Rattle.fast_wire.specs.Reader.{IsReader, Both}
 use Rattle.fast_wire.specs.Reading.{◌>>=◌}
@@ -116,12 +117,6 @@ limited_is : (k : Kind) (s : List ℕ) (v : Scalar) → IsOfFewUnits k s v → l
 unfolding limited_value
 limited_is k s v h = let le = h.0 in let t : nat_lt 65535 (length s) ≡ false = grind (arith, nat_tests) in rw t (unit_value_is k s v h.1)
 
-at_most : (m n : ℕ) → nat_le m n ≡ true → m ≤ n
-at_most m n h = grind (arith, nat_tests)
-
-is_at_most : (m n : ℕ) → m ≤ n → nat_le m n ≡ true
-is_at_most m n h = grind (arith, nat_tests)
-
 -- what stands behind a subtraction length
 abbrev IsNewPart : (level : Level) → Kind → ℤ → List ℕ → List ℕ → Option Scalar → Type 0
 IsNewPart level k removal base b v = (nat_le (removed_of removal) (length base) ≡ true) × Both (SpellsPart level k) (λ s. IsMade (limited_value k (put_together removal base s))) b v
@@ -164,7 +159,7 @@ cut_to level i e b front back (Value removal) v parts first h =
           parts = parts;
           removal_form = first;
           is_int32 = h.0;
-          there = at_most (removed_of removal) (length (units_of base)) h.1.2.0;
+          there = leb-true (removed_of removal) (length (units_of base)) h.1.2.0;
           part_form = subst (λ (z : List ℕ). SpellsPart level i.kind z m.x) (whole back m.front m.back m.parts m.second.0) m.first;
           value = limited_ok i.kind (put_together removal (units_of base) m.x) made.0 made.1;
           cut_is = refl;
@@ -183,7 +178,7 @@ cut_from level i e b (Some v) h =
       back = c.back;
       parts = c.parts;
       first = c.removal_form;
-      second = (c.is_int32, (h.1.0, h.1.1, (is_at_most (removed_of c.removal) (length base) c.there, record { x = c.new_part; front = c.back; back = []; parts = sym (append-nil c.back); first = c.part_form; second = (refl, (v, made, refl)) })));
+      second = (c.is_int32, (h.1.0, h.1.1, (le-leb (removed_of c.removal) (length base) c.there, record { x = c.new_part; front = c.back; back = []; parts = sym (append-nil c.back); first = c.part_form; second = (refl, (v, made, refl)) })));
     }
 
 unit_deltas : (level : Level) → (i : FieldPart) (e : Entry) → IsReader fault.NeedMore (unit_delta_at level i e) (OnBase level (SpellsCut level i.kind i.presence) i e)

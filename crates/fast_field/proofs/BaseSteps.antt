@@ -8,44 +8,20 @@ use Rattle.fast_value.specs.declared.scalar.Scalar.TheVariants.{U32, I32, U64, I
 use Rattle.fast_field.specs.Values.{integer_of, exponent_of, mantissa_of, units_of, default_of}
 
 pub integer_of-default_of : (k : Kind) → integer_of (default_of k) ≡ pos 0
-integer_of-default_of kind.Int32 = refl
-integer_of-default_of kind.UInt32 = refl
-integer_of-default_of kind.Int64 = refl
-integer_of-default_of kind.UInt64 = refl
 integer_of-default_of kind.Decimal = refl
-integer_of-default_of kind.Ascii = refl
-integer_of-default_of kind.Unicode = refl
-integer_of-default_of kind.Bytes = refl
+integer_of-default_of k = refl
 
 pub units_of-default_of : (k : Kind) → units_of (default_of k) ≡ []
-units_of-default_of kind.Int32 = refl
-units_of-default_of kind.UInt32 = refl
-units_of-default_of kind.Int64 = refl
-units_of-default_of kind.UInt64 = refl
 units_of-default_of kind.Decimal = refl
-units_of-default_of kind.Ascii = refl
-units_of-default_of kind.Unicode = refl
-units_of-default_of kind.Bytes = refl
+units_of-default_of k = refl
 
 pub exponent_of-default_of : (k : Kind) → exponent_of (default_of k) ≡ pos 0
-exponent_of-default_of kind.Int32 = refl
-exponent_of-default_of kind.UInt32 = refl
-exponent_of-default_of kind.Int64 = refl
-exponent_of-default_of kind.UInt64 = refl
 exponent_of-default_of kind.Decimal = refl
-exponent_of-default_of kind.Ascii = refl
-exponent_of-default_of kind.Unicode = refl
-exponent_of-default_of kind.Bytes = refl
+exponent_of-default_of k = refl
 
 pub mantissa_of-default_of : (k : Kind) → mantissa_of (default_of k) ≡ pos 0
-mantissa_of-default_of kind.Int32 = refl
-mantissa_of-default_of kind.UInt32 = refl
-mantissa_of-default_of kind.Int64 = refl
-mantissa_of-default_of kind.UInt64 = refl
 mantissa_of-default_of kind.Decimal = refl
-mantissa_of-default_of kind.Ascii = refl
-mantissa_of-default_of kind.Unicode = refl
-mantissa_of-default_of kind.Bytes = refl
+mantissa_of-default_of k = refl
 
 -- a value is of a type exactly if that is its type
 pub is_of-kind : (k : Kind) (v : Scalar) → is_of k v ≡ true → kind_of v ≡ k

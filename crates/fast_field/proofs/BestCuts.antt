@@ -1,10 +1,10 @@
 -- The best delta of a string or vector: the longest common prefix with removal at the end, or the longest common suffix
 -- with removal in front.
-use Rattle.std.proofs.Common.{◌≡◌, ℕ, zero, suc, ◌+◌, ◌-◌, ◌^◌, ◌<◌, ◌≤◌, Bool, true, false, List, ◌++◌, length, take, drop, get_or, min, refl, sym, ap, subst, arith, inl, inr, ◌⊎◌, length-append, length-take, length-drop, take-append-drop}
-use Rattle.std.specs.Prelude.{ℤ, pos, negsuc, nat_le, ◌&&◌, if◌then◌else◌, IsTrue}
+use Rattle.std.proofs.Common.{◌≡◌, ℕ, zero, suc, ◌+◌, ◌-◌, ◌^◌, ◌<◌, ◌≤◌, true, false, List, ◌++◌, length, take, drop, get_or, min, refl, sym, ap, subst, arith, inl, inr, length-append, length-take, length-drop, take-append-drop}
+use Rattle.std.specs.Prelude.{ℤ, pos, negsuc, nat_le, if◌then◌else◌, IsTrue}
 use Rattle.std.proofs.Math.Dec.{eqb}
-use Rattle.std.proofs.lemmas.Bool.{cases_lt}
-use Rattle.std.proofs.lemmas.Bool.Decides.{nat_tests, eqb_tells}
+use Rattle.std.proofs.lemmas.Bool.{cases_lt, le-leb}
+use Rattle.std.proofs.lemmas.Bool.Decides.{eqb_tells}
 use Rattle.fast_wire.specs.declared.level.Level.TheVariants.{Usual}
 use Rattle.fast_wire.specs.Integer.{magnitude}
 use Rattle.fast_wire.specs.Sizes.{unsigned_size}
@@ -23,7 +23,8 @@ use Rattle.fast_field.specs.Deltas.{Cut, removed_of, side_of, put_together, IsOf
 use Rattle.fast_field.specs.Best.{NoLater}
 use Rattle.fast_field.specs.CommonParts.{IsLongestPrefix, IsLongestSuffix}
 use Rattle.fast_field.proofs.Agreeing.{prefix_more, prefix_stops, prefix_ends, suffix_none, suffix_more, suffix_stops, suffix_ends}
-use Rattle.fast_field.proofs.Least.{IsPartCost, IsLengthCost, end_is_least, front_is_least, ascii_parts, vector_parts}
+use Rattle.fast_field.proofs.FieldsWithin.{and_true}
+use Rattle.fast_field.proofs.Least.{IsPartCost, IsLengthCost, no_worse, end_is_least, front_is_least, ascii_parts, vector_parts}
 use Rattle.fast_field.specs.Chosen.{ShortestSigned, ShortestPart, Both, length_size, part_size, CutNoLater, IsBestCut}
 use Rattle.fast_field.proofs.BestDeltas.{IsFirst, First}
 use Rattle.fast_field.proofs.Shortest.{signed_form, part_form, length_is, part_is, shortest_signed, shortest_part}
@@ -100,9 +101,6 @@ longest_suffix a b = (agree_back a b, back_agrees a b)
 
 -- ---- the better of the two
 
-not_equal_first : (m m' : ℕ) (P : Type 0) → m ≤ m' → P → (m < m') ⊎ ((m ≡ m') × P)
-not_equal_first m m' P le q = elim (cases_lt m m') [ inl lt ↦ inl lt | inr ge ↦ let e : m ≡ m' = omega arith in inr (e, q) ]
-
 module _ (k : Kind) (p : Presence) (base v : List ℕ) (n m : ℕ) (prefix : IsLongestPrefix base v n) (suffix : IsLongestSuffix base v m) where
   abbrev end_size : ℕ
   end_size = length_size p (pos (length base - n)) + part_size k (drop n v)
@@ -114,10 +112,10 @@ module _ (k : Kind) (p : Presence) (base v : List ℕ) (n m : ℕ) (prefix : IsL
       → CutNoLater end_size (pos (length base - n)) (length (drop n v)) (length_size p z + part_size k q) z (length q)
   first_end le (pos r) q there e =
       let h = end_is_least (length_size p) (part_size k) base v q n r (lengths p) (parts k) prefix there e in
-      not_equal_first _ _ _ h.0 (inr (refl, h.1))
+      no_worse _ _ _ h.0 (λ e. inr (refl, h.1))
   first_end le (negsuc r) q there e =
       let h = front_is_least (length_size p) (part_size k) base v q m r (lengths p) (parts k) suffix there e in
-      not_equal_first _ _ _ (omega (arith, h.0, le)) (inl (omega arith))
+      no_worse _ _ _ (omega (arith, h.0, le)) (λ e. inl (omega arith))
 
   first_front : front_size < end_size → (z : ℤ) (q : List ℕ) → removed_of z ≤ length base → v ≡ put_together z base q
       → CutNoLater front_size (negsuc (length base - m)) (length (take (length v - m) v)) (length_size p z + part_size k q) z (length q)
@@ -126,7 +124,7 @@ module _ (k : Kind) (p : Presence) (base v : List ℕ) (n m : ℕ) (prefix : IsL
       inl (omega (arith, h.0, lt))
   first_front lt (negsuc r) q there e =
       let h = front_is_least (length_size p) (part_size k) base v q m r (lengths p) (parts k) suffix there e in
-      not_equal_first _ _ _ h.0 (inr (refl, h.1))
+      no_worse _ _ _ h.0 (λ e. inr (refl, h.1))
 
   pub best_at_end : end_size ≤ front_size → IsBestCut k p base v (pos (length base - n)) (drop n v)
   best_at_end le =
@@ -145,15 +143,9 @@ no_later m n m' n' z z' a a' e le (inr h) = elim (cases_lt n n') [
   | inr ge ↦ inr (refl, inr (let same = h.0 in omega arith, h.1))
 ]
 
-le_true : (m n : ℕ) → m ≤ n → nat_le m n ≡ true
-le_true m n h = grind (arith, nat_tests)
-
-and_true : (a b : Bool) → a ≡ true → b ≡ true → (a && b) ≡ true
-and_true a b h l = rw (h, l) refl
-
 removal_fits : (z : ℤ) → removed_of z ≤ 65535 → (magnitude z < 2 ^ 68) × IsTrue (in_range kind.Int32 z)
-removal_fits (pos n) h = (omega arith, le_true n 2147483647 (omega arith))
-removal_fits (negsuc n) h = (omega arith, and_true (nat_le n 2147483647) true (le_true n 2147483647 (omega arith)) refl)
+removal_fits (pos n) h = (omega arith, le-leb n 2147483647 (omega arith))
+removal_fits (negsuc n) h = (omega arith, and_true (nat_le n 2147483647) true (le-leb n 2147483647 (omega arith)) refl)
 
 pub of_few : (k : Kind) (s : List ℕ) (v : Scalar) → IsOfUnits k (units_of v) v → length (units_of v) ≤ 65535 → units_of v ≡ s → IsOfFewUnits k s v
 of_few k s v h le e = subst (λ (x : List ℕ). IsOfFewUnits k x v) e (le, h)

@@ -15,12 +15,8 @@ use Rattle.fast_field.specs.Best.{NoLater, IsBest, side_rank}
 
 pub bit_zero_row : (o : Operator) (i : FieldPart) (e : Entry) (cut : Cut) (b : List ℕ) (v : Option Scalar) → FormOf Usual o i e false cut b v → (cut ≡ uncut) × (b ≡ [])
 bit_zero_row operator.Plain i e cut b v h = absurd h
-bit_zero_row operator.Constant i e cut b v h = (h.0, h.1)
-bit_zero_row operator.Default i e cut b v h = (h.0, h.1)
-bit_zero_row operator.Copy i e cut b v h = (h.0, h.1)
-bit_zero_row operator.Increment i e cut b v h = (h.0, h.1)
 bit_zero_row operator.Delta i e cut b v h = absurd h
-bit_zero_row operator.Tail i e cut b v h = (h.0, h.1)
+bit_zero_row o i e cut b v h = (h.0, h.1)
 
 bit_zero_first : (i : FieldPart) (e : Entry) (v : Option Scalar) (bit : Bool) (cut : Cut) (b : List ℕ) → FormBy Usual i e bit cut b v → NoLater false 0 uncut bit (length b) cut
 bit_zero_first i e v true cut b h = inl (omega arith)

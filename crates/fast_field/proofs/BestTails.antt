@@ -21,7 +21,7 @@ use Rattle.fast_field.specs.Chosen.{ShortestUnits, part_size, tail_size, NoWorse
 use Rattle.fast_field.proofs.BestDeltas.{IsFirst, First}
 use Rattle.fast_field.proofs.BestCuts.{part_least, parts, longest_prefix, of_few, drop_fits}
 use Rattle.fast_field.proofs.Shortest.{units_form, units_is, shortest_units}
-use Rattle.fast_field.proofs.Least.{IsPartCost, vector_parts, tail_is, preamble, preamble-cases, tail_cost, shortest_tail, one_more, still_shortest}
+use Rattle.fast_field.proofs.Least.{IsPartCost, vector_parts, tail_is, preamble, preamble-cases, tail_cost, shortest_tail, no_worse, one_more, still_shortest}
 use Rattle.fast_field.proofs.Refused.{units_are}
 use Rattle.fast_field.proofs.ValuesWithin.{IsOfType, IsString, units_of_string}
 use Rattle.fast_field.proofs.StandingForms.{of_units_is}
@@ -53,9 +53,6 @@ tail_is_first k p base v tail b u l best spelled =
     }
 
 -- ---- which tail that is
-
-no_worse_by : (m part m' part' : ℕ) → m ≤ m' → part ≤ part' → NoWorse m part m' part'
-no_worse_by m part m' part' le less = elim (cases_lt m m') [ inl lt ↦ inl lt | inr ge ↦ let e : m ≡ m' = omega arith in inr (e, less) ]
 
 -- the one of a longer value is the whole of it
 pub longer_tail : (k : Kind) (p : Presence) (base v : List ℕ) → length base < length v → IsBestTail k p base v v
@@ -92,7 +89,7 @@ module _ (k : Kind) (p : Presence) (base v : List ℕ) (n : ℕ) (prefix : IsLon
       let on : i + (n - i) ≡ n = omega arith in
       let more : drop (n - i) (drop i v) ≡ drop n v = drop-drop (n - i) i v ∙ ap (λ (m : ℕ). drop m v) on in
       let fewer : tail_size k p (drop n v) ≤ tail_size k p (drop i v) = rw (← more) (cost.on_drop (n - i) (drop i v)) in
-      no_worse_by _ _ _ _ fewer (omega arith))
+      no_worse _ _ _ fewer (λ e. omega arith))
 
 -- in the nullable form of ASCII
 nullable_size_is : (s : List ℕ) → ascii_nullable_size (Value s) ≡ length s + preamble s
@@ -109,27 +106,8 @@ NullableBest v j i = NoWorse (ascii_nullable_size (Value (drop j v))) (length v 
 as_cost : (v : List ℕ) (j i : ℕ) → NoWorse (tail_cost v j) (length v - j) (tail_cost v i) (length v - i) → NullableBest v j i
 as_cost v j i h = rw (cost_is v j, cost_is v i) h
 
--- one place behind the common front, from which no other tail is better
-nullable_place : (v : List ℕ) (n : ℕ) → n ≤ length v → (j : ℕ) × (j ≤ n) × ((i : ℕ) → i ≤ n → NullableBest v j i)
-nullable_place v zero le = (0, omega arith, λ i small. let none : i ≡ 0 = omega arith in rw none (inr (refl, omega arith)))
-nullable_place v (suc n) le = elim (preamble-cases (drop (suc n) v)) [
-  | inl none ↦ (suc n, omega arith, λ i small. as_cost v (suc n) i (shortest_tail v (suc n) i le small none))
-  | inr two ↦ elim (preamble-cases (drop n v)) [
-    | inl none ↦ (n, omega arith, λ i small. as_cost v n i (one_more v n i le small two none))
-    | inr twice ↦ (suc n, omega arith, λ i small. as_cost v (suc n) i (still_shortest v n i le small two twice))
-  ]
-]
-
 vector_nullable_parts : IsPartCost (λ s. vector_nullable_size (Value s))
 vector_nullable_parts = vector_parts (λ n. unsigned_size (n + 1)) (λ m n le. unsigned_size-grows (m + 1) (n + 1) (omega arith))
-
--- a value as long as its base
-cut_tail : (k : Kind) (p : Presence) (base v : List ℕ) → length v ≡ length base → (t : List ℕ) × ((j : ℕ) × (t ≡ drop j v)) × IsBestTail k p base v t
-cut_tail k Mandatory base v same = let n = longest_prefix base v in (drop n.0 v, (n.0, refl), shortest k Mandatory base v n.0 n.1 same (parts k))
-cut_tail kind.Ascii Optional base v same =
-    let n = longest_prefix base v in
-    let j = nullable_place v n.0 n.1.in_b in (drop j.0 v, (j.0, refl), best_behind kind.Ascii Optional base v n.0 n.1 same j.0 j.1 j.2)
-cut_tail k Optional base v same = let n = longest_prefix base v in (drop n.0 v, (n.0, refl), shortest k Optional base v n.0 n.1 same vector_nullable_parts)
 
 -- ---- which tail that is, told by the sizes of two: the shortest, or one unit more where that has fewer bytes
 
@@ -172,6 +150,18 @@ shortest_is_best kind.Ascii Optional base v (suc m) prefix same no_less =
     best_behind kind.Ascii Optional base v (suc m) prefix same (suc m) (omega arith) (λ i small. as_cost v (suc m) i (needs_none v m in_v less i small))
 shortest_is_best k Optional base v n prefix same no_less = shortest k Optional base v n prefix same vector_nullable_parts
 
+-- a value as long as its base has one
+cut_tail : (k : Kind) (p : Presence) (base v : List ℕ) → length v ≡ length base → (j : ℕ) × IsBestTail k p base v (drop j v)
+cut_tail k p base v same =
+    let n = longest_prefix base v in
+    elim (cases_lt 0 n.0) [
+      | inl some ↦ elim (cases_lt (tail_size k p (drop (n.0 - 1) v)) (tail_size k p (drop n.0 v))) [
+        | inl lt ↦ (n.0 - 1, longer_is_best k p base v n.0 n.1 same some lt)
+        | inr ge ↦ (n.0, shortest_is_best k p base v n.0 n.1 same (λ _. ge))
+      ]
+      | inr none ↦ (n.0, shortest_is_best k p base v n.0 n.1 same (λ some. absurd (omega (arith, none, some))))
+    ]
+
 -- each value that is no shorter than its base has one
 tail_stands : (k : Kind) (p : Presence) (base v : Scalar) (tail : List ℕ) → IsUnitKind k → IsOfType k v → IsString k tail → IsBestTail k p (units_of base) (units_of v) tail → First (λ c b. SpellsTail Usual k p base c b v)
 tail_stands k p base v tail u l fits best = let s = shortest_units k p tail fits in (s.0, tail_is_first k p base v tail s.0 u l best s.1)
@@ -183,5 +173,5 @@ tail_first k p base v u l le =
       | inl lt ↦ tail_stands k p base v (units_of v) u l fits (longer_tail k p (units_of base) (units_of v) lt)
       | inr ge ↦
           let t = cut_tail k p (units_of base) (units_of v) (omega arith) in
-          tail_stands k p base v t.0 u l (rw t.1.1 (drop_fits k t.1.0 (units_of v) fits)) t.2
+          tail_stands k p base v (drop t.0 (units_of v)) u l (drop_fits k t.0 (units_of v) fits) t.1
     ]

@@ -3,6 +3,7 @@ use Rattle.std.proofs.Common.{◌≡◌, ℕ, ◌<◌, ◌≤◌, Bool, true, fa
 use Rattle.std.specs.Prelude.{ℤ, pos, negsuc, int_lt, int_le, nat_lt, nat_le, ◌&&◌, not, Option, Some, None, IsTrue, if◌then◌else◌}
 use Rattle.std.specs.List.{AllByRecursion}
 use Rattle.std.proofs.lemmas.Bool.Decides.{nat_tests}
+use Rattle.std.proofs.lemmas.Bool.{le-leb, leb-true}
 use Rattle.fast_wire.specs.declared.level.Level.TheVariants.{Usual}
 use Rattle.fast_wire.proofs.Readers.{ok_is}
 use Rattle.fast_wire.specs.Writing.{IsShortest}
@@ -20,7 +21,7 @@ use Rattle.fast_value.specs.declared.kind.Presence.{Presence}
 use Rattle.fast_value.specs.declared.kind.Presence.TheVariants.{Mandatory, Optional}
 use Rattle.fast_template.specs.declared.resolved.FieldPart.{FieldPart}
 use Rattle.fast_value.specs.declared.scalar.Scalar.{Scalar}
-use Rattle.fast_value.specs.declared.scalar.Scalar.TheVariants.{U32, I32, U64, I64, Decimal, Ascii, Unicode, Bytes}
+use Rattle.fast_value.specs.declared.scalar.Scalar.TheVariants.{U32, Decimal, Ascii, Unicode, Bytes}
 use Rattle.fast_dictionary.specs.declared.entry.Entry.{Entry}
 use Rattle.fast_field.specs.declared.fault.FieldFault.{FieldFault}
 use Rattle.fast_field.specs.declared.fault.FieldRefusal.{FieldRefusal}
@@ -42,7 +43,7 @@ use Rattle.fast_field.proofs.BestTails.{tail_first}
 use Rattle.fast_field.proofs.FieldsWithin.{delta_base_within, unit_kind, values_within}
 use Rattle.fast_field.proofs.Refused.{not_refused}
 use Rattle.fast_field.proofs.StandingForms.{Stands, whole_stands, null_whole_stands, null_stands, null_units_stand}
-use Rattle.fast_field.proofs.ValuesWithin.{IsOfType}
+use Rattle.fast_field.proofs.ValuesWithin.{both, IsOfType}
 
 -- ---- bit 0
 
@@ -88,19 +89,15 @@ pub left_out : (o : Operator) (i : FieldPart) (e : Entry) (v : Option Scalar) �
 left_out operator.Plain i e v h = absurd cc
 left_out operator.Constant i e v h = let w = constant_given i v h in (refl, refl, w.0, w.1)
 left_out operator.Default i e v h = (refl, refl, default_given i i.initial v refl h)
-left_out operator.Copy i e v h = (refl, refl, given (predicted i e) v h)
-left_out operator.Increment i e v h = (refl, refl, given (predicted i e) v h)
 left_out operator.Delta i e v h = absurd cc
-left_out operator.Tail i e v h = (refl, refl, given (predicted i e) v h)
+left_out o i e v h = (refl, refl, given (predicted i e) v h)
 
 pub can_be_left_out : (o : Operator) (i : FieldPart) (e : Entry) (cut : Cut) (b : List ℕ) (v : Option Scalar) → FormOf Usual o i e false cut b v → left_out_of o i e v ≡ true
 can_be_left_out operator.Plain i e cut b v f = absurd f
 can_be_left_out operator.Constant i e cut b v f = rw (f.3, f.2) refl
 can_be_left_out operator.Default i e cut b v f = gives_default i v f.2
-can_be_left_out operator.Copy i e cut b v f = gives (predicted i e) v f.2
-can_be_left_out operator.Increment i e cut b v f = gives (predicted i e) v f.2
 can_be_left_out operator.Delta i e cut b v f = absurd f
-can_be_left_out operator.Tail i e cut b v f = gives (predicted i e) v f.2
+can_be_left_out o i e cut b v f = gives (predicted i e) v f.2
 
 -- ---- bit 1
 
@@ -118,14 +115,11 @@ value_first i None h = subst (λ (p : Presence). First (λ c b. (c ≡ uncut) ×
 value_first i (Some v) h = whole_first i.kind i.presence (Some v) (whole_stands i.kind i.presence v h)
 
 delta_value_first : (k : Kind) (p : Presence) (base v : Scalar) → IsOfType k base → IsOfType k v → First (λ c b. DeltaValue Usual k p base c b v)
-delta_value_first kind.UInt32 p base v h l = number_delta_first kind.UInt32 p base v refl h l
-delta_value_first kind.Int32 p base v h l = number_delta_first kind.Int32 p base v refl h l
-delta_value_first kind.UInt64 p base v h l = number_delta_first kind.UInt64 p base v refl h l
-delta_value_first kind.Int64 p base v h l = number_delta_first kind.Int64 p base v refl h l
 delta_value_first kind.Decimal p base v h l = decimal_delta_first p base v h l
 delta_value_first kind.Ascii p base v h l = string_delta_first kind.Ascii p base v tt h l
 delta_value_first kind.Unicode p base v h l = string_delta_first kind.Unicode p base v tt h l
 delta_value_first kind.Bytes p base v h l = string_delta_first kind.Bytes p base v tt h l
+delta_value_first k p base v h l = number_delta_first k p base v refl h l
 
 has_base : (r : Result Scalar FieldFault) → delta_refusal r ≡ None → (base : Scalar) × (r ≡ Ok base)
 has_base (Ok base) e = (base, refl)
@@ -187,11 +181,6 @@ not_false : (t : Bool) → not t ≡ false → t ≡ true
 not_false true e = refl
 not_false false e = absurd cc
 
-both : (a b : Bool) → (a && b) ≡ true → (a ≡ true) × (b ≡ true)
-both true true e = (refl, refl)
-both true false e = absurd cc
-both false b e = absurd cc
-
 record Unrefused (i : FieldPart) (e : Entry) (v : Scalar) : Type 0 where
   pub of_kind : IsTrue (is_of i.kind v)
   pub characters : has_characters v ≡ true
@@ -222,34 +211,26 @@ few_elements (negsuc n) h = refl
 within_limit : (p : Part) (v : Scalar) → has_too_many p v ≡ false → is_far p v ≡ false → IsTrue (within_part p v)
 within_limit part.Exponent v few near = not_false (exponent_in_range (integer_of v)) near
 within_limit part.Length v few near = few_elements (integer_of v) few
-within_limit part.Whole v few near = refl
-within_limit part.Mantissa v few near = refl
+within_limit p v few near = refl
 
 few_units : (p : Part) (k : Kind) (v : Scalar) → IsKindOfPart p k → IsTrue (is_of k v) → has_too_many p v ≡ false → length (units_of v) ≤ 65535
-few_units part.Whole k v of_part h few = no_more (length (units_of v)) few
-few_units part.Exponent k v of_part h few = no_more (length (units_of v)) few
-few_units part.Mantissa k v of_part h few = no_more (length (units_of v)) few
 few_units part.Length k v of_part h few = no_units v (subst (λ (x : Kind). IsTrue (is_of x v)) of_part h)
   where
     no_units : (v : Scalar) → IsTrue (is_of kind.UInt32 v) → length (units_of v) ≤ 65535
     no_units (U32 n) h = omega arith
     no_units v h = absurd cc
+few_units p k v of_part h few = no_more (length (units_of v)) few
 
 near_decimal : (p : Part) (k : Kind) (e m : ℤ) → IsKindOfPart p k → IsTrue (is_of k (Decimal e m)) → is_far p (Decimal e m) ≡ false → IsTrue (exponent_in_range e)
-near_decimal part.Whole k e m of_part h near = not_false (exponent_in_range e) near
-near_decimal part.Mantissa k e m of_part h near = not_false (exponent_in_range e) near
-near_decimal part.Length k e m of_part h near = not_false (exponent_in_range e) near
 near_decimal part.Exponent k e m of_part h near = absurd (let w : false ≡ true = subst (λ (x : Kind). is_of x (Decimal e m) ≡ true) of_part h in cc)
+near_decimal p k e m of_part h near = not_false (exponent_in_range e) near
 
 scalar_within : (i : FieldPart) (e : Entry) (v : Scalar) → IsFieldPart i → HasRange v → Unrefused i e v → IsScalar v
-scalar_within i e (U32 n) is h u = h
-scalar_within i e (I32 z) is h u = h
-scalar_within i e (U64 n) is h u = h
-scalar_within i e (I64 z) is h u = h
 scalar_within i e (Decimal x m) is h u = (near_decimal i.part i.kind x m is.kind_of_part u.of_kind u.near, h.1)
 scalar_within i e (Ascii s) is h u = (few_units i.part i.kind (Ascii s) is.kind_of_part u.of_kind u.few, are_all s u.characters)
 scalar_within i e (Unicode s) is h u = (few_units i.part i.kind (Unicode s) is.kind_of_part u.of_kind u.few, h.0, h.1)
 scalar_within i e (Bytes s) is h u = (few_units i.part i.kind (Bytes s) is.kind_of_part u.of_kind u.few, h)
+scalar_within i e v is h u = h
 
 pub absent_optional : (p : Presence) → absent_refusal p ≡ None → p ≡ Optional
 absent_optional Mandatory h = absurd cc
@@ -275,14 +256,11 @@ constant_is_first i e v is = shortest_is_first (λ c b. FormOf Usual operator.Co
 -- under bit 1, where bit 0 does not give the value
 under_one : (o : Operator) (i : FieldPart) (e : Entry) (v : Option Scalar) → i.operator ≡ o → IsFieldPart i → HoldsScalar e → IsOfField i v → ((w : Scalar) → v ≡ Some w → operator_refusal o i e w ≡ None) → left_out_of o i e v ≡ false
     → First (λ c b. FormOf Usual o i e true c b v)
-under_one operator.Plain i e v o is h l none out = value_first i v l
-under_one operator.Default i e v o is h l none out = value_first i v l
-under_one operator.Copy i e v o is h l none out = value_first i v l
-under_one operator.Increment i e v o is h l none out = value_first i v l
 under_one operator.Constant i e None o is h l none out = absurd (let w : constant_gives i.presence None ≡ true = rw l refl in cc)
 under_one operator.Constant i e (Some v) o is h l none out = ([], constant_is_first i e v (constant_is i.part i.initial v (none v refl)))
 under_one operator.Delta i e v o is h l none out = delta_first i e v is h l none
 under_one operator.Tail i e v o is h l none out = tail_form_first i e v is (subst (λ (x : Operator). IsTrue (applies x i.kind)) o is.typed.operator_applies) l none
+under_one o i e v of_o is h l none out = value_first i v l
 
 pub best_under_one : (i : FieldPart) (e : Entry) (v : Option Scalar) (best : List ℕ) → IsWithin i.part v → IsFirst (λ c b. FormOf Usual i.operator i e true c b v) best → left_out_of i.operator i e v ≡ false → IsBest i e true best v
 best_under_one i e v best within f out = record { cut = f.cut; form = record { row = f.form; within = within }; first = later }
@@ -304,24 +282,14 @@ best_stands i e v is h r none = best_by i e v (left_out_of i.operator i e v) ref
 
 -- ---- what has a form has a best one
 
-at_most : (m n : ℕ) → nat_le m n ≡ true → m ≤ n
-at_most m n h = grind (arith, nat_tests)
-
-is_at_most : (m n : ℕ) → m ≤ n → nat_le m n ≡ true
-is_at_most m n h = grind (arith, nat_tests)
-
 wide : (z : ℤ) → IsTrue (exponent_in_range z) → IsTrue (in_range kind.Int32 z)
-wide (pos n) h = let le = at_most n 63 h in is_at_most n 2147483647 (omega arith)
+wide (pos n) h = let le = leb-true n 63 h in le-leb n 2147483647 (omega arith)
 wide (negsuc n) h =
-    let le = at_most n 62 (both (nat_le n 62) true h).0 in
-    let t : nat_le n 2147483647 ≡ true = is_at_most n 2147483647 (omega arith) in
+    let le = leb-true n 62 (both (nat_le n 62) true h).0 in
+    let t : nat_le n 2147483647 ≡ true = le-leb n 2147483647 (omega arith) in
     rw t refl
 
 range_of_scalar : (v : Scalar) → IsScalar v → HasRange v
-range_of_scalar (U32 n) h = h
-range_of_scalar (I32 z) h = h
-range_of_scalar (U64 n) h = h
-range_of_scalar (I64 z) h = h
 range_of_scalar (Decimal e m) h = (wide e h.0, h.1)
 range_of_scalar (Ascii s) h = small s h.1
   where
@@ -330,6 +298,7 @@ range_of_scalar (Ascii s) h = small s h.1
     small (c ∷ s) h = let lt = h.0 in (omega arith, small s h.1)
 range_of_scalar (Unicode s) h = (h.1, h.2)
 range_of_scalar (Bytes s) h = h.1
+range_of_scalar v h = h
 
 range_of_value : (i : FieldPart) (v : Option Scalar) → IsFieldValue i v → HasRangeOr v
 range_of_value i None h = tt

@@ -18,7 +18,7 @@ use Rattle.fast_field.specs.declared.fault.FieldFault.TheVariants as fault
 use Rattle.fast_field.specs.Faults.{field_fault}
 use Rattle.fast_field.specs.Calls.{OrRefused}
 use Rattle.fast_field.specs.FieldReading.{in_field, unit_value, units_at, units_spelled_at, row_at, part_checked, field_at}
-use Rattle.fast_field.proofs.ValueFaults.{IsOther, other_then, done, value, null_or, unit_made, part_allowed}
+use Rattle.fast_field.proofs.ValueFaults.{NoWant, never_then, made, null_or, unit_made, part_allowed}
 
 -- ---- faults
 
@@ -33,9 +33,9 @@ verdict_fails e overlong f r (inl h) = rw h refl
 verdict_fails e overlong f r (inr h) = absurd h
 
 -- a first step that failed, where what follows needs no more bytes
-pub refused_then : {A B : Type 0} (e : FieldFault) (r : Result A FieldFault) (k : A → Result B FieldFault) → Fails OrRefused e r → ((x : A) → IsOther fault.NeedMore (k x)) → Fails OrRefused e (r >>= k)
+pub refused_then : {A B : Type 0} (e : FieldFault) (r : Result A FieldFault) (k : A → Result B FieldFault) → Fails OrRefused e r → ((x : A) → NoWant (k x)) → Fails OrRefused e (r >>= k)
 refused_then e r k (inl h) behind = inl (rw h refl)
-refused_then e r k (inr h) behind = inr (h.0, other_then fault.NeedMore r k h.1 behind)
+refused_then e r k (inr h) behind = inr (h.0, never_then r k h.1 behind)
 
 -- ---- texts
 
@@ -55,11 +55,10 @@ unicode_refused k s e never = rw (e, no_text s (is_utf8 s) never refl) refl
 
 pub string_fails : (level : Level) (e : FieldFault) (k : Kind) (p : Presence) (bytes : List ℕ) → Fails OrRefused e (units_at level k p bytes) → Fails OrRefused e (units_spelled_at level k p bytes)
 unfolding units_spelled_at
-string_fails level e k p bytes h = refused_then e (units_at level k p bytes) _ h (λ s. null_or fault.NeedMore s.0 s.1 _ (λ s rest. value fault.NeedMore _ rest (unit_made fault.NeedMore tt k s)))
+string_fails level e k p bytes h = refused_then e (units_at level k p bytes) _ h (λ s. null_or s (unit_value k) (unit_made k))
 
 pub row_fails : (level : Level) (e : FieldFault) (i : FieldPart) (kept : Entry) (bit : Bool) (bytes : List ℕ) → Fails OrRefused e (row_at level i.operator i kept bit bytes) → Fails OrRefused e (field_at level i kept bit bytes)
 unfolding field_at
-row_fails level e i kept bit bytes h =
-    refused_then e (row_at level i.operator i kept bit bytes) _ h (λ x. other_then fault.NeedMore (part_checked i.part x.0) _ (part_allowed fault.NeedMore tt i.part x.0) (λ v. done fault.NeedMore _))
+row_fails level e i kept bit bytes h = refused_then e (row_at level i.operator i kept bit bytes) _ h (λ x. made (λ v. (v, x.1)) (part_checked i.part x.0) (part_allowed i.part x.0))
 
 pub ruleset call_steps = (wire_fails, verdict_fails, unicode_value, unicode_refused)

@@ -1,5 +1,5 @@
 -- What is chosen for a value is spelled as its best form.
-use Rattle.std.proofs.Common.{◌≡◌, ℕ, ◌-◌, ◌<◌, ◌≤◌, Bool, true, false, List, [], ◌∷◌, ◌++◌, length, take, drop, refl, subst, arith, Ok, Err, Result, length-append}
+use Rattle.std.proofs.Common.{◌≡◌, ℕ, ◌-◌, ◌<◌, Bool, true, false, List, [], ◌∷◌, ◌++◌, length, take, drop, refl, subst, arith, Ok, Err, Result, length-append}
 use Rattle.std.specs.Prelude.{ℤ, pos, negsuc, ◌-ℤ◌, Option, Some, None, IsTrue}
 use Rattle.std.specs.List.{AllByRecursion}
 use Rattle.fast_wire.specs.declared.level.Level.TheVariants.{Usual}
@@ -25,7 +25,7 @@ use Rattle.fast_dictionary.specs.declared.entry.Entry.{Entry}
 use Rattle.fast_field.specs.declared.fault.FieldFault.{FieldFault}
 use Rattle.fast_field.specs.declared.pieces.Pieces.{Pieces}
 use Rattle.fast_field.specs.declared.pieces.Pieces.TheVariants as pieces
-use Rattle.fast_field.specs.Values.{integer_of, exponent_of, mantissa_of, units_of, IsUnitKind}
+use Rattle.fast_field.specs.Values.{is_unsigned, integer_of, exponent_of, mantissa_of, units_of, IsUnitKind}
 use Rattle.fast_field.specs.Parts.{IsFieldPart}
 use Rattle.fast_field.specs.Bases.{delta_base, tail_base}
 use Rattle.fast_field.specs.Spelled.{SpellsInteger, SpellsUnits, Spelled}
@@ -44,8 +44,9 @@ use Rattle.fast_field.proofs.BestTails.{tail_is_first}
 use Rattle.fast_field.proofs.BestValues.{left_out, whole_is_first, delta_is_first, delta_null_is_first, tail_form_is_first, tail_null_is_first, constant_is_first, constant_is, absent_optional, best_under_one, field_value, operator_allows}
 use Rattle.fast_field.proofs.FieldsWithin.{delta_base_within, unit_kind}
 use Rattle.fast_field.proofs.Shortest.{unsigned_form, signed_form, units_form, pair_form, pair_least}
-use Rattle.fast_field.proofs.StandingForms.{text_of, number_is_shortest, string_is_shortest, decimal_is_shortest}
+use Rattle.fast_field.proofs.StandingForms.{text_of, number_shortest, string_is_shortest, decimal_is_shortest}
 use Rattle.fast_field.proofs.ValuesWithin.{IsOfType, IsString, unit_limit, units_of_string}
+use Rattle.fast_field.proofs.Refused.{few_units}
 
 -- ---- NULL is one byte in every form
 
@@ -73,31 +74,25 @@ null_units kind.Ascii = record { form = ascii_null_shortest.form; least = ascii_
 null_units k = record { form = vector_null_shortest.form; least = vector_null_shortest.least }
 
 null_spelled : (k : Kind) → IsShortest (Spelled Usual k Optional) null_byte None
-null_spelled kind.UInt32 = record { form = (null_integer true).form; least = (null_integer true).least }
-null_spelled kind.Int32 = record { form = (null_integer false).form; least = (null_integer false).least }
-null_spelled kind.UInt64 = record { form = (null_integer true).form; least = (null_integer true).least }
-null_spelled kind.Int64 = record { form = (null_integer false).form; least = (null_integer false).least }
 null_spelled kind.Decimal = record { form = (null_integer false).form; least = (null_integer false).least }
 null_spelled kind.Ascii = record { form = (null_units kind.Ascii).form; least = (null_units kind.Ascii).least }
 null_spelled kind.Unicode = record { form = (null_units kind.Unicode).form; least = (null_units kind.Unicode).least }
 null_spelled kind.Bytes = record { form = (null_units kind.Bytes).form; least = (null_units kind.Bytes).least }
+null_spelled k = record { form = (null_integer (is_unsigned k)).form; least = (null_integer (is_unsigned k)).least }
 
 null_first : (o : Operator) (i : FieldPart) (e : Entry) → i.presence ≡ Optional → left_out_of o i e None ≡ false → IsFirst (λ c b. FormOf Usual o i e true c b None) null_byte
-null_first operator.Plain i e p out = whole_is_first i.kind i.presence None null_byte (rw p (null_spelled i.kind))
-null_first operator.Default i e p out = whole_is_first i.kind i.presence None null_byte (rw p (null_spelled i.kind))
-null_first operator.Copy i e p out = whole_is_first i.kind i.presence None null_byte (rw p (null_spelled i.kind))
-null_first operator.Increment i e p out = whole_is_first i.kind i.presence None null_byte (rw p (null_spelled i.kind))
 null_first operator.Constant i e p out = absurd (let w : constant_gives i.presence None ≡ true = rw p refl in cc)
 null_first operator.Delta i e p out = delta_null_is_first i e null_byte (rw p (null_integer false))
 null_first operator.Tail i e p out = tail_null_is_first i e null_byte (rw p (null_units i.kind))
+null_first o i e p out = whole_is_first i.kind i.presence None null_byte (rw p (null_spelled i.kind))
 
 -- ---- what stands whole
 
 pub whole_shortest : (k : Kind) (p : Presence) (v : Scalar) (b : List ℕ) → IsOfType k v → ShortestWhole p v b → IsShortest (Spelled Usual k p) b (Some v)
-whole_shortest kind.UInt32 p (U32 n) b h s = number_is_shortest kind.UInt32 p (U32 n) b refl h (unsigned_form p n b s)
-whole_shortest kind.UInt64 p (U64 n) b h s = number_is_shortest kind.UInt64 p (U64 n) b refl h (unsigned_form p n b s)
-whole_shortest kind.Int32 p (I32 z) b h s = number_is_shortest kind.Int32 p (I32 z) b refl h (signed_form p z b s)
-whole_shortest kind.Int64 p (I64 z) b h s = number_is_shortest kind.Int64 p (I64 z) b refl h (signed_form p z b s)
+whole_shortest kind.UInt32 p (U32 n) b h s = number_shortest kind.UInt32 p (U32 n) b refl h (unsigned_form p n b s)
+whole_shortest kind.UInt64 p (U64 n) b h s = number_shortest kind.UInt64 p (U64 n) b refl h (unsigned_form p n b s)
+whole_shortest kind.Int32 p (I32 z) b h s = number_shortest kind.Int32 p (I32 z) b refl h (signed_form p z b s)
+whole_shortest kind.Int64 p (I64 z) b h s = number_shortest kind.Int64 p (I64 z) b refl h (signed_form p z b s)
 whole_shortest kind.Decimal p (Decimal e m) b h s = decimal_is_shortest p e m b h (pair_form p e m b s) (pair_least p e m b s)
 whole_shortest kind.Ascii p (Ascii t) b h s = string_is_shortest kind.Ascii p (Ascii t) b tt h (units_form kind.Ascii p t b s)
 whole_shortest kind.Unicode p (Unicode t) b h s = string_is_shortest kind.Unicode p (Unicode t) b tt h (units_form kind.Unicode p t b s)
@@ -166,13 +161,10 @@ constant_first i e v x b none made s = absurd made
 
 chosen_first : (o : Operator) (i : FieldPart) (e : Entry) (v : Scalar) (x : Pieces) (b : List ℕ) → IsTrue (applies o i.kind) → IsFieldPart i → HoldsScalar e → IsOfType i.kind v → operator_refusal o i e v ≡ None → IsMadeOf o i e v x → ShortestPieces i x b
     → IsFirst (λ c b. FormOf Usual o i e true c b (Some v)) b
-chosen_first operator.Plain i e v x b a is h l none made s = whole_first i v x b l made s
-chosen_first operator.Default i e v x b a is h l none made s = whole_first i v x b l made s
-chosen_first operator.Copy i e v x b a is h l none made s = whole_first i v x b l made s
-chosen_first operator.Increment i e v x b a is h l none made s = whole_first i v x b l made s
 chosen_first operator.Constant i e v x b a is h l none made s = constant_first i e v x b none made s
 chosen_first operator.Delta i e v x b a is h l none made s = delta_first i e v x b is h l made s
 chosen_first operator.Tail i e v x b a is h l none made s = tail_first i e v x b a l made s
+chosen_first o i e v x b a is h l none made s = whole_first i v x b l made s
 
 -- the shortest bytes of what was chosen are the best form
 pub chosen_best : (i : FieldPart) (e : Entry) (v : Scalar) (x : Pieces) → IsFieldPart i → HoldsScalar e → HasRange v → refusal_of i e (Some v) ≡ None → left_out_of i.operator i e (Some v) ≡ false → IsMadeOf i.operator i e v x
@@ -198,12 +190,6 @@ whole_fits (Ascii s) h = units_fit kind.Ascii s h
 whole_fits (Unicode s) h = h.0
 whole_fits (Bytes s) h = h.0
 whole_fits v h = tt
-
-pub few_units : (v : Scalar) → IsScalar v → length (units_of v) ≤ 65535
-few_units (Ascii s) h = h.0
-few_units (Unicode s) h = h.0
-few_units (Bytes s) h = h.0
-few_units v h = omega arith
 
 -- the units of a value
 pub value_fits : (k : Kind) (v : Scalar) → IsOfType k v → CanBeUnits k (units_of v)
@@ -262,10 +248,6 @@ nothing_fits i pieces.Nothing made = tt
 nothing_fits i x made = absurd made
 
 chosen_fits : (o : Operator) (i : FieldPart) (e : Entry) (v : Scalar) (x : Pieces) → IsTrue (applies o i.kind) → IsFieldPart i → HoldsScalar e → IsOfType i.kind v → IsMadeOf o i e v x → CanBePieces i x
-chosen_fits operator.Plain i e v x a is h l made = wholes_fit i v x l.1 made
-chosen_fits operator.Default i e v x a is h l made = wholes_fit i v x l.1 made
-chosen_fits operator.Copy i e v x a is h l made = wholes_fit i v x l.1 made
-chosen_fits operator.Increment i e v x a is h l made = wholes_fit i v x l.1 made
 chosen_fits operator.Constant i e v x a is h l made = nothing_fits i x made
 chosen_fits operator.Delta i e v x a is h l made =
     let base = on_base (delta_base i e) (λ base. IsDelta i.kind i.presence base v x) made in
@@ -273,6 +255,7 @@ chosen_fits operator.Delta i e v x a is h l made =
 chosen_fits operator.Tail i e v x a is h l made =
     let base = on_base (tail_base i e) (λ base. IsTail i.kind i.presence base v x) made in
     tail_fits i base.0 v x (unit_kind i.kind a) l base.2
+chosen_fits o i e v x a is h l made = wholes_fit i v x l.1 made
 
 pub chosen_can : (i : FieldPart) (e : Entry) (v : Scalar) (x : Pieces) → IsFieldPart i → HoldsScalar e → HasRange v → refusal_of i e (Some v) ≡ None → IsMadeOf i.operator i e v x → CanBePieces i x
 chosen_can i e v x is h r none made = chosen_fits i.operator i e v x is.typed.operator_applies is h (field_value i e (Some v) is r none).of_field made

@@ -5,6 +5,7 @@ use Rattle.std.specs.Prelude.{ℤ, pos, negsuc, nat_le, nat_lt, ◌&&◌, Option
 use Rattle.std.specs.List.{AllByRecursion}
 use Rattle.std.proofs.lemmas.Bool.Decides.{nat_tests}
 use Rattle.std.proofs.lemmas.List.{append-nil}
+use Rattle.std.proofs.lemmas.Bool.{leb-true, ltb-true}
 use Rattle.fast_wire.specs.declared.level.Level.TheVariants.{Usual}
 use Rattle.fast_wire.specs.Reader.{IsReader}
 use Rattle.fast_wire.specs.Sizes.{ascii_size}
@@ -27,15 +28,10 @@ use Rattle.fast_field.proofs.BestCuts.{agree_front, agree_back, front_agrees, ba
 use Rattle.fast_field.proofs.BestTails.{longer_is_best, shortest_is_best, tail_is_first, tail_least}
 use Rattle.fast_field.proofs.BestValues.{delta_is_first, tail_form_is_first, best_under_one}
 use Rattle.fast_field.proofs.SpelledForms.{integer_forms, part_forms, units_forms}
-use Rattle.fast_field.proofs.ValuesWithin.{IsOfType}
+use Rattle.fast_field.proofs.ValuesWithin.{both, IsOfType}
 use Rattle.fast_field.proofs.WorkedFields.{part_of}
 
 -- ---- texts and bytes
-
-both_so : (a b : Bool) → (a && b) ≡ true → (a ≡ true) × (b ≡ true)
-both_so true true e = (refl, refl)
-both_so true false e = absurd cc
-both_so false b e = absurd cc
 
 abbrev pub all_below : ℕ → List ℕ → Bool
 all_below most [] = true
@@ -44,7 +40,7 @@ all_below most (c ∷ s) = nat_lt c most && all_below most s
 all_below_is : (most : ℕ) (s : List ℕ) → all_below most s ≡ true → AllByRecursion (λ c. c < most) s
 all_below_is most [] e = tt
 all_below_is most (c ∷ s) e =
-    let h = both_so (nat_lt c most) (all_below most s) e in
+    let h = both (nat_lt c most) (all_below most s) e in
     (grind (arith, nat_tests, h.0), all_below_is most s h.1)
 
 abbrev pub is_text : List ℕ → Bool
@@ -52,7 +48,7 @@ is_text s = nat_le (length s) 65535 && all_below 128 s
 
 pub text_is : (s : List ℕ) → is_text s ≡ true → IsOfType kind.Ascii (Ascii s)
 text_is s e =
-    let h = both_so (nat_le (length s) 65535) (all_below 128 s) e in
+    let h = both (nat_le (length s) 65535) (all_below 128 s) e in
     (refl, (grind (arith, nat_tests, h.0), all_below_is 128 s h.1))
 
 -- ---- bytes that are read as a value, to their end, are a form of it
@@ -93,14 +89,11 @@ abbrev pub part_by : Bool → List ℕ → List ℕ → List ℕ
 part_by true base v = drop (agree_front base v) v
 part_by false base v = take (length v - agree_back base v) v
 
-no_more : (a b : ℕ) → nat_le a b ≡ true → a ≤ b
-no_more a b e = grind (arith, nat_tests, e)
-
 fewer : (a b : ℕ) → nat_le a b ≡ false → b < a
 fewer a b e = grind (arith, nat_tests, e)
 
 cut_is : (p : Presence) (base v : List ℕ) (t : Bool) → ends_first p base v ≡ t → IsBestCut kind.Ascii p base v (removal_by t base v) (part_by t base v)
-cut_is p base v true e = best_at_end kind.Ascii p base v (agree_front base v) (agree_back base v) (front_agrees base v) (back_agrees base v) (no_more _ _ e)
+cut_is p base v true e = best_at_end kind.Ascii p base v (agree_front base v) (agree_back base v) (front_agrees base v) (back_agrees base v) (leb-true _ _ e)
 cut_is p base v false e = best_in_front kind.Ascii p base v (agree_front base v) (agree_back base v) (front_agrees base v) (back_agrees base v) (fewer _ _ e)
 
 pub delta_row : (p : Presence) (initial : Option Scalar) (e : Entry) (base v front back : List ℕ) (t : Bool) → delta_base (part_of Whole kind.Ascii p Delta initial) e ≡ Ok (Ascii base) → is_text base ≡ true → is_text v ≡ true
@@ -131,16 +124,13 @@ abbrev pub tail_by : Bool → List ℕ → List ℕ → List ℕ
 tail_by true base v = drop (agree_front base v - 1) v
 tail_by false base v = drop (agree_front base v) v
 
-below : (a b : ℕ) → nat_lt a b ≡ true → a < b
-below a b e = grind (arith, nat_tests, e)
-
 not_below : (n a b : ℕ) → (nat_lt 0 n && nat_lt a b) ≡ false → 0 < n → b ≤ a
 not_below n a b e some = grind (arith, nat_tests, e, some)
 
 tail_is : (p : Presence) (base v : List ℕ) (t : Bool) → length v ≡ length base → more_first p base v ≡ t → IsBestTail kind.Ascii p base v (tail_by t base v)
 tail_is p base v true long e =
-    let h = both_so (nat_lt 0 (agree_front base v)) _ e in
-    longer_is_best kind.Ascii p base v (agree_front base v) (front_agrees base v) long (below _ _ h.0) (below _ _ h.1)
+    let h = both (nat_lt 0 (agree_front base v)) _ e in
+    longer_is_best kind.Ascii p base v (agree_front base v) (front_agrees base v) long (ltb-true _ _ h.0) (ltb-true _ _ h.1)
 tail_is p base v false long e = shortest_is_best kind.Ascii p base v (agree_front base v) (front_agrees base v) long (not_below _ _ _ e)
 
 pub tail_row : (p : Presence) (initial : Option Scalar) (e : Entry) (base v b : List ℕ) (t : Bool) → tail_base (part_of Whole kind.Ascii p Tail initial) e ≡ Ok (Ascii base) → is_text v ≡ true → length v ≡ length base

@@ -79,19 +79,14 @@ initial_from i (Some v) h = h
 row : (level : Level) → (o : Operator) (i : FieldPart) (e : Entry) (bit : Bool) → (operator_needs_bit o i.presence ≡ false → bit ≡ true) → (o ≡ operator.Default → i.presence ≡ Mandatory → IsSome i.initial) → IsReader fault.NeedMore (row_at level o i e bit) (Row level o i e bit)
 unfolding row_at
 row level operator.Plain i e false h d = let b = h refl in absurd cc
-row level operator.Plain i e true h d = whole_row level i
 row level operator.Constant i e false h d = given (done None) (λ cut b v. FormOf level operator.Constant i e false cut b v) (λ v w. (refl, refl, optional_constant i.presence h, made_so None v w)) (λ cut b v w. (w.1, so_made None v w.3))
 row level operator.Constant i e true h d = given (done i.initial) (λ cut b v. FormOf level operator.Constant i e true cut b v) (λ v w. (refl, refl, made_so i.initial v w)) (λ cut b v w. (w.1, so_made i.initial v w.2))
 row level operator.Default i e false h d = given (done i.initial) (λ cut b v. FormOf level operator.Default i e false cut b v) (λ v w. (refl, refl, initial_to i v (d refl) (sym (made_so i.initial v w)))) (λ cut b v w. (w.1, so_made i.initial v (sym (initial_from i v w.2))))
-row level operator.Default i e true h d = whole_row level i
-row level operator.Copy i e false h d = predicted_row i e
-row level operator.Copy i e true h d = whole_row level i
-row level operator.Increment i e false h d = predicted_row i e
-row level operator.Increment i e true h d = whole_row level i
 row level operator.Delta i e false h d = let b = h refl in absurd cc
 row level operator.Delta i e true h d = deltas level i e
-row level operator.Tail i e false h d = predicted_row i e
 row level operator.Tail i e true h d = tails level i e
+row level o i e false h d = predicted_row i e
+row level o i e true h d = whole_row level i
 
 -- ---- the limits of parts
 
@@ -100,16 +95,14 @@ unfolding part_checked
 checked_ok pt None y e = (ok_is {F = FieldFault} None y e, tt)
 checked_ok part.Exponent (Some v) y e = let w = if_ok (within_part part.Exponent v) (Some v) y fault.R1 e in (w.1, w.0)
 checked_ok part.Length (Some v) y e = let w = if_ok (within_part part.Length v) (Some v) y fault.Limit e in (w.1, w.0)
-checked_ok part.Whole (Some v) y e = (ok_is {F = FieldFault} (Some v) y e, refl)
-checked_ok part.Mantissa (Some v) y e = (ok_is {F = FieldFault} (Some v) y e, refl)
+checked_ok p (Some v) y e = (ok_is {F = FieldFault} (Some v) y e, refl)
 
 pub checked_is : (pt : Part) (x : Option Scalar) → IsWithin pt x → part_checked pt x ≡ Ok x
 unfolding part_checked
 checked_is pt None h = refl
 checked_is part.Exponent (Some v) h = if_holds (within_part part.Exponent v) (Some v) fault.R1 h
 checked_is part.Length (Some v) h = if_holds (within_part part.Length v) (Some v) fault.Limit h
-checked_is part.Whole (Some v) h = refl
-checked_is part.Mantissa (Some v) h = refl
+checked_is p (Some v) h = refl
 
 pub field_forms : (level : Level) → (i : FieldPart) (e : Entry) (bit : Bool) → IsBitOf i bit → HasDefault i → IsReader fault.NeedMore (field_at level i e bit) (Form level i e bit)
 unfolding field_at

@@ -6,6 +6,7 @@ use Rattle.std.specs.List.{AllByRecursion}
 use Rattle.std.proofs.lemmas.Bool.Decides.{nat_tests}
 use Rattle.std.proofs.lemmas.Int.{ints}
 use Rattle.std.proofs.lemmas.Str.{IsUtf8-from_is_utf8}
+use Rattle.std.proofs.lemmas.Bool.{le-leb, leb-true}
 use Rattle.fast_wire.specs.declared.level.Level.TheVariants.{Usual}
 use Rattle.fast_wire.proofs.Readers.{ok_is}
 use Rattle.fast_value.specs.Scalar.{is_of, is_integer, in_range, least_of, greatest_of, kind_of, of_integer, IsScalar}
@@ -70,38 +71,31 @@ delta_base_within i Empty base is h e = absurd cc
 delta_base_within i (Assigned v) base is h e = kept_within i v base h e
 
 pub tail_base_within : (i : FieldPart) (e : Entry) (base : Scalar) → IsFieldPart i → HoldsScalar e → tail_base i e ≡ Ok base → IsOfType i.kind base
-tail_base_within i Undefined base is h e = subst (λ (x : Scalar). IsOfType i.kind x) (ok_is {F = FieldFault} (start_of i) base e) (start_within i i.initial is.typed.initial_fits)
-tail_base_within i Empty base is h e = subst (λ (x : Scalar). IsOfType i.kind x) (ok_is {F = FieldFault} (start_of i) base e) (start_within i i.initial is.typed.initial_fits)
 tail_base_within i (Assigned v) base is h e = kept_within i v base h e
+tail_base_within i o base is h e = subst (λ (x : Scalar). IsOfType i.kind x) (ok_is {F = FieldFault} (start_of i) base e) (start_within i i.initial is.typed.initial_fits)
 
 -- ---- increment
-
-is_le : (m n : ℕ) → m ≤ n → nat_le m n ≡ true
-is_le m n h = grind (arith, nat_tests)
 
 is_lt : (m n : ℕ) → nat_lt m n ≡ true → m + 1 ≤ n
 is_lt m n h = grind (arith, nat_tests)
 
-and_true : (a b : Bool) → a ≡ true → b ≡ true → (a && b) ≡ true
+pub and_true : (a b : Bool) → a ≡ true → b ≡ true → (a && b) ≡ true
 and_true a b h l = rw (h, l) refl
-
-le_is : (m n : ℕ) → nat_le m n ≡ true → m ≤ n
-le_is m n h = grind (arith, nat_tests)
 
 one_up : (n : ℕ) → negsuc (suc n) +ℤ pos 1 ≡ negsuc n
 one_up n = omega (arith, ints)
 
 next_in_range : (k : Kind) (z : ℤ) → IsTrue (is_integer k) → IsTrue (in_range k z) → int_lt z (greatest_of k) ≡ true → IsTrue (in_range k (z +ℤ pos 1))
-next_in_range kind.UInt32 (pos n) i h l = and_true _ _ (is_le 0 (n + 1) (omega arith)) (is_le (n + 1) 4294967295 (is_lt n 4294967295 l))
-next_in_range kind.UInt64 (pos n) i h l = and_true _ _ (is_le 0 (n + 1) (omega arith)) (is_le (n + 1) 18446744073709551615 (is_lt n 18446744073709551615 l))
-next_in_range kind.Int32 (pos n) i h l = is_le (n + 1) 2147483647 (is_lt n 2147483647 l)
-next_in_range kind.Int64 (pos n) i h l = is_le (n + 1) 9223372036854775807 (is_lt n 9223372036854775807 l)
+next_in_range kind.UInt32 (pos n) i h l = and_true _ _ (le-leb 0 (n + 1) (omega arith)) (le-leb (n + 1) 4294967295 (is_lt n 4294967295 l))
+next_in_range kind.UInt64 (pos n) i h l = and_true _ _ (le-leb 0 (n + 1) (omega arith)) (le-leb (n + 1) 18446744073709551615 (is_lt n 18446744073709551615 l))
+next_in_range kind.Int32 (pos n) i h l = le-leb (n + 1) 2147483647 (is_lt n 2147483647 l)
+next_in_range kind.Int64 (pos n) i h l = le-leb (n + 1) 9223372036854775807 (is_lt n 9223372036854775807 l)
 next_in_range kind.UInt32 (negsuc n) i h l = absurd cc
 next_in_range kind.UInt64 (negsuc n) i h l = absurd cc
 next_in_range kind.Int32 (negsuc zero) i h l = refl
 next_in_range kind.Int64 (negsuc zero) i h l = refl
-next_in_range kind.Int32 (negsuc (suc n)) i h l = let w = both (nat_le (suc n) 2147483647) true h in rw (one_up n) (and_true _ _ (is_le n 2147483647 (omega (arith, le_is (suc n) 2147483647 w.0))) refl)
-next_in_range kind.Int64 (negsuc (suc n)) i h l = let w = both (nat_le (suc n) 9223372036854775807) true h in rw (one_up n) (and_true _ _ (is_le n 9223372036854775807 (omega (arith, le_is (suc n) 9223372036854775807 w.0))) refl)
+next_in_range kind.Int32 (negsuc (suc n)) i h l = let w = both (nat_le (suc n) 2147483647) true h in rw (one_up n) (and_true _ _ (le-leb n 2147483647 (omega (arith, leb-true (suc n) 2147483647 w.0))) refl)
+next_in_range kind.Int64 (negsuc (suc n)) i h l = let w = both (nat_le (suc n) 9223372036854775807) true h in rw (one_up n) (and_true _ _ (le-leb n 9223372036854775807 (omega (arith, leb-true (suc n) 9223372036854775807 w.0))) refl)
 next_in_range k z i h l = absurd cc
 
 one_more_within : (k : Kind) (z : ℤ) (t : Bool) → IsTrue (is_integer k) → IsTrue (in_range k z) → int_lt z (greatest_of k) ≡ t → IsOfType k (if t then of_integer k (z +ℤ pos 1) else of_integer k (least_of k))
@@ -112,8 +106,8 @@ one_more_within kind.UInt64 z false i h l = (refl, omega arith)
 one_more_within kind.Int64 z false i h l = (refl, refl)
 one_more_within k z false i h l = absurd cc
 
-uint_in_range : (n m : ℕ) → n < m + 1 → (nat_le 0 n && nat_le n m) ≡ true
-uint_in_range n m h = and_true _ _ (is_le 0 n (omega arith)) (is_le n m (omega arith))
+pub uint_in_range : (n m : ℕ) → n < m + 1 → (nat_le 0 n && nat_le n m) ≡ true
+uint_in_range n m h = and_true _ _ (le-leb 0 n (omega arith)) (le-leb n m (omega arith))
 
 pub increased_within : (v : Scalar) → IsTrue (is_integer (kind_of v)) → IsScalar v → IsOfType (kind_of v) (increased v)
 increased_within (U32 n) i h = one_more_within kind.UInt32 (pos n) (int_lt (pos n) (pos 4294967295)) refl (uint_in_range n 4294967295 h) refl
@@ -166,14 +160,11 @@ cut_within k p base cut b v u h c =
     string_within k (put_together c.removal (units_of base) c.new_part) v u c.value.1 (c.value.0, put_within (λ x. x < unit_limit k) c.removal (units_of base) c.new_part units.1 part.1)
 
 delta_within : (k : Kind) (p : Presence) (base : Scalar) (cut : Cut) (b : List ℕ) (v : Scalar) → IsOfType k base → DeltaValue Usual k p base cut b v → IsOfType k v
-delta_within kind.UInt32 p base cut b v h d = rw d.value (number_within kind.UInt32 (integer_of base +ℤ d.delta) refl d.range)
-delta_within kind.Int32 p base cut b v h d = rw d.value (number_within kind.Int32 (integer_of base +ℤ d.delta) refl d.range)
-delta_within kind.UInt64 p base cut b v h d = rw d.value (number_within kind.UInt64 (integer_of base +ℤ d.delta) refl d.range)
-delta_within kind.Int64 p base cut b v h d = rw d.value (number_within kind.Int64 (integer_of base +ℤ d.delta) refl d.range)
 delta_within kind.Decimal p base cut b v h d = rw d.value.2 (refl, (d.value.0, d.value.1))
 delta_within kind.Ascii p base cut b v h d = cut_within kind.Ascii p base cut b v tt h d
 delta_within kind.Unicode p base cut b v h d = cut_within kind.Unicode p base cut b v tt h d
 delta_within kind.Bytes p base cut b v h d = cut_within kind.Bytes p base cut b v tt h d
+delta_within k p base cut b v h d = rw d.value (number_within k (integer_of base +ℤ d.delta) refl d.range)
 
 delta_form_within : (i : FieldPart) (e : Entry) (cut : Cut) (b : List ℕ) (v : Option Scalar) → IsFieldPart i → HoldsScalar e → DeltaForm Usual i e cut b v → IsOfTypeOr i.kind i.presence v
 delta_form_within i e cut b None is h d = null_optional false i.presence b d.1
@@ -199,19 +190,14 @@ tail_form_within i e cut b (Some v) is h fits t =
 
 row_within : (o : Operator) (i : FieldPart) (e : Entry) (bit : Bool) (cut : Cut) (b : List ℕ) (v : Option Scalar) → IsFieldPart i → HoldsScalar e → i.operator ≡ o → FormOf Usual o i e bit cut b v → IsOfTypeOr i.kind i.presence v
 row_within operator.Plain i e false cut b v is h o f = absurd f
-row_within operator.Plain i e true cut b v is h o f = spelled_within i.kind i.presence b v f.1
 row_within operator.Constant i e false cut b v is h o f = rw f.3 f.2
 row_within operator.Constant i e true cut b v is h o f = initial_of_type i i.initial v is.typed.initial_fits (is.typed.constant_has_value o) f.2
 row_within operator.Default i e false cut b v is h o f = left_out_within i v is.typed.initial_fits f.2
-row_within operator.Default i e true cut b v is h o f = spelled_within i.kind i.presence b v f.1
-row_within operator.Copy i e false cut b v is h o f = predicted_within i e v is h f.2
-row_within operator.Copy i e true cut b v is h o f = spelled_within i.kind i.presence b v f.1
-row_within operator.Increment i e false cut b v is h o f = predicted_within i e v is h f.2
-row_within operator.Increment i e true cut b v is h o f = spelled_within i.kind i.presence b v f.1
 row_within operator.Delta i e false cut b v is h o f = absurd f
 row_within operator.Delta i e true cut b v is h o f = delta_form_within i e cut b v is h f
-row_within operator.Tail i e false cut b v is h o f = predicted_within i e v is h f.2
 row_within operator.Tail i e true cut b v is h o f = tail_form_within i e cut b v is h (subst (λ (x : Operator). IsTrue (applies x i.kind)) o is.typed.operator_applies) f
+row_within o i e false cut b v is h of_o f = predicted_within i e v is h f.2
+row_within o i e true cut b v is h of_o f = spelled_within i.kind i.presence b v f.1
 
 of_field : (i : FieldPart) (v : Option Scalar) → IsOfTypeOr i.kind i.presence v → IsOfField i v
 of_field i None h = h
@@ -234,10 +220,8 @@ next_holds : (o : Operator) (i : FieldPart) (e : Entry) (v : Option Scalar) → 
 next_holds operator.Plain i e v k h = k
 next_holds operator.Constant i e v k h = k
 next_holds operator.Default i e v k h = k
-next_holds operator.Copy i e v k h = written_holds i v h
-next_holds operator.Increment i e v k h = written_holds i v h
 next_holds operator.Delta i e v k h = delta_holds i e v k h
-next_holds operator.Tail i e v k h = written_holds i v h
+next_holds o i e v k h = written_holds i v h
 
 pub entries_within : (i : FieldPart) (e : Entry) (v : Option Scalar) → HoldsScalar e → IsFieldValue i v → HoldsScalar (next i e v)
 entries_within i e v k h = next_holds i.operator i e v k h.of_field

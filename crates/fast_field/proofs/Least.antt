@@ -144,12 +144,12 @@ preamble-cases (suc c ∷ s) = inl refl
 abbrev pub tail_cost : List ℕ → ℕ → ℕ
 tail_cost v j = (length v - j) + preamble (drop j v)
 
-no_worse : (m part m' part' : ℕ) → m ≤ m' → (m ≡ m' → part ≤ part') → NoWorse m part m' part'
-no_worse m part m' part' le h = elim (cases_lt m m') [ inl lt ↦ inl lt | inr ge ↦ let e : m ≡ m' = omega arith in inr (e, h e) ]
+pub no_worse : (m m' : ℕ) (P : Type 0) → m ≤ m' → (m ≡ m' → P) → (m < m') ⊎ ((m ≡ m') × P)
+no_worse m m' P le h = elim (cases_lt m m') [ inl lt ↦ inl lt | inr ge ↦ let e : m ≡ m' = omega arith in inr (e, h e) ]
 
 -- where the shortest tail needs no preamble it is the best
 pub shortest_tail : (v : List ℕ) (n j : ℕ) → n ≤ length v → j ≤ n → preamble (drop n v) ≡ 0 → NoWorse (tail_cost v n) (length v - n) (tail_cost v j) (length v - j)
-shortest_tail v n j in_v le none = no_worse _ _ _ _ (omega arith) (λ e. omega arith)
+shortest_tail v n j in_v le none = no_worse _ _ _ (omega arith) (λ e. omega arith)
 
 -- where it does, and one unit more needs none, that one is
 pub one_more : (v : List ℕ) (n j : ℕ) → suc n ≤ length v → j ≤ suc n → preamble (drop (suc n) v) ≡ 2 → preamble (drop n v) ≡ 0 → NoWorse (tail_cost v n) (length v - n) (tail_cost v j) (length v - j)
@@ -158,8 +158,8 @@ one_more v n j in_v le two none =
       | inl lt ↦
           let at : j ≡ suc n = omega arith in
           let cost : preamble (drop j v) ≡ 2 = rw at two in
-          no_worse _ _ _ _ (omega arith) (λ e. omega arith)
-      | inr ge ↦ no_worse _ _ _ _ (omega arith) (λ e. omega arith)
+          no_worse _ _ _ (omega arith) (λ e. omega arith)
+      | inr ge ↦ no_worse _ _ _ (omega arith) (λ e. omega arith)
     ]
 
 -- and otherwise the shortest is after all
@@ -169,12 +169,12 @@ still_shortest v n j in_v le two twice =
       | inl lt ↦
           let at : j ≡ suc n = omega arith in
           let cost : preamble (drop j v) ≡ 2 = rw at two in
-          no_worse _ _ _ _ (omega arith) (λ e. omega arith)
+          no_worse _ _ _ (omega arith) (λ e. omega arith)
       | inr ge ↦ elim (cases_lt j n) [
-        | inl lt ↦ no_worse _ _ _ _ (omega arith) (λ e. omega arith)
+        | inl lt ↦ no_worse _ _ _ (omega arith) (λ e. omega arith)
         | inr more ↦
             let at : j ≡ n = omega arith in
             let cost : preamble (drop j v) ≡ 2 = rw at twice in
-            no_worse _ _ _ _ (omega arith) (λ e. omega arith)
+            no_worse _ _ _ (omega arith) (λ e. omega arith)
       ]
     ]

@@ -5,9 +5,7 @@ pub mod LimitRows
 pub mod LongRows
 pub mod RefusalRows
 pub mod ValueFaults
-pub mod NoMemory
-pub mod Waits
-pub mod FieldsGoOn
+pub mod FieldsBehave
 pub mod ValuesWithin
 pub mod FieldsWithin
 pub mod Refused
@@ -40,8 +38,4 @@ pub mod SpelledForms
 pub mod BaseForms
 pub mod FieldForms
 pub mod ValueKinds
-pub mod LevelsAgree
-pub mod UsualForms
 pub mod StrictForms
-pub mod OneEntity
-pub mod TwoEntities

@@ -111,10 +111,7 @@ one_spelled kind.Decimal p v b c h l e least least' = one_decimal p v b c h l e 
 one_spelled kind.Ascii p v b c h l e least least' = one_string kind.Ascii p v b c h l e
 one_spelled kind.Unicode p v b c h l e least least' = one_string kind.Unicode p v b c h l e
 one_spelled kind.Bytes p v b c h l e least least' = one_string kind.Bytes p v b c h l e
-one_spelled kind.UInt32 p v b c h l e least least' = one_number kind.UInt32 p v b c refl h l e
-one_spelled kind.Int32 p v b c h l e least least' = one_number kind.Int32 p v b c refl h l e
-one_spelled kind.UInt64 p v b c h l e least least' = one_number kind.UInt64 p v b c refl h l e
-one_spelled kind.Int64 p v b c h l e least least' = one_number kind.Int64 p v b c refl h l e
+one_spelled k p v b c h l e least least' = one_number k p v b c refl h l e
 
 -- ---- deltas
 
@@ -190,10 +187,7 @@ one_delta_value kind.Decimal p base x y b c v h l cuts e least least' = one_deci
 one_delta_value kind.Ascii p base x y b c v h l cuts e least least' = one_cut kind.Ascii p base x y b c v h l cuts least least'
 one_delta_value kind.Unicode p base x y b c v h l cuts e least least' = one_cut kind.Unicode p base x y b c v h l cuts least least'
 one_delta_value kind.Bytes p base x y b c v h l cuts e least least' = one_cut kind.Bytes p base x y b c v h l cuts least least'
-one_delta_value kind.UInt32 p base x y b c v h l cuts e least least' = one_delta kind.UInt32 p base x y b c v refl h l e
-one_delta_value kind.Int32 p base x y b c v h l cuts e least least' = one_delta kind.Int32 p base x y b c v refl h l e
-one_delta_value kind.UInt64 p base x y b c v h l cuts e least least' = one_delta kind.UInt64 p base x y b c v refl h l e
-one_delta_value kind.Int64 p base x y b c v h l cuts e least least' = one_delta kind.Int64 p base x y b c v refl h l e
+one_delta_value k p base x y b c v h l cuts e least least' = one_delta k p base x y b c v refl h l e
 
 one_tail : (k : Kind) (p : Presence) (base : Scalar) (x y : Cut) (b c : List ℕ) (v : Scalar) → SpellsTail Usual k p base x b v → SpellsTail Usual k p base y c v → x ≡ y → length b ≡ length c → b ≡ c
 one_tail k p base x y b c v h l cuts e =
@@ -208,10 +202,6 @@ one_tail k p base x y b c v h l cuts e =
 
 one_row : (o : Operator) (i : FieldPart) (e : Entry) (x y : Cut) (b c : List ℕ) (v : Option Scalar) → FormOf Usual o i e true x b v → FormOf Usual o i e true y c v → x ≡ y → length b ≡ length c
     → ((cut : Cut) → Least (λ t. FormOf Usual o i e true cut t v) b) → ((cut : Cut) → Least (λ t. FormOf Usual o i e true cut t v) c) → b ≡ c
-one_row operator.Plain i e x y b c v f g cuts same least least' = one_spelled i.kind i.presence v b c f.1 g.1 same (λ t h. least uncut t (refl, h)) (λ t h. least' uncut t (refl, h))
-one_row operator.Default i e x y b c v f g cuts same least least' = one_spelled i.kind i.presence v b c f.1 g.1 same (λ t h. least uncut t (refl, h)) (λ t h. least' uncut t (refl, h))
-one_row operator.Copy i e x y b c v f g cuts same least least' = one_spelled i.kind i.presence v b c f.1 g.1 same (λ t h. least uncut t (refl, h)) (λ t h. least' uncut t (refl, h))
-one_row operator.Increment i e x y b c v f g cuts same least least' = one_spelled i.kind i.presence v b c f.1 g.1 same (λ t h. least uncut t (refl, h)) (λ t h. least' uncut t (refl, h))
 one_row operator.Constant i e x y b c v f g cuts same least least' = f.1 ∙ sym g.1
 one_row operator.Delta i e x y b c None f g cuts same least least' = one_integer false i.presence Null b c f.1 g.1 same
 one_row operator.Delta i e x y b c (Some v) f g cuts same least least' =
@@ -221,6 +211,7 @@ one_row operator.Tail i e x y b c None f g cuts same least least' = one_units i.
 one_row operator.Tail i e x y b c (Some v) f g cuts same least least' =
     let base : f.0 ≡ g.0 = ok_is {F = FieldFault} f.0 g.0 (sym f.1 ∙ g.1) in
     one_tail i.kind i.presence g.0 x y b c v (subst (λ (z : Scalar). SpellsTail Usual i.kind i.presence z x b v) base f.2) g.2 cuts same
+one_row o i e x y b c v f g cuts same least least' = one_spelled i.kind i.presence v b c f.1 g.1 same (λ t h. least uncut t (refl, h)) (λ t h. least' uncut t (refl, h))
 
 -- ---- two that come before each other
 
@@ -282,28 +273,19 @@ best_is_one i e bit other b c v f g =
 -- ---- and where nothing is cut, one of the shortest is the same bytes
 
 delta_uncut : (k : Kind) (p : Presence) (base : Scalar) (x : Cut) (b : List ℕ) (v : Scalar) → CutsNothing operator.Delta k → DeltaValue Usual k p base x b v → x ≡ uncut
-delta_uncut kind.UInt32 p base x b v n h = h.cut_is
-delta_uncut kind.Int32 p base x b v n h = h.cut_is
-delta_uncut kind.UInt64 p base x b v n h = h.cut_is
-delta_uncut kind.Int64 p base x b v n h = h.cut_is
-delta_uncut kind.Decimal p base x b v n h = h.cut_is
-delta_uncut k p base x b v n h = absurd n
+delta_uncut kind.Ascii p base x b v n h = absurd n
+delta_uncut kind.Unicode p base x b v n h = absurd n
+delta_uncut kind.Bytes p base x b v n h = absurd n
+delta_uncut k p base x b v n h = h.cut_is
 
 forms_uncut : (o : Operator) (i : FieldPart) (e : Entry) (bit : Bool) (x : Cut) (b : List ℕ) (v : Option Scalar) → CutsNothing o i.kind → FormOf Usual o i e bit x b v → x ≡ uncut
-forms_uncut operator.Plain i e true x b v n f = f.0
 forms_uncut operator.Plain i e false x b v n f = absurd f
-forms_uncut operator.Constant i e true x b v n f = f.0
-forms_uncut operator.Constant i e false x b v n f = f.0
-forms_uncut operator.Default i e true x b v n f = f.0
-forms_uncut operator.Default i e false x b v n f = f.0
-forms_uncut operator.Copy i e true x b v n f = f.0
-forms_uncut operator.Copy i e false x b v n f = f.0
-forms_uncut operator.Increment i e true x b v n f = f.0
-forms_uncut operator.Increment i e false x b v n f = f.0
 forms_uncut operator.Delta i e true x b None n f = f.0
 forms_uncut operator.Delta i e true x b (Some v) n f = delta_uncut i.kind i.presence f.0 x b v n f.2
 forms_uncut operator.Delta i e false x b v n f = absurd f
 forms_uncut operator.Tail i e bit x b v n f = absurd n
+forms_uncut o i e true x b v n f = f.0
+forms_uncut o i e false x b v n f = f.0
 
 none_of : (b : List ℕ) → length b ≡ 0 → b ≡ []
 none_of [] e = refl

@@ -18,7 +18,7 @@ use Rattle.fast_dictionary.specs.declared.entry.Entry.{Entry}
 use Rattle.fast_dictionary.specs.declared.entry.Entry.TheVariants.{Empty, Assigned}
 use Rattle.fast_field.specs.declared.fault.FieldFault.{FieldFault}
 use Rattle.fast_field.specs.declared.passed.Passed.TheVariants.{Absent, Present}
-use Rattle.fast_field.specs.Bases.{repeated, predicted, next}
+use Rattle.fast_field.specs.Bases.{repeated, predicted, next, next_of, written_entry}
 use Rattle.fast_field.specs.Deltas.{uncut}
 use Rattle.fast_field.specs.Fields.{FormOf, FormBy, IsWithin, within_part}
 use Rattle.fast_field.specs.Found.{assigned_of}
@@ -44,10 +44,9 @@ pub number_back : (k : Kind) (z : ℤ) → IsNumber k z → integer_of (of_integ
 number_back k z h = number_of k z h.integer h.range
 
 within_as : (p : Part) (v : Scalar) (z : ℤ) → integer_of v ≡ z → IsTrue (number_within p z) → IsTrue (within_part p v)
-within_as part.Whole v z e h = refl
-within_as part.Mantissa v z e h = refl
 within_as part.Exponent v z e h = rw e h
 within_as part.Length v z e h = rw e h
+within_as p v z e h = refl
 
 pub within_number : (k : Kind) (p : Part) (z : ℤ) → IsFieldNumber k p z → IsTrue (within_part p (of_integer k z))
 within_number k p z h = within_as p (of_integer k z) z (number_back k z h.number) h.within
@@ -70,33 +69,23 @@ increased_is k v z h =
 
 -- ---- bit 0
 
-predicts_bit : (o : Operator) (p : Presence) → Predicts o → operator_needs_bit o p ≡ false → false ≡ true
-predicts_bit operator.Copy p h e = absurd cc
-predicts_bit operator.Increment p h e = absurd cc
-predicts_bit operator.Tail p h e = absurd cc
-predicts_bit o p h e = absurd h
+-- an operator that predicts has a bit, and writes what it predicted
+record Predicting (o : Operator) : Type 0 where
+  bit : (p : Presence) → operator_needs_bit o p ≡ false → false ≡ true
+  default : o ≡ operator.Default → ⊥
+  row : (i : FieldPart) (e : Entry) (v : Option Scalar) → predicted i e ≡ Ok v → FormOf Usual o i e false uncut [] v
+  entry : (e : Entry) (v : Option Scalar) → written_entry v ≡ next_of o e v
 
-no_default : (o : Operator) → Predicts o → o ≡ operator.Default → ⊥
-no_default operator.Copy h e = cc
-no_default operator.Increment h e = cc
-no_default operator.Tail h e = cc
-no_default o h e = h
-
-predicted_row : (o : Operator) (i : FieldPart) (e : Entry) (v : Option Scalar) → Predicts o → predicted i e ≡ Ok v → FormOf Usual o i e false uncut [] v
-predicted_row operator.Copy i e v h p = (refl, refl, p)
-predicted_row operator.Increment i e v h p = (refl, refl, p)
-predicted_row operator.Tail i e v h p = (refl, refl, p)
-predicted_row o i e v h p = absurd h
+predicting : (o : Operator) → Predicts o → Predicting o
+predicting operator.Copy h = record { bit = λ p e. absurd cc; default = λ e. cc; row = λ i e v p. (refl, refl, p); entry = λ e v. refl }
+predicting operator.Increment h = record { bit = λ p e. absurd cc; default = λ e. cc; row = λ i e v p. (refl, refl, p); entry = λ e v. refl }
+predicting operator.Tail h = record { bit = λ p e. absurd cc; default = λ e. cc; row = λ i e v p. (refl, refl, p); entry = λ e v. refl }
+predicting o h = absurd h
 
 -- bit 0 takes no bytes, so no level judges it
 bit_zero_row_at : (level : Level) (o : Operator) (i : FieldPart) (e : Entry) (v : Option Scalar) → FormOf Usual o i e false uncut [] v → FormOf level o i e false uncut [] v
 bit_zero_row_at level operator.Plain i e v h = h
-bit_zero_row_at level operator.Constant i e v h = h
-bit_zero_row_at level operator.Default i e v h = h
-bit_zero_row_at level operator.Copy i e v h = h
-bit_zero_row_at level operator.Increment i e v h = h
-bit_zero_row_at level operator.Delta i e v h = h
-bit_zero_row_at level operator.Tail i e v h = h
+bit_zero_row_at level o i e v h = h
 
 passes : (i : FieldPart) (old new : Entry) (v : Option Scalar) → IsBitOf i false → HasDefault i → FormBy Usual i old false uncut [] v → new ≡ next i old v → Passes i old new v
 passes i old new v bit default form entry = record {
@@ -105,11 +94,10 @@ passes i old new v bit default form entry = record {
   best = bit_zero_is_best i old v form;
 }
 
-predicted_passes : (i : FieldPart) (old new : Entry) (v : Option Scalar) → Predicts i.operator → predicted i old ≡ Ok v → IsWithin i.part v → new ≡ next i old v → Passes i old new v
-predicted_passes i old new v h p within entry =
-    passes i old new v (predicts_bit i.operator i.presence h) (λ is m. absurd (no_default i.operator h is))
-    (record { row = predicted_row i.operator i old v h p; within = within })
-    entry
+predicted_passes : (i : FieldPart) (old : Entry) (v : Option Scalar) → Predicts i.operator → predicted i old ≡ Ok v → IsWithin i.part v → Passes i old (written_entry v) v
+predicted_passes i old v h p within =
+    let o = predicting i.operator h in
+    passes i old (written_entry v) v (o.bit i.presence) (λ is m. absurd (o.default is)) (record { row = o.row i old v p; within = within }) (o.entry old v)
 
 repeats_predicts : (o : Operator) → Repeats o → Predicts o
 repeats_predicts operator.Copy h = tt
@@ -127,22 +115,8 @@ known v = Ok v
 assigned_predicted : (i : FieldPart) (v w : Scalar) → is_of i.kind v ≡ true → repeated i.operator v ≡ w → predicted i (Assigned v) ≡ Ok (Some w)
 assigned_predicted i v w is e = rw is (ap (λ (x : Scalar). known (Some x)) e)
 
-predicts_next : (o : Operator) (i : FieldPart) (e : Entry) (v : Scalar) → i.operator ≡ o → Predicts o → next i e (Some v) ≡ Assigned v
-predicts_next operator.Copy i e v is h = rw is refl
-predicts_next operator.Increment i e v is h = rw is refl
-predicts_next operator.Tail i e v is h = rw is refl
-predicts_next o i e v is h = absurd h
-
-predicts_empty : (o : Operator) (i : FieldPart) (e : Entry) → i.operator ≡ o → Predicts o → next i e None ≡ Empty
-predicts_empty operator.Copy i e is h = rw is refl
-predicts_empty operator.Increment i e is h = rw is refl
-predicts_empty operator.Tail i e is h = rw is refl
-predicts_empty o i e is h = absurd h
-
 pub kept_given : (i : FieldPart) (v : Scalar) → Repeats i.operator → is_of i.kind v ≡ true → IsTrue (within_part i.part v) → Passes i (Assigned v) (Assigned v) (Some v)
-kept_given i v h is within =
-    let p = repeats_predicts i.operator h in
-    predicted_passes i (Assigned v) (Assigned v) (Some v) p (assigned_predicted i v v is (repeats i.operator v h)) within (sym (predicts_next i.operator i (Assigned v) v refl p))
+kept_given i v h is within = predicted_passes i (Assigned v) (Some v) (repeats_predicts i.operator h) (assigned_predicted i v v is (repeats i.operator v h)) within
 
 pub kept_passes : (i : FieldPart) (v : Scalar) → Repeats i.operator → is_of i.kind v ≡ true → IsTrue (within_part i.part v) → IsPassed i (Assigned v) (Assigned v) Present
 kept_passes i v h is within = (v, is, kept_given i v h is within)
@@ -151,9 +125,8 @@ assigned_given : (i : FieldPart) (v : Scalar) (z : ℤ) → i.operator ≡ opera
     → Passes i (Assigned v) (Assigned (of_integer i.kind (next_number i.kind z))) (Some (of_integer i.kind (next_number i.kind z)))
 assigned_given i v z o h n =
     let w = of_integer i.kind (next_number i.kind z) in
-    let p : Predicts i.operator = rw o tt in
     let e : repeated i.operator v ≡ w = rw o (increased_is i.kind v z h) in
-    predicted_passes i (Assigned v) (Assigned w) (Some w) p (assigned_predicted i v w (kind_is i.kind v z h) e) (within_number i.kind i.part (next_number i.kind z) n) (sym (predicts_next i.operator i (Assigned v) w refl p))
+    predicted_passes i (Assigned v) (Some w) (rw o tt) (assigned_predicted i v w (kind_is i.kind v z h) e) (within_number i.kind i.part (next_number i.kind z) n)
 
 entry_given : (i : FieldPart) (e : Entry) (z : ℤ) → i.operator ≡ operator.Increment → HasNumber i.kind e z → IsFieldNumber i.kind i.part (next_number i.kind z)
     → Passes i e (Assigned (of_integer i.kind (next_number i.kind z))) (Some (of_integer i.kind (next_number i.kind z)))
@@ -172,36 +145,27 @@ pub next_passes : (k : Kind) (i : FieldPart) (e : Entry) (z : ℤ) → k ≡ i.k
 next_passes k i e z same o h n = (of_integer k (next_number k z), next_of_kind k i (next_number k z) same n.number, next_given k i e z same o h n)
 
 pub empty_passes : (i : FieldPart) → Predicts i.operator → i.presence ≡ Optional → IsPassed i Empty Empty Absent
-empty_passes i h optional =
-    let p : predicted i Empty ≡ Ok None = rw optional refl in
-    predicted_passes i Empty Empty None h p tt (sym (predicts_empty i.operator i Empty refl h))
+empty_passes i h optional = predicted_passes i Empty None h (rw optional refl) tt
+
+-- an operator that leaves the entry
+left_given : (o : Operator) (i : FieldPart) (e : Entry) (v : Option Scalar) → i.operator ≡ o → (operator_needs_bit o i.presence ≡ false → false ≡ true) → HasDefault i → FormOf Usual o i e false uncut [] v → IsWithin i.part v → e ≡ next_of o e v
+    → Passes i e e v
+left_given o i e v is bit default row within entry = passes i e e v (rw is bit) default (record { row = subst (λ (x : Operator). FormOf Usual x i e false uncut [] v) (sym is) row; within = within }) (rw is entry)
 
 pub initial_given : (i : FieldPart) (e : Entry) (v : Scalar) → i.operator ≡ operator.Default → i.initial ≡ Some v → IsTrue (within_part i.part v) → Passes i e e (Some v)
-initial_given i e v o initial within =
-    let row : FormOf Usual i.operator i e false uncut [] (Some v) = subst (λ (o : Operator). FormOf Usual o i e false uncut [] (Some v)) (sym o) (refl, refl, initial) in
-    let bit : IsBitOf i false = rw o (λ h. absurd cc) in
-    let default : HasDefault i = λ d m. rw initial refl in
-    let entry : e ≡ next i e (Some v) = rw o refl in
-    passes i e e (Some v) bit default (record { row = row; within = within }) entry
+initial_given i e v o initial within = left_given operator.Default i e (Some v) o (λ h. absurd cc) (λ d m. rw initial refl) (refl, refl, initial) within refl
 
 pub initial_passes : (i : FieldPart) (e : Entry) (v : Scalar) → i.operator ≡ operator.Default → i.initial ≡ Some v → is_of i.kind v ≡ true → IsTrue (within_part i.part v) → IsPassed i e e Present
 initial_passes i e v o initial is within = (v, is, initial_given i e v o initial within)
 
+optional_default : (i : FieldPart) → i.presence ≡ Optional → HasDefault i
+optional_default i optional d m = absurd (let no : Mandatory ≡ Optional = sym m ∙ optional in cc)
+
 pub no_initial_passes : (i : FieldPart) (e : Entry) → i.operator ≡ operator.Default → i.initial ≡ None → i.presence ≡ Optional → IsPassed i e e Absent
-no_initial_passes i e o initial optional =
-    let row : FormOf Usual i.operator i e false uncut [] None = subst (λ (o : Operator). FormOf Usual o i e false uncut [] None) (sym o) (refl, refl, (initial, optional)) in
-    let bit : IsBitOf i false = rw o (λ h. absurd cc) in
-    let default : HasDefault i = λ d m. absurd (let no : Mandatory ≡ Optional = sym m ∙ optional in cc) in
-    let entry : e ≡ next i e None = rw o refl in
-    passes i e e None bit default (record { row = row; within = tt }) entry
+no_initial_passes i e o initial optional = left_given operator.Default i e None o (λ h. absurd cc) (optional_default i optional) (refl, refl, (initial, optional)) tt refl
 
 pub constant_passes : (i : FieldPart) (e : Entry) → i.operator ≡ operator.Constant → i.presence ≡ Optional → IsPassed i e e Absent
-constant_passes i e o optional =
-    let row : FormOf Usual i.operator i e false uncut [] None = subst (λ (o : Operator). FormOf Usual o i e false uncut [] None) (sym o) (refl, refl, optional, refl) in
-    let bit : IsBitOf i false = rw (o, optional) (λ h. absurd cc) in
-    let default : HasDefault i = λ d m. absurd (let no : operator.Constant ≡ operator.Default = sym o ∙ d in cc) in
-    let entry : e ≡ next i e None = rw o refl in
-    passes i e e None bit default (record { row = row; within = tt }) entry
+constant_passes i e o optional = left_given operator.Constant i e None o (rw optional (λ h. absurd cc)) (optional_default i optional) (refl, refl, optional, refl) tt refl
 
 -- ---- where what bit 0 gave is found
 
@@ -218,10 +182,8 @@ kept_by : (o : Operator) (i : FieldPart) (old new : Entry) (v : Scalar) → i.op
 kept_by operator.Plain i old new v o other p = absurd (passed_row i old new v operator.Plain o p)
 kept_by operator.Constant i old new v o other p = let none = (passed_row i old new v operator.Constant o p).3 in absurd cc
 kept_by operator.Default i old new v o other p = absurd (other refl)
-kept_by operator.Copy i old new v o other p = assigned_found i old new v (p.entry ∙ predicts_next operator.Copy i old v o tt) p
-kept_by operator.Increment i old new v o other p = assigned_found i old new v (p.entry ∙ predicts_next operator.Increment i old v o tt) p
 kept_by operator.Delta i old new v o other p = absurd (passed_row i old new v operator.Delta o p)
-kept_by operator.Tail i old new v o other p = assigned_found i old new v (p.entry ∙ predicts_next operator.Tail i old v o tt) p
+kept_by o i old new v is other p = assigned_found i old new v (p.entry ∙ rw is refl) p
 
 pub kept_found : (i : FieldPart) (old new : Entry) → (i.operator ≡ operator.Default → ⊥) → IsPassed i old new Present → Passes i old new (assigned_of new)
 kept_found i old new other h = kept_by i.operator i old new h.0 refl other h.2

@@ -14,7 +14,7 @@ use Rattle.fast_field.specs.declared.fault.FieldFault.TheVariants as fault
 use Rattle.fast_field.specs.Calls.{OrRefused}
 use Rattle.fast_field.specs.FieldReading.{limited_value}
 use Rattle.fast_field.specs.Sent.{units_sent}
-use Rattle.fast_field.proofs.ValueFaults.{few_made}
+use Rattle.fast_field.proofs.ValueFaults.{never, few_made}
 
 -- the characters of the last bytes of an entity, where the stop bit was taken off the last
 pub last_cleared : (front tail items : List ℕ) (size x : ℕ) → IsTail tail → items ≡ front ++ tail → 0 < length tail → size ≡ length items → x ≡ get_or items (size - 1) x → set items (size - 1) (x % 128) ≡ front ++ groups tail
@@ -36,7 +36,7 @@ sent_length k sent = refl
 -- ---- where memory was refused, or there are too many units
 
 pub no_memory : (e : FieldFault) (k : Kind) (units : List ℕ) → e ≡ fault.Memory → Fails OrRefused e (limited_value k units)
-no_memory e k units refused = inr (refused, few_made fault.NeedMore tt k units)
+no_memory e k units refused = inr (refused, never (limited_value k units) (few_made k units))
 
 pub no_room : (e : FieldFault) (k : Kind) (units : List ℕ) (n : ℕ) → length units ≡ n → (e ≡ fault.Memory) ⊎ ((e ≡ fault.Limit) × (65535 < n)) → Fails OrRefused e (limited_value k units)
 unfolding limited_value

@@ -44,11 +44,11 @@ characters_there : (v : Scalar) → IsScalar v → has_characters v ≡ true
 characters_there (Ascii s) h = all_characters s h.1
 characters_there v h = refl
 
-few : (v : Scalar) → IsScalar v → length (units_of v) ≤ 65535
-few (Ascii s) h = h.0
-few (Unicode s) h = h.0
-few (Bytes s) h = h.0
-few v h = omega arith
+pub few_units : (v : Scalar) → IsScalar v → length (units_of v) ≤ 65535
+few_units (Ascii s) h = h.0
+few_units (Unicode s) h = h.0
+few_units (Bytes s) h = h.0
+few_units v h = omega arith
 
 not_more : (n : ℕ) → n ≤ 65535 → nat_lt 65535 n ≡ false
 not_more n h = grind (arith, nat_tests)
@@ -59,9 +59,7 @@ few_elements (negsuc n) h = refl
 
 few_enough : (p : Part) (v : Scalar) → IsScalar v → IsTrue (within_part p v) → has_too_many p v ≡ false
 few_enough part.Length v h w = few_elements (integer_of v) w
-few_enough part.Whole v h w = not_more (length (units_of v)) (few v h)
-few_enough part.Exponent v h w = not_more (length (units_of v)) (few v h)
-few_enough part.Mantissa v h w = not_more (length (units_of v)) (few v h)
+few_enough p v h w = not_more (length (units_of v)) (few_units v h)
 
 near : (p : Part) (v : Scalar) → IsScalar v → IsTrue (within_part p v) → is_far p v ≡ false
 near part.Exponent v h w = rw w refl
@@ -79,7 +77,6 @@ constant_same p (Some w) v e =
 
 units_of-of_units : (k : Kind) (s : List ℕ) → units_of (of_units k s) ≡ s
 units_of-of_units kind.Ascii s = refl
-units_of-of_units kind.Unicode s = refl
 units_of-of_units k s = refl
 
 pub units_are : (k : Kind) (s : List ℕ) (v : Scalar) → IsOfUnits k s v → units_of v ≡ s
@@ -127,10 +124,7 @@ form_not_refused operator.Tail i e false cut b v o f = tail_same i e v f.2 o
 form_not_refused operator.Tail i e true cut b v o f =
     let units = units_are i.kind (ended_by (units_of f.0) f.2.tail) v f.2.value.1 in
     rw f.1 (as_long f.0 v (rw units (ended_is_longer (units_of f.0) f.2.tail)))
-form_not_refused operator.Plain i e bit cut b v o f = refl
-form_not_refused operator.Default i e bit cut b v o f = refl
-form_not_refused operator.Copy i e bit cut b v o f = refl
-form_not_refused operator.Increment i e bit cut b v o f = refl
+form_not_refused o i e bit cut b v is f = refl
 
 -- ---- the first of all
 

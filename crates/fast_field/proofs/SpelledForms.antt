@@ -55,22 +55,17 @@ signed_from : (b : List ℕ) (y : Nullable ℤ) → SpellsIntegerUsually false M
 signed_from b Null h = absurd h
 signed_from b (Value z) h = (z, h, refl)
 
+-- a reader of what is made of another's values
+reader_by : {A B : Type 0} (f : List ℕ → Result (A × List ℕ) FieldFault) (Made : List ℕ → A → Type 0) (g : A → B) (Form : List ℕ → B → Type 0) → IsReader fault.NeedMore f Made → ((b : List ℕ) (x : A) → Made b x → Form b (g x))
+    → ((b : List ℕ) (y : B) → Form b y → (x : A) × Made b x × (g x ≡ y)) → IsReader fault.NeedMore (λ bytes. f bytes >>= λ x. Ok (g x.0, x.1)) Form
+reader_by {A} {B} f Made g Form is to from =
+    reader_as fault.NeedMore (λ bytes. f bytes >>= λ x. Ok (g x.0, x.1)) (λ b y. (x : A) × Made b x × (g x ≡ y)) Form (λ b y h. subst (λ (z : B). Form b z) h.2 (to b h.0 h.1)) from (reader_map fault.NeedMore f g Made is)
+
 usual_integers : (u : Bool) (p : Presence) → IsReader fault.NeedMore (integer_usually_at u p) (SpellsIntegerUsually u p)
-usual_integers true Mandatory =
-    reader_as fault.NeedMore (λ bytes. in_field (unsigned_at bytes) >>= λ x. Ok (Value (pos x.0), x.1)) (λ b y. (n : ℕ) × IsUnsigned b n × (Value (pos n) ≡ y)) (SpellsIntegerUsually true Mandatory)
-    (λ b y h. subst (λ (z : Nullable ℤ). SpellsIntegerUsually true Mandatory b z) h.2 h.1)
-    mandatory_from
-    (reader_map fault.NeedMore (λ bytes. in_field (unsigned_at bytes)) (λ n. Value (pos n)) IsUnsigned (reader_in_field unsigned_at IsUnsigned unsigned_forms))
+usual_integers true Mandatory = reader_by (λ bytes. in_field (unsigned_at bytes)) IsUnsigned (λ n. Value (pos n)) (SpellsIntegerUsually true Mandatory) (reader_in_field unsigned_at IsUnsigned unsigned_forms) (λ b n h. h) mandatory_from
 usual_integers true Optional =
-    reader_as fault.NeedMore (λ bytes. in_field (unsigned_nullable_at bytes) >>= λ x. Ok (signless x.0, x.1)) (λ b y. (n : Nullable ℕ) × IsUnsignedNullable b n × (signless n ≡ y)) (SpellsIntegerUsually true Optional)
-    (λ b y h. subst (λ (z : Nullable ℤ). SpellsIntegerUsually true Optional b z) h.2 (optional_to b h.0 h.1))
-    optional_from
-    (reader_map fault.NeedMore (λ bytes. in_field (unsigned_nullable_at bytes)) signless IsUnsignedNullable (reader_in_field unsigned_nullable_at IsUnsignedNullable unsigned_nullable_forms))
-usual_integers false Mandatory =
-    reader_as fault.NeedMore (λ bytes. in_field (signed_at bytes) >>= λ x. Ok (Value x.0, x.1)) (λ b y. (z : ℤ) × IsSigned b z × (Value z ≡ y)) (SpellsIntegerUsually false Mandatory)
-    (λ b y h. subst (λ (z : Nullable ℤ). SpellsIntegerUsually false Mandatory b z) h.2 h.1)
-    signed_from
-    (reader_map fault.NeedMore (λ bytes. in_field (signed_at bytes)) (λ z. Value z) IsSigned (reader_in_field signed_at IsSigned signed_forms))
+    reader_by (λ bytes. in_field (unsigned_nullable_at bytes)) IsUnsignedNullable signless (SpellsIntegerUsually true Optional) (reader_in_field unsigned_nullable_at IsUnsignedNullable unsigned_nullable_forms) optional_to optional_from
+usual_integers false Mandatory = reader_by (λ bytes. in_field (signed_at bytes)) IsSigned (λ z. Value z) (SpellsIntegerUsually false Mandatory) (reader_in_field signed_at IsSigned signed_forms) (λ b z h. h) signed_from
 usual_integers false Optional = reader_in_field signed_nullable_at IsSignedNullable signed_nullable_forms
 
 -- ---- strings and vectors
@@ -92,11 +87,7 @@ units_from k b Null h = absurd h
 units_from k b (Value s) h = (s, h, refl)
 
 usual_units : (k : Kind) (p : Presence) → IsReader fault.NeedMore (units_usually_at k p) (SpellsUnitsUsually k p)
-usual_units k Mandatory =
-    reader_as fault.NeedMore (λ bytes. part_at Usual k bytes >>= λ x. Ok (Value x.0, x.1)) (λ b y. (s : List ℕ) × SpellsPart Usual k b s × (Value s ≡ y)) (SpellsUnitsUsually k Mandatory)
-    (λ b y h. subst (λ (z : Nullable (List ℕ)). SpellsUnitsUsually k Mandatory b z) h.2 h.1)
-    (units_from k)
-    (reader_map fault.NeedMore (part_at Usual k) (λ s. Value s) (SpellsPart Usual k) (part_forms Usual k))
+usual_units k Mandatory = reader_by (part_at Usual k) (SpellsPart Usual k) (λ s. Value s) (SpellsUnitsUsually k Mandatory) (part_forms Usual k) (λ b s h. h) (units_from k)
 usual_units kind.Ascii Optional = reader_in_field ascii_nullable_at IsAsciiNullable ascii_nullable_forms
 usual_units k Optional = reader_in_field vector_nullable_at IsVectorNullable vector_nullable_forms
 

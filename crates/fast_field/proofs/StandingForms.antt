@@ -1,9 +1,9 @@
 -- Each value of a type has a shortest form that stands whole.
-use Rattle.std.proofs.Common.{◌≡◌, ℕ, ◌+◌, ◌*◌, ◌^◌, ◌<◌, ◌≤◌, Bool, true, false, List, ◌++◌, length, refl, sym, ap, subst, ◌∙◌, arith, length-append}
+use Rattle.std.proofs.Common.{◌≡◌, ℕ, ◌*◌, ◌^◌, ◌<◌, ◌≤◌, Bool, true, false, List, ◌++◌, length, refl, sym, ap, subst, ◌∙◌, arith, length-append}
 use Rattle.std.specs.Prelude.{ℤ, pos, negsuc, nat_le, int_le, ◌&&◌, Some, None, IsTrue}
 use Rattle.std.specs.List.{AllByRecursion}
-use Rattle.std.proofs.lemmas.Bool.Decides.{nat_tests}
 use Rattle.std.proofs.lemmas.List.Elements.{All-from_recursion}
+use Rattle.std.proofs.lemmas.Bool.{leb-true}
 use Rattle.fast_wire.specs.declared.level.Level.TheVariants.{Usual}
 use Rattle.fast_wire.specs.Ascii.{IsAscii, IsAsciiNullable, IsAsciiText}
 use Rattle.fast_wire.specs.Integer.{IsUnsigned, IsSigned, magnitude}
@@ -23,6 +23,7 @@ use Rattle.fast_value.specs.declared.scalar.Scalar.TheVariants.{U32, I32, U64, I
 use Rattle.fast_field.specs.Values.{is_unsigned, integer_of, exponent_of, mantissa_of, units_of, IsUnitKind}
 use Rattle.fast_field.specs.Spelled.{SpellsInteger, SpellsPart, SpellsUnits, SpellsPair, IsOfUnits, SpelledNumber, SpelledString, Spelled}
 use Rattle.fast_field.proofs.Refused.{units_are}
+use Rattle.fast_field.proofs.FieldsWithin.{uint_in_range}
 use Rattle.fast_field.proofs.ValuesWithin.{both, IsOfType, IsString, units_of_string}
 
 -- a shortest form stands
@@ -87,9 +88,6 @@ pair_stands p e m small_e small_m =
 
 -- ---- numbers of a type
 
-le_is : (m n : ℕ) → nat_le m n ≡ true → m ≤ n
-le_is m n h = grind (arith, nat_tests)
-
 -- the number of a value of an integer type is the one that it was made of
 pub number_of : (k : Kind) (z : ℤ) → IsTrue (is_integer k) → IsTrue (in_range k z) → integer_of (of_integer k z) ≡ z
 number_of kind.UInt32 (pos n) i h = refl
@@ -100,20 +98,13 @@ number_of kind.Int32 z i h = refl
 number_of kind.Int64 z i h = refl
 number_of k z i h = absurd cc
 
--- a value of an integer type is made of its number, which is in range
-is_le : (m n : ℕ) → m ≤ n → nat_le m n ≡ true
-is_le m n h = grind (arith, nat_tests)
-
-uint_range : (n m : ℕ) → n < m + 1 → (nat_le 0 n && nat_le n m) ≡ true
-uint_range n m h = let a : nat_le 0 n ≡ true = is_le 0 n (omega arith) in let c : nat_le n m ≡ true = is_le n m (omega arith) in rw (a, c) refl
-
 pub record IsNumber (k : Kind) (v : Scalar) : Type 0 where
   pub made : v ≡ of_integer k (integer_of v)
   pub range : IsTrue (in_range k (integer_of v))
 
 pub number_is : (k : Kind) (v : Scalar) → IsTrue (is_integer k) → IsOfType k v → IsNumber k v
-number_is kind.UInt32 (U32 n) i h = record { made = refl; range = uint_range n 4294967295 h.1 }
-number_is kind.UInt64 (U64 n) i h = record { made = refl; range = uint_range n 18446744073709551615 h.1 }
+number_is kind.UInt32 (U32 n) i h = record { made = refl; range = uint_in_range n 4294967295 h.1 }
+number_is kind.UInt64 (U64 n) i h = record { made = refl; range = uint_in_range n 18446744073709551615 h.1 }
 number_is kind.Int32 (I32 z) i h = record { made = refl; range = h.1 }
 number_is kind.Int64 (I64 z) i h = record { made = refl; range = h.1 }
 number_is kind.UInt32 v i h = let e = h.0 in absurd cc
@@ -123,11 +114,11 @@ number_is kind.Int64 v i h = let e = h.0 in absurd cc
 number_is k v i h = absurd cc
 
 signed_small : (z : ℤ) (m n : ℕ) → (int_le (negsuc m) z && int_le z (pos n)) ≡ true → m < 2 ^ 64 → n < 2 ^ 64 → magnitude z < 2 ^ 64
-signed_small (pos a) m n h low high = let w = both true (nat_le a n) h in omega (arith, le_is a n w.1)
-signed_small (negsuc a) m n h low high = let w = both (nat_le a m) true h in omega (arith, le_is a m w.0)
+signed_small (pos a) m n h low high = let w = both true (nat_le a n) h in omega (arith, leb-true a n w.1)
+signed_small (negsuc a) m n h low high = let w = both (nat_le a m) true h in omega (arith, leb-true a m w.0)
 
 unsigned_small : (z : ℤ) (n : ℕ) → (int_le (pos 0) z && int_le z (pos n)) ≡ true → n < 2 ^ 64 → magnitude z < 2 ^ 64
-unsigned_small (pos a) n h high = let w = both (nat_le 0 a) (nat_le a n) h in omega (arith, le_is a n w.1)
+unsigned_small (pos a) n h high = let w = both (nat_le 0 a) (nat_le a n) h in omega (arith, leb-true a n w.1)
 unsigned_small (negsuc a) n h high = absurd cc
 
 pub range_small : (k : Kind) (z : ℤ) → IsTrue (is_integer k) → IsTrue (in_range k z) → magnitude z < 2 ^ 64
@@ -148,7 +139,7 @@ number_stands kind.Int32 p z i h = signed_stands p z (omega (arith, range_small 
 number_stands kind.Int64 p z i h = signed_stands p z (omega (arith, range_small kind.Int64 z i h))
 number_stands k p z i h = absurd cc
 
-number_shortest : (k : Kind) (p : Presence) (v : Scalar) (b : List ℕ) → IsTrue (is_integer k) → IsOfType k v → IsShortest (SpellsInteger Usual (is_unsigned k) p) b (Value (integer_of v)) → IsShortest (SpelledNumber Usual k p) b (Some v)
+pub number_shortest : (k : Kind) (p : Presence) (v : Scalar) (b : List ℕ) → IsTrue (is_integer k) → IsOfType k v → IsShortest (SpellsInteger Usual (is_unsigned k) p) b (Value (integer_of v)) → IsShortest (SpelledNumber Usual k p) b (Some v)
 number_shortest k p v b i h s =
     let n = number_is k v i h in
     record {
@@ -157,13 +148,6 @@ number_shortest k p v b i h s =
           let same : o.number ≡ integer_of v = sym (number_of k o.number i o.range) ∙ ap integer_of (sym o.value) in
           s.least other (subst (λ (z : ℤ). SpellsInteger Usual (is_unsigned k) p other (Value z)) same o.form);
     }
-
-pub number_is_shortest : (k : Kind) (p : Presence) (v : Scalar) (b : List ℕ) → IsTrue (is_integer k) → IsOfType k v → IsShortest (SpellsInteger Usual (is_unsigned k) p) b (Value (integer_of v)) → IsShortest (Spelled Usual k p) b (Some v)
-number_is_shortest kind.UInt32 p v b i h s = let n = number_shortest kind.UInt32 p v b i h s in record { form = n.form; least = n.least }
-number_is_shortest kind.Int32 p v b i h s = let n = number_shortest kind.Int32 p v b i h s in record { form = n.form; least = n.least }
-number_is_shortest kind.UInt64 p v b i h s = let n = number_shortest kind.UInt64 p v b i h s in record { form = n.form; least = n.least }
-number_is_shortest kind.Int64 p v b i h s = let n = number_shortest kind.Int64 p v b i h s in record { form = n.form; least = n.least }
-number_is_shortest k p v b i h s = absurd cc
 
 pub of_units_is : (k : Kind) (v : Scalar) → IsUnitKind k → IsOfType k v → IsOfUnits k (units_of v) v
 of_units_is kind.Ascii (Ascii s) u h = refl
@@ -200,8 +184,8 @@ decimal_is_shortest p e m b h form least = record {
 
 -- a shortest form of each value stands
 
-whole_number : (k : Kind) (p : Presence) (v : Scalar) → IsTrue (is_integer k) → IsOfType k v → Stands (Spelled Usual k p) (Some v)
-whole_number k p v i h = let s = number_stands k p (integer_of v) i (number_is k v i h).range in (s.0, number_is_shortest k p v s.0 i h s.1)
+whole_number : (k : Kind) (p : Presence) (v : Scalar) → IsTrue (is_integer k) → IsOfType k v → Stands (SpelledNumber Usual k p) (Some v)
+whole_number k p v i h = let s = number_stands k p (integer_of v) i (number_is k v i h).range in (s.0, number_shortest k p v s.0 i h s.1)
 
 whole_string : (k : Kind) (p : Presence) (v : Scalar) → IsUnitKind k → IsOfType k v → Stands (Spelled Usual k p) (Some v)
 whole_string k p v u h = let s = units_stand k p (units_of v) (units_of_string k v u h) in (s.0, string_is_shortest k p v s.0 u h s.1)
@@ -213,21 +197,15 @@ whole_decimal p (Decimal e m) h =
 whole_decimal p v h = let e = h.0 in absurd cc
 
 pub whole_stands : (k : Kind) (p : Presence) (v : Scalar) → IsOfType k v → Stands (Spelled Usual k p) (Some v)
-whole_stands kind.UInt32 p v h = whole_number kind.UInt32 p v refl h
-whole_stands kind.Int32 p v h = whole_number kind.Int32 p v refl h
-whole_stands kind.UInt64 p v h = whole_number kind.UInt64 p v refl h
-whole_stands kind.Int64 p v h = whole_number kind.Int64 p v refl h
 whole_stands kind.Decimal p v h = whole_decimal p v h
 whole_stands kind.Ascii p v h = whole_string kind.Ascii p v tt h
 whole_stands kind.Unicode p v h = whole_string kind.Unicode p v tt h
 whole_stands kind.Bytes p v h = whole_string kind.Bytes p v tt h
+whole_stands k p v h = whole_number k p v refl h
 
 pub null_whole_stands : (k : Kind) → Stands (Spelled Usual k Optional) None
-null_whole_stands kind.UInt32 = stands_as (SpellsInteger Usual true Optional) (Spelled Usual kind.UInt32 Optional) Null None (λ b h. h) (λ b h. h) (null_stands true)
-null_whole_stands kind.Int32 = stands_as (SpellsInteger Usual false Optional) (Spelled Usual kind.Int32 Optional) Null None (λ b h. h) (λ b h. h) (null_stands false)
-null_whole_stands kind.UInt64 = stands_as (SpellsInteger Usual true Optional) (Spelled Usual kind.UInt64 Optional) Null None (λ b h. h) (λ b h. h) (null_stands true)
-null_whole_stands kind.Int64 = stands_as (SpellsInteger Usual false Optional) (Spelled Usual kind.Int64 Optional) Null None (λ b h. h) (λ b h. h) (null_stands false)
 null_whole_stands kind.Decimal = stands_as (SpellsInteger Usual false Optional) (Spelled Usual kind.Decimal Optional) Null None (λ b h. h) (λ b h. h) (null_stands false)
 null_whole_stands kind.Ascii = stands_as (SpellsUnits Usual kind.Ascii Optional) (Spelled Usual kind.Ascii Optional) Null None (λ b h. h) (λ b h. h) (null_units_stand kind.Ascii)
 null_whole_stands kind.Unicode = stands_as (SpellsUnits Usual kind.Unicode Optional) (Spelled Usual kind.Unicode Optional) Null None (λ b h. h) (λ b h. h) (null_units_stand kind.Unicode)
 null_whole_stands kind.Bytes = stands_as (SpellsUnits Usual kind.Bytes Optional) (Spelled Usual kind.Bytes Optional) Null None (λ b h. h) (λ b h. h) (null_units_stand kind.Bytes)
+null_whole_stands k = stands_as (SpellsInteger Usual (is_unsigned k) Optional) (Spelled Usual k Optional) Null None (λ b h. h) (λ b h. h) (null_stands (is_unsigned k))

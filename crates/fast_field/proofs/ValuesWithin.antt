@@ -1,9 +1,9 @@
 -- What is spelled is a value within its type.
 use Rattle.std.proofs.Common.{◌≡◌, ℕ, ◌<◌, ◌≤◌, Bool, true, false, List, [], ◌∷◌, ◌++◌, length, take, drop, zero, suc, refl, arith}
-use Rattle.std.specs.Prelude.{ℤ, pos, negsuc, nat_le, int_le, Option, Some, None, IsTrue, ◌&&◌}
+use Rattle.std.specs.Prelude.{ℤ, pos, negsuc, int_le, Option, Some, None, IsTrue, ◌&&◌}
 use Rattle.std.specs.List.{AllByRecursion}
-use Rattle.std.proofs.lemmas.Bool.Decides.{nat_tests}
 use Rattle.std.proofs.lemmas.List.Elements.{recursion_from_All}
+use Rattle.std.proofs.lemmas.Bool.{leb-true}
 use Rattle.fast_wire.specs.declared.level.Level.TheVariants.{Usual}
 use Rattle.fast_wire.specs.declared.nullable.Nullable.TheVariants.{Null, Value}
 use Rattle.fast_wire.proofs.FormSizes.{ascii_sizes, ascii_nullable_sizes}
@@ -28,15 +28,12 @@ both true true e = (refl, refl)
 both true false e = absurd cc
 both false b e = absurd cc
 
-below : (m n : ℕ) → nat_le m n ≡ true → m ≤ n
-below m n h = grind (arith, nat_tests)
-
 uint32 : (z : ℤ) → IsTrue (in_range kind.UInt32 z) → IsOfType kind.UInt32 (of_integer kind.UInt32 z)
-uint32 (pos n) h = let w = both (int_le (pos 0) (pos n)) (int_le (pos n) (pos 4294967295)) h in (refl, omega (arith, below n 4294967295 w.1))
+uint32 (pos n) h = let w = both (int_le (pos 0) (pos n)) (int_le (pos n) (pos 4294967295)) h in (refl, omega (arith, leb-true n 4294967295 w.1))
 uint32 (negsuc n) h = absurd cc
 
 uint64 : (z : ℤ) → IsTrue (in_range kind.UInt64 z) → IsOfType kind.UInt64 (of_integer kind.UInt64 z)
-uint64 (pos n) h = let w = both (int_le (pos 0) (pos n)) (int_le (pos n) (pos 18446744073709551615)) h in (refl, omega (arith, below n 18446744073709551615 w.1))
+uint64 (pos n) h = let w = both (int_le (pos 0) (pos n)) (int_le (pos n) (pos 18446744073709551615)) h in (refl, omega (arith, leb-true n 18446744073709551615 w.1))
 uint64 (negsuc n) h = absurd cc
 
 pub number_within : (k : Kind) (z : ℤ) → IsTrue (is_integer k) → IsTrue (in_range k z) → IsOfType k (of_integer k z)

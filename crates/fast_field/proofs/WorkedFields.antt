@@ -1,5 +1,5 @@
 -- The fields of the worked rows, and how a row reads.
-use Rattle.std.proofs.Common.{◌≡◌, ℕ, List, drop, Option, Some, None, Bool, Ok, pos, negsuc}
+use Rattle.std.proofs.Common.{◌≡◌, ℕ, List, [], ◌∷◌, drop, Option, Some, None, Bool, Result, Ok, Err, pos, negsuc}
 use Rattle.std.specs.Prelude.{codes}
 use Rattle.fast_wire.specs.declared.level.Level.TheVariants.{Usual}
 use Rattle.fast_value.specs.declared.kind.Kind.{Kind}
@@ -16,6 +16,8 @@ use Rattle.fast_value.specs.declared.scalar.Scalar.{Scalar}
 use Rattle.fast_value.specs.declared.scalar.Scalar.TheVariants.{U32, I32, Ascii}
 use Rattle.fast_dictionary.specs.declared.entry.Entry.{Entry}
 use Rattle.fast_dictionary.specs.declared.entry.Entry.TheVariants.{Assigned}
+use Rattle.fast_wire.specs.Reading.{◌>>=◌}
+use Rattle.fast_field.specs.declared.fault.FieldFault.{FieldFault}
 use Rattle.fast_field.specs.Bases.{next}
 use Rattle.fast_field.specs.FieldReading.{field_at}
 
@@ -43,27 +45,14 @@ quote_seq = field kind.UInt32 Mandatory Increment
 abbrev pub quote_sym : FieldPart
 quote_sym = field kind.Ascii Mandatory Copy
 
-abbrev pub quote_px : FieldPart
-quote_px = field kind.Decimal Mandatory Delta
-
 abbrev pub quote_qty : FieldPart
 quote_qty = field kind.UInt32 Optional Copy
-
-abbrev pub wrap_b : FieldPart
-wrap_b = field kind.UInt32 Mandatory Delta
 
 abbrev pub opt_px_exponent : FieldPart
 opt_px_exponent = part_of Exponent kind.Int32 Optional Default (Some (I32 (pos 2)))
 
 abbrev pub fixed_px_exponent : FieldPart
 fixed_px_exponent = part_of Exponent kind.Int32 Mandatory Constant (Some (I32 (negsuc 1)))
-
--- (of no template: an exponent with the operator increment)
-abbrev pub counted_exponent : FieldPart
-counted_exponent = part_of Exponent kind.Int32 Mandatory Increment None
-
-abbrev pub clash_a : FieldPart
-clash_a = field kind.UInt32 Mandatory Copy
 
 abbrev pub tail_s : FieldPart
 tail_s = field kind.Ascii Optional Tail
@@ -76,9 +65,6 @@ delta_s = field kind.Ascii Mandatory Delta
 
 abbrev pub uni_s : FieldPart
 uni_s = field kind.Unicode Mandatory Tail
-
-abbrev pub empty_b : FieldPart
-empty_b = field kind.UInt32 Mandatory Delta
 
 abbrev pub const_k : FieldPart
 const_k = field_with kind.UInt32 Mandatory Constant (U32 7)
@@ -96,6 +82,28 @@ text s = Assigned (Ascii s)
 abbrev pub number : ℕ → Entry
 number n = Assigned (U32 n)
 
--- A row: the value that is read, the entry afterwards, and the place after the value.
-abbrev pub Reads : FieldPart → Entry → Bool → List ℕ → Option Scalar → Entry → ℕ → Type 0
-Reads i e bit bytes v after place = (field_at Usual i e bit bytes ≡ Ok (v, drop place bytes)) × (next i e v ≡ after)
+-- A table: rows of what is computed, and what it is.
+abbrev computed : {A : Type 0} → List (A × A) → List A
+computed [] = []
+computed (row ∷ rows) = row.0 ∷ computed rows
+
+abbrev wanted : {A : Type 0} → List (A × A) → List A
+wanted [] = []
+wanted (row ∷ rows) = row.1 ∷ wanted rows
+
+abbrev pub Hold : {A : Type 0} → List (A × A) → Type 0
+Hold rows = computed rows ≡ wanted rows
+
+-- Rows of what a field reads under this bit of these bytes: the value, the bytes behind it and the entry afterwards, or
+-- the first fault.
+abbrev Row : Type 0
+Row = Result (Option Scalar × List ℕ × Entry) FieldFault × Result (Option Scalar × List ℕ × Entry) FieldFault
+
+abbrev read : FieldPart → Entry → Bool → List ℕ → Result (Option Scalar × List ℕ × Entry) FieldFault
+read i e bit bytes = field_at Usual i e bit bytes >>= λ x. Ok (x.0, x.1, next i e x.0)
+
+abbrev pub reads : FieldPart → Entry → Bool → List ℕ → Option Scalar → Entry → ℕ → Row
+reads i e bit bytes v after place = (read i e bit bytes, Ok (v, drop place bytes, after))
+
+abbrev pub fails : FieldPart → Entry → Bool → List ℕ → FieldFault → Row
+fails i e bit bytes f = (read i e bit bytes, Err f)

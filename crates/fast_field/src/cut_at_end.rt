@@ -19,6 +19,7 @@ pub fn begins_otherwise(base: &[u8], kept: usize, form: &[u8]) -> bool
 }
 
 /// Whether a text has no more in common with its first units and others behind them than these first units.
+#[tactic(auto, using(crate::proofs::CutsAtEnd::prefix_whole))]
 #[inline(always)]
 pub fn agrees_no_further(base: &[u8], kept: usize, form: &[u8]) -> bool
     requires kept { kept ≤ length base.now }
@@ -101,6 +102,7 @@ fn vector_ends_otherwise(base: &[u8], kept: usize, part: &[u8]) -> bool
 }
 
 /// As `is_cut_at_end`, of bytes that are the units themselves.
+#[tactic(auto, using(crate::proofs::CutsAtEnd::few_shared))]
 #[inline(always)]
 pub fn is_vector_cut_at_end(base: &[u8], kept: usize, part: &[u8]) -> bool
     requires kept { kept ≤ length base.now }

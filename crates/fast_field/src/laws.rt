@@ -20,6 +20,7 @@ ghost use Rattle.fast_field.specs.FieldReading.{field_at, IsFieldFault};
 use crate::fault::{FieldFault, FieldRefusal};
 
 /// Every field is read, whatever its operator.
+#[tactic(auto, using(crate::proofs::FieldForms::field_forms))]
 pub fn fields_are_read()
     ensures { (level : Level) (i : FieldPart) (e : Entry) (bit : Bool) → IsBitOf i bit → HasDefault i
         → IsReader FieldFault.NeedMore (field_at level i e bit) (Form level i e bit) }
@@ -37,6 +38,7 @@ pub fn levels_agree()
 {}
 
 /// What is read of a field is read whatever follows.
+#[tactic(auto, using(crate::proofs::FieldsBehave::field_goes))]
 pub fn fields_go_on()
     ensures { (level : Level) (i : FieldPart) (e : Entry) (bit : Bool) → GoesOn (field_at level i e bit) }
 {}
@@ -56,6 +58,7 @@ pub fn no_form_begins_at_a_fault()
 {}
 
 /// Where no form begins a list of bytes, the field has a first fault.
+#[tactic(auto, using(crate::proofs::FieldForms::no_form_is_fault))]
 pub fn a_fault_where_no_form_begins()
     ensures { (level : Level) (i : FieldPart) (e : Entry) (bit : Bool) → IsBitOf i bit → HasDefault i
         → (bytes : List ℕ) → IsBytes bytes → ((b rest : List ℕ) (v : Option Scalar)
@@ -77,6 +80,7 @@ pub fn what_waits_is_short()
 {}
 
 /// Each part of a sound set of templates is a field part; so a mandatory default has an initial value.
+#[tactic(auto, using(crate::proofs::PartsOfSets::parts_of_sets, crate::proofs::PartsOfSets::has_default))]
 pub fn parts_of_sets_are_field_parts()
     ensures parts { (set : TemplateList) → IsSound set
         → AllByRecursion (λ t. EachPartIn IsFieldPart t.members) (templates_in set) }
@@ -125,6 +129,7 @@ pub fn no_form_is_shorter()
 {}
 
 /// The best form of a value is a form at each level: no entity in it is longer than it needs to be.
+#[tactic(auto, using(crate::proofs::StrictForms::best_at_level))]
 pub fn best_forms_are_strict()
     ensures { (level : Level) (i : FieldPart) (e : Entry) (bit : Bool) (b : List ℕ) (v : Option Scalar)
         → IsBest i e bit b v → Form level i e bit b v }

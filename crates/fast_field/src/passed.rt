@@ -36,6 +36,7 @@ pub fn fits(instr: &FieldPart, value: &Scalar) -> bool
 }
 
 /// What an entry gives that has no value.
+#[tactic(auto, using(crate::proofs::Passing::empty_passes))]
 #[inline(always)]
 fn pass_empty(instr: &FieldPart, entry: &Entry) -> Passed
     requires { Predicts instr.now.operator }
@@ -51,6 +52,7 @@ fn pass_empty(instr: &FieldPart, entry: &Entry) -> Passed
 }
 
 /// The value that the entry has.
+#[tactic(auto, using(crate::proofs::Passing::kept_passes))]
 #[inline(always)]
 fn pass_kept(instr: &FieldPart, entry: &Entry) -> Passed
     requires operator { Repeats instr.now.operator }
@@ -152,6 +154,7 @@ pub fn pass_left_out(instr: &FieldPart, entry: &mut Entry) -> Passed
 
 /// As `pass_left_out`, and answers where the value lies then: for those that tell or keep a value where it lies. None:
 /// nothing was done, and the general way tells.
+#[tactic(auto, using(crate::proofs::Passing::initial_found, crate::proofs::Passing::kept_found))]
 #[inline(always)]
 pub fn pass_found(instr: &FieldPart, entry: &mut Entry) -> Option<Found>
     ensures some { IfSome result (λ found. Passes instr.now entry.old entry.new

@@ -35,6 +35,7 @@ pub struct Plan {
 }
 
 /// What their type says of bytes, for the proofs: it does nothing.
+#[tactic(auto, using(crate::proofs::ReadFields::all_bytes))]
 fn tell_bytes(bytes: &[u8])
     ensures { IsBytes bytes.now }
 {
@@ -62,15 +63,9 @@ fn tell_value(value: &Scalar)
             let _exponent = *exponent;
             let _mantissa = *mantissa;
         }
-        Scalar::Ascii(text) => {
-            tell_bytes(text.as_slice());
-        }
-        Scalar::Unicode(text) => {
-            tell_bytes(text.as_bytes());
-        }
-        Scalar::Bytes(bytes) => {
-            tell_bytes(bytes.as_slice());
-        }
+        Scalar::Ascii(text) => tell_bytes(text.as_slice()),
+        Scalar::Unicode(text) => tell_bytes(text.as_bytes()),
+        Scalar::Bytes(bytes) => tell_bytes(bytes.as_slice()),
     }
 }
 

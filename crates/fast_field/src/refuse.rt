@@ -15,6 +15,7 @@ use fast_template::{FieldPart, Operator, Part, Presence, Scalar};
 use fast_value::is_of_kind;
 
 /// Whether each unit is a character of ASCII.
+#[tactic(auto, using(crate::proofs::RefusalSteps::characters_told))]
 fn all_characters(text: &[u8]) -> bool
     ensures { result ≡ are_characters text.now }
 {

@@ -27,7 +27,7 @@ use Rattle.fast_field.proofs.BestValues.{whole_is_first, delta_is_first, best_un
 use Rattle.fast_field.proofs.BestForms.{bit_zero_is_best}
 use Rattle.fast_field.proofs.ChosenForms.{whole_shortest, number_value}
 use Rattle.fast_field.proofs.FieldForms.{checked_is}
-use Rattle.fast_field.proofs.FieldsGoOn.{field_goes}
+use Rattle.fast_field.proofs.FieldsBehave.{field_goes}
 use Rattle.fast_field.proofs.Passing.{of_type, of_kind, number_back, within_number, kind_is, number_is}
 use Rattle.fast_relay.specs.Numbers.{KeepsNothing, SpellsWhole, Spelt}
 use Rattle.fast_relay.specs.Judged.{Adds, JudgesFrom, LeavesWhole, NumberGives, StandsFrom, sent_unsigned, under}

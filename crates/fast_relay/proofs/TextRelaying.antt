@@ -28,7 +28,8 @@ use Rattle.fast_field.specs.Values.{units_of, IsUnitKind}
 use Rattle.fast_field.proofs.BestDeltas.{IsFirst}
 use Rattle.fast_field.proofs.BestTails.{tail_is_first}
 use Rattle.fast_field.proofs.BestValues.{delta_is_first, tail_form_is_first, whole_is_first}
-use Rattle.fast_field.proofs.ChosenForms.{few_units, string_value}
+use Rattle.fast_field.proofs.ChosenForms.{string_value}
+use Rattle.fast_field.proofs.Refused.{few_units}
 use Rattle.fast_relay.proofs.Taking.{base_is, delta_out, delta_row, judges, takes, whole_row}
 use Rattle.fast_field.proofs.Shortest.{units_form}
 use Rattle.fast_field.proofs.StandingForms.{string_is_shortest}

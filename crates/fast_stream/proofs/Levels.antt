@@ -4,7 +4,7 @@ use Rattle.fast_wire.specs.declared.level.Level.{Level}
 use Rattle.fast_wire.specs.declared.level.Level.TheVariants.{Usual, Strict}
 use Rattle.fast_template.specs.Resolved.{Resolved}
 use Rattle.fast_field.specs.Fields.{Form}
-use Rattle.fast_field.proofs.UsualForms.{form_usually}
+use Rattle.fast_field.proofs.StrictForms.{form_usually}
 use Rattle.fast_stream.specs.Nodes.{Content}
 use Rattle.fast_dictionary.specs.Dictionary.{Dictionary}
 use Rattle.fast_stream.specs.declared.mode.Framing.{Framing}

@@ -23,7 +23,7 @@ use Rattle.fast_stream.specs.Readers.{cursor, further, further_on, Passes, IsPie
 use Rattle.fast_stream.proofs.FoundMembers.{members_have}
 use Rattle.fast_stream.proofs.PieceReaders.{Forms, Stopping, Bound, BoundStops, placed_reader, bound_reader, stop_is, fails_as}
 use Rattle.fast_stream.proofs.Ends.{Closed, closed_at, entity_of, mapped, inside_of, closed_of, as_cause, map_judged, maps_judged, map_refused_at, map_faulty_at}
-use Rattle.fast_field.proofs.UsualForms.{form_usually}
+use Rattle.fast_field.proofs.StrictForms.{form_usually}
 use Rattle.fast_stream.specs.declared.fault.Cause.{Cause}
 use Rattle.fast_wire.specs.Level.{judge, overlong_map}
 use Rattle.fast_stream.proofs.BodyReaders.{IsExact, PartStopping, part_reader, of_uint32, IsLength, body_reader}

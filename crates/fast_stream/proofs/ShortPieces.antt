@@ -14,7 +14,7 @@ use Rattle.fast_wire.proofs.FormReaders.{err_is}
 use Rattle.fast_field.specs.declared.fault.FieldFault.{FieldFault}
 use Rattle.fast_field.specs.declared.fault.FieldFault.TheVariants as field
 use Rattle.fast_field.specs.FieldReading.{field_at}
-use Rattle.fast_field.proofs.Waits.{field_waits}
+use Rattle.fast_field.proofs.FieldsBehave.{field_waits}
 use Rattle.fast_stream.specs.declared.fault.Cause.{Cause}
 use Rattle.fast_stream.specs.declared.fault.Cause.TheVariants.{R7, R8, Truncated, Limit, Memory, D9}
 use Rattle.fast_stream.specs.declared.place.Place.{Place}
@@ -25,7 +25,7 @@ use Rattle.fast_stream.specs.Faults.{cause_of_wire, cause_of_field, Stop, Messag
 use Rattle.fast_stream.specs.Reading.{Cursor, Reads, stopped, placed, counted, node_at, field_part_at, never, decimal_of, mantissa_at, own_map_at, end_at, closing, segment_at, each_at, elements_at, group_at, behind_bit, piece_at, body_at, known, named_at, head_at, in_template, message_at}
 use Rattle.fast_stream.proofs.MapFaults.{map_refused, entity_refused}
 use Rattle.fast_wire.specs.Level.{judge, verdict, overlong_map, some_set}
-use Rattle.fast_field.proofs.LevelsAgree.{fault_usually}
+use Rattle.fast_field.proofs.FieldsBehave.{fault_usually}
 use Rattle.fast_wire.specs.Reading.{entity_at}
 use Rattle.fast_wire.specs.Reading.{EntityFault}
 use Rattle.fast_stream.specs.declared.mode.Framing.{Framing}

@@ -33,7 +33,7 @@ use Rattle.fast_field.specs.Parts.{IsBitOf, IsFieldPart, IsKindOfPart}
 use Rattle.fast_field.specs.Within.{HoldsScalar}
 use Rattle.fast_field.proofs.FieldForms.{field_forms}
 use Rattle.fast_field.proofs.FieldsWithin.{values_within, entries_within}
-use Rattle.fast_field.proofs.LevelsAgree.{read_usually}
+use Rattle.fast_field.proofs.FieldsBehave.{read_usually}
 use Rattle.fast_field.proofs.ReadFields.{bytes_from}
 use Rattle.fast_field.proofs.ValueKinds.{value_kind, value_there}
 use Rattle.fast_stream.specs.Bits.{bit_for}

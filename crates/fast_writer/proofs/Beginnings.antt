@@ -29,8 +29,8 @@ use Rattle.fast_field.specs.Faults.{field_fault}
 use Rattle.fast_field.specs.FieldReading.{in_field, check, unless_null, integer_at, integer_usually_at, mantissa_entity_at, mantissa_behind, mantissa_delta_behind, integer_spelled_at, decimal_spelled_at, spelled_at, integer_delta_at, decimal_delta_at, delta_at, whole_at, row_at, field_at}
 use Rattle.fast_field.specs.Spelled.{overlong_number}
 use Rattle.fast_field.specs.Values.{is_unsigned, exponent_of}
-use Rattle.fast_field.proofs.LevelsAgree.{integer_starts, mantissa_starts}
-use Rattle.fast_field.proofs.OneEntity as one
+use Rattle.fast_field.proofs.FieldsBehave.{integer_starts, mantissa_starts}
+use Rattle.fast_field.proofs.FieldsBehave.{integer_as_usual}
 use Rattle.fast_writer.specs.Beginnings.{BeginsField, BeginsShort, BeginsShortBehind, BeginsNumber}
 
 -- ---- judging an entity that begins with two such bytes changes nothing
@@ -82,7 +82,7 @@ exponent_ends Mandatory b bs h = (Value (signed_of (b ∷ [])), rw (le-leb 128 b
 exponent_ends Optional b bs h = (received_signed (signed_of (b ∷ [])), rw (le-leb 128 b h) refl)
 
 exponent : (p : Presence) (b : ℕ) (bs : List ℕ) → 128 ≤ b → integer_at Strict false p (b ∷ bs) ≡ integer_at Usual false p (b ∷ bs)
-exponent p b bs h = one.integer false p b bs (λ is. absurd (omega (arith, h, is))) (λ is. absurd (omega (arith, h, is)))
+exponent p b bs h = integer_as_usual false p b bs (λ is. absurd (omega (arith, h, is))) (λ is. absurd (omega (arith, h, is)))
 
 -- ---- an integer in front, or an exponent of one byte and a mantissa
 

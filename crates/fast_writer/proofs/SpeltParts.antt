@@ -26,7 +26,7 @@ use Rattle.fast_field.specs.Parts.{IsFieldPart}
 use Rattle.fast_field.specs.Within.{HoldsScalar}
 use Rattle.fast_field.specs.Written.{IsRefusal}
 use Rattle.fast_field.proofs.FieldForms.{field_forms}
-use Rattle.fast_field.proofs.LevelsAgree.{read_usually}
+use Rattle.fast_field.proofs.FieldsBehave.{read_usually}
 use Rattle.fast_field.proofs.Refused.{not_refused}
 use Rattle.fast_field.proofs.ValueKinds.{value_kind, value_there}
 use Rattle.fast_stream.specs.Bodies.{written}

@@ -1,5 +1,5 @@
-use Rattle.fast_field.proofs.LevelsAgree.{read_usually, fault_usually, not_of_level}
-use Rattle.fast_field.proofs.UsualForms.{form_usually}
+use Rattle.fast_field.proofs.FieldsBehave.{read_usually, fault_usually, not_of_level}
+use Rattle.fast_field.proofs.StrictForms.{form_usually}
 use Rattle.fast_field.proofs.laws.levels_agree.Goals as goal
 
 pub returns : goal.returns

@@ -1,5 +1,5 @@
-use Rattle.fast_field.proofs.LevelsAgree.{fault_usually}
-use Rattle.fast_field.proofs.NoMemory.{field_no_memory}
+use Rattle.fast_field.proofs.FieldsBehave.{fault_usually}
+use Rattle.fast_field.proofs.FieldsBehave.{field_no_memory}
 use Rattle.fast_field.specs.declared.fault.FieldFault.TheVariants as fault
 use Rattle.fast_field.proofs.laws.no_fault_is_want_of_memory.Goals as goal
 

@@ -1,6 +1,6 @@
 use Rattle.fast_field.proofs.BestValues.{best_stands}
 use Rattle.fast_field.proofs.Refused.{refused_has_none}
-use Rattle.fast_field.proofs.UsualForms.{form_usually}
+use Rattle.fast_field.proofs.StrictForms.{form_usually}
 use Rattle.fast_field.proofs.laws.refusals_are_exact.Goals as goal
 
 pub returns : goal.returns

@@ -1,5 +1,5 @@
 use Rattle.fast_field.proofs.FieldsWithin.{entries_within, values_within}
-use Rattle.fast_field.proofs.UsualForms.{form_usually}
+use Rattle.fast_field.proofs.StrictForms.{form_usually}
 use Rattle.fast_field.proofs.laws.values_are_within.Goals as goal
 
 pub returns : goal.returns

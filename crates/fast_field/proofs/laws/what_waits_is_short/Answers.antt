@@ -1,5 +1,5 @@
-use Rattle.fast_field.proofs.LevelsAgree.{fault_usually}
-use Rattle.fast_field.proofs.Waits.{field_waits}
+use Rattle.fast_field.proofs.FieldsBehave.{fault_usually}
+use Rattle.fast_field.proofs.FieldsBehave.{field_waits}
 use Rattle.fast_field.specs.declared.fault.FieldFault.TheVariants as fault
 use Rattle.fast_field.proofs.laws.what_waits_is_short.Goals as goal
 

@@ -2,8 +2,8 @@ use Rattle.std.proofs.Common.{true, drop, ◌∙◌, ap}
 use Rattle.std.specs.Prelude.{◌++◌}
 use Rattle.fast_wire.specs.declared.level.Level.{Level}
 use Rattle.fast_field.specs.FieldReading.{field_at}
-use Rattle.fast_field.proofs.OneEntity.{reads_as_usual}
-use Rattle.fast_field.proofs.TwoEntities.{pair_as_usual}
+use Rattle.fast_field.proofs.FieldsBehave.{reads_as_usual}
+use Rattle.fast_field.proofs.FieldsBehave.{pair_as_usual}
 use Rattle.fast_field.proofs.levels.reads_as_usual.Goals as goal
 
 pub returns-then-judges_one : goal.returns-then-judges_one

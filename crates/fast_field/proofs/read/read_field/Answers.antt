@@ -3,7 +3,7 @@ use Rattle.fast_dictionary.specs.Dictionary.{entry_of}
 use Rattle.fast_field.specs.FieldReading.{field_at}
 use Rattle.fast_field.specs.Fields.{Form}
 use Rattle.fast_field.proofs.FieldForms.{field_forms}
-use Rattle.fast_field.proofs.FieldsGoOn.{field_goes}
+use Rattle.fast_field.proofs.FieldsBehave.{field_goes}
 use Rattle.fast_field.proofs.ReadFields.{bytes_from, call_answers, call_goes, call_only}
 use Rattle.fast_field.proofs.read.read_field.Goals as goal
 

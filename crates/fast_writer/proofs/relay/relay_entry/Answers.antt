@@ -11,7 +11,7 @@ use Rattle.fast_field.specs.Best.{IsBest}
 use Rattle.fast_field.specs.Parts.{HasDefault}
 use Rattle.fast_field.specs.FieldReading.{field_at}
 use Rattle.fast_field.proofs.FieldForms.{field_forms}
-use Rattle.fast_field.proofs.LevelsAgree.{read_usually}
+use Rattle.fast_field.proofs.FieldsBehave.{read_usually}
 use Rattle.fast_field.proofs.BestForms.{bit_zero_is_best, bit_zero_row}
 use Rattle.std.proofs.lemmas.Bool.{true_from_ne_false}
 use Rattle.fast_template.specs.Resolved.{part_needs_bit}

@@ -1,5 +1,0 @@
-use Rattle.fast_field.proofs.RefusalSteps.{characters_told}
-use Rattle.fast_field.proofs.refuse.all_characters.Goals as goal
-
-pub returns : goal.returns
-returns c = characters_told c.args.text.now c.is_ascii.result c.is_ascii.ensures.cases
