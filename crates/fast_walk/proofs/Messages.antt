@@ -1,5 +1,5 @@
 -- Reading a message piece by piece: a step in front of what is read behind it, and where nothing is read.
-use Rattle.std.proofs.Common.{◌≡◌, ◌≢◌, ◌≤◌, ◌++◌, ℕ, true, List, [], Result, Ok, Err, length, drop, refl, sym, ap, subst, ◌∙◌, inl, inr, arith}
+use Rattle.std.proofs.Common.{◌≡◌, ◌≢◌, ◌≤◌, ◌++◌, ℕ, true, List, [], Result, Ok, Err, length, drop, map, refl, sym, ap, subst, ◌∙◌, inl, inr, arith}
 use Rattle.fast_template.specs.Resolved.{list_of, no_instructions}
 use Rattle.fast_template.specs.TemplateSets.{templates_in}
 use Rattle.fast_wire.specs.Level.{IsLeftClear, some_set}
@@ -16,7 +16,7 @@ use Rattle.fast_walk.specs.Pieces.{Holds}
 use Rattle.fast_walk.specs.Received.{Carries, Completes}
 use Rattle.fast_walk.specs.Told.{KeepScalars}
 use Rattle.fast_walk.specs.Traversals.{ContinuesAt, IsOpen, identifier_on, stop_of}
-use Rattle.fast_walk.specs.Walks.{IsWhole, Moves, next_of, reads_on}
+use Rattle.fast_walk.specs.Walks.{IsWhole, Moves, bare, frame_of, next_of, reads_on}
 use Rattle.fast_walk.specs.declared.halt.Halt.{Halt}
 use Rattle.fast_walk.specs.declared.receiver.Receiver.{Ghosts as Receiving}
 use Rattle.fast_walk.specs.declared.traversal.Stage.{Stage}
@@ -24,9 +24,9 @@ use Rattle.fast_walk.specs.declared.traversal.Stage.TheVariants as stage
 use Rattle.fast_walk.specs.declared.traversal.Traversal.{Traversal as TraversalNow}
 use Rattle.fast_walk.specs.declared.walk.Walk.{Walk as WalkNow}
 use Rattle.fast_walk.proofs.Heads.{content_fails, content_goes, content_stops}
-use Rattle.fast_walk.proofs.ShortWalks.{behind_few, identifier_few_at, map_few_at, no_want, walk_few, want_of_bytes}
+use Rattle.fast_walk.proofs.ShortWalks.{behind_few, identifier_few_at, map_few_at, walk_few, want_of_bytes}
 use Rattle.fast_walk.proofs.Steps.{with_none}
-use Rattle.fast_walk.proofs.Walking.{all_read, around_none, is_instruction, same_named}
+use Rattle.fast_walk.proofs.Walking.{all_read, is_instruction, none_mapped}
 
 -- a message whose body has ended
 record IsReceived {R E : Type 0} (receiver : Receiving R) (entries : Ghosts E) (t : TraversalNow) (r : R) (d : E) (before : List Content) (start : Dictionary) (read : List ℕ → Reading) : Type 0 where
@@ -50,7 +50,7 @@ module _ {R E : Type 0} (receiver : Receiving R) (entries : Ghosts E) (t : Trave
   received at_body whole before start read was =
       let o = open_now at_body before start read was in
       let next = is_instruction o.received.next (o.at.next ∙ ap next_of whole.0) in
-      let around = around_none o.received.around t.walk.around.items o.at.around whole.1 in
+      let around = none_mapped bare o.received.around (o.at.around ∙ ap (map frame_of) whole.1) in
       let rest : o.received.body.rest ≡ no_instructions = o.at.rest ∙ ap list_of whole.2 in
       record {
         still = o;
@@ -179,7 +179,7 @@ module _ {R E : Type 0} {receiver : Receiving R} {entries : Ghosts E} {t : Trave
             set_is = p.2.set ∙ o.set_is;
             before_is = p.2.before ∙ o.before_is;
             template_is = p.2.template ∙ o.template_is;
-            named = same_named o.received p.0 p.2 o.named;
+            named = rw (p.2.set, p.2.template, p.2.members) o.named;
             reads = λ bytes. refl;
           }),
           λ more. o.reads (drop at bytes ++ more) ∙ ap (λ (r : Reads Items). message_of t.level t.template r) (p.3 more),
@@ -242,5 +242,5 @@ module _ {R E : Type 0} {receiver : Receiving R} {entries : Ghosts E} {t : Trave
         let e : IsReceived receiver entries t r d before start now = received receiver entries t r d at_body whole before start now was in
         let f = refused other in
         rw (template, f.1, f.2) (e.reads (drop at bytes) ∙ content_stops t.level t.template (items_of e.still.received.body.done) (cursor (entries.contents d) t.walk.bits t.walk.spare (drop at bytes)) f.0 f.3);
-    waits = λ wanted. absurd (no_want h.cause wanted (refused (want_of_bytes h.cause wanted)).1);
+    waits = λ wanted. let is : h.cause ≡ R8 = (refused (want_of_bytes h.cause wanted)).1 in let both : Truncated ≡ R8 = sym wanted ∙ is in absurd cc;
   }

@@ -1,9 +1,10 @@
 -- How reading goes on from one piece to the next.
 use Rattle.std.proofs.Common.{◌≡◌, ℕ, zero, suc, ◌-◌, ◌<◌, Bool, true, List, [], ◌∷◌, ◌++◌, Option, Some, Result, Ok, Err, refl, sym, ap, ◌∙◌, arith, append-nil}
+use Rattle.std.specs.Prelude.{IsErrAnd}
 use Rattle.fast_value.specs.declared.scalar.Scalar.{Scalar}
 use Rattle.fast_value.specs.declared.scalar.Scalar.TheVariants.{U32}
 use Rattle.fast_template.specs.declared.resolved.FieldPart.{FieldPart}
-use Rattle.fast_template.specs.Resolved.{Instruction, Instructions, no_instructions, then_instruction, has_map}
+use Rattle.fast_template.specs.Resolved.{Instructions, no_instructions, has_map}
 use Rattle.fast_dictionary.specs.Dictionary.{Dictionary}
 use Rattle.fast_wire.specs.Reading.{◌>>=◌, entity_at}
 use Rattle.fast_wire.specs.declared.fault.WireFault.{WireFault}
@@ -15,7 +16,7 @@ use Rattle.fast_stream.specs.Nodes.{Item, group_items, sequence_elements, Items,
 use Rattle.fast_stream.specs.Bits.{bit_for}
 use Rattle.fast_stream.specs.declared.fault.Cause.TheVariants.{R7, R8}
 use Rattle.fast_stream.specs.Faults.{Stop, cause_of_wire}
-use Rattle.fast_stream.specs.Reading.{Cursor, Reads, node_at, field_part_at, own_map_at, closing, segment_at, each_at, elements_at, group_at, piece_at, body_at}
+use Rattle.fast_stream.specs.Reading.{Cursor, Reads, node_at, field_part_at, own_map_at, closing, segment_at, each_at, elements_at, group_at, body_at}
 use Rattle.fast_walk.specs.OpenSegments.{items_before, elements_before, Body, Sequel, ended_on, in_group, in_sequence, Waiting, with_item, under_bits, body_on, elements_on, behind_inside, around_on, all_around}
 use Rattle.fast_template.specs.Resolved.{part_needs_bit}
 use Rattle.fast_dictionary.specs.Dictionary.{entry_at}
@@ -26,6 +27,11 @@ use Rattle.fast_stream.specs.Bodies.{written}
 use Rattle.fast_stream.specs.Faults.{cause_of_field}
 use Rattle.fast_stream.specs.Reading.{stopped}
 use Rattle.fast_walk.specs.OpenSegments.{cursor}
+
+-- what the exit of a `?` hands on
+pub exit_is : {T E : Type 0} {e : E} (r : Result T E) → IsErrAnd r (λ x. x ≡ e) → r ≡ Err e
+exit_is (Ok x) h = absurd h
+exit_is (Err x) h = ap Err h
 
 -- ---- lists of items
 
@@ -128,14 +134,10 @@ module _ (level : Level) where
   after_both done n (Err s) = refl
   after_both done n (Ok x) = ap (λ (y : Items). Ok (y, x.1)) (sym (items_before-more done n x.0))
 
-  after_piece : (is : Instructions) (done : List Item) (r : Reads Item) → after_items done (r >>= λ n. after_item n.0 (body_at level is n.1)) ≡ items_on is done r
+  -- its item, and the body behind it
+  pub after_piece : (is : Instructions) (done : List Item) (r : Reads Item) → after_items done (r >>= λ n. after_item n.0 (body_at level is n.1)) ≡ items_on is done r
   after_piece is done (Err s) = refl
   after_piece is done (Ok n) = after_both done n.0 (body_at level is n.1)
-
-  -- its item, and the body behind it
-  pub then_on : (i : Instruction) (is : Instructions) (done : List Item) (c : Cursor)
-      → body_on level (record { rest = then_instruction i is; done = done }) c ≡ items_on is done (piece_at level i c)
-  then_on i is done c = after_piece is done (piece_at level i c)
 
   -- ---- the end of a segment
 
