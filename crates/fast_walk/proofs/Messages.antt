@@ -36,10 +36,6 @@ record IsReceived {R E : Type 0} (receiver : Receiving R) (entries : Ghosts E) (
   pub around : still.received.around ≡ []
   pub reads : (bytes : List ℕ) → read bytes ≡ message_of t.level t.template (Ok (items_of still.received.body.done, cursor (entries.contents d) t.walk.bits t.walk.spare bytes))
 
--- with another walk
-abbrev walked : (t : TraversalNow) → WalkNow → t.identifier ≡ identifier → TraversalNow
-walked t w is = record { alloc = t.alloc; set = t.set; level = t.level; identifier = t.identifier; stage = t.stage; template = t.template; walk = w; identifier_is = is }
-
 module _ {R E : Type 0} (receiver : Receiving R) (entries : Ghosts E) (t : TraversalNow) (r : R) (d : E) where
   open_now : t.stage ≡ stage.Body → (before : List Content) (start : Dictionary) (read : List ℕ → Reading) → LeftOf receiver entries t r d before start read
       → IsOpen receiver.has receiver.keeps t r (templates_in t.set.now) (entries.contents d) before start read
@@ -162,7 +158,7 @@ module _ {R E : Type 0} {receiver : Receiving R} {entries : Ghosts E} {t : Trave
 
   -- it is read on
   pub walk_step : {m : ℕ} {w : WalkNow} {s : R} {e : E} (is : t.identifier ≡ identifier) → t.stage ≡ stage.Body → (at ≤ m) × (m ≤ length bytes) → Carries (receiver.keeps r) (receiver.keeps s)
-      → Moves t.level receiver.has t.walk r (entries.contents d) w s (entries.contents e) (drop at bytes) (drop m bytes) → IsStep receiver entries t r d bytes at m (walked t w is) s e
+      → Moves t.level receiver.has t.walk r (entries.contents d) w s (entries.contents e) (drop at bytes) (drop m bytes) → IsStep receiver entries t r d bytes at m (record t { walk = w; identifier_is = is }) s e
   walk_step {w = w} {e = e} is at_body place carries goes = record {
     place = place;
     took = λ map. let k : stage.Body ≡ stage.Map = sym at_body ∙ map in absurd cc;
@@ -189,7 +185,7 @@ module _ {R E : Type 0} {receiver : Receiving R} {entries : Ghosts E} {t : Trave
   -- it is read on to a place, and stops there
   pub walk_halts : {w : WalkNow} {s : R} {e : E} {x : ℕ × Halt} (is : t.identifier ≡ identifier) → t.stage ≡ stage.Body → (at ≤ x.0) × (x.0 ≤ length bytes) → Carries (receiver.keeps r) (receiver.keeps s)
       → ((x.1).cause ≢ Memory → Holds t.level receiver.has receiver.room (entries.serves e) t.walk r (entries.contents d) w s (entries.contents e) (drop at bytes) (drop x.0 bytes) x.1)
-      → MessageStops receiver entries t r d bytes at x (walked t w is) s e
+      → MessageStops receiver entries t r d bytes at x (record t { walk = w; identifier_is = is }) s e
   walk_halts {w = w} {s = s} {e = e} {x = x} is at_body place carries holds =
       let rest = drop x.0 bytes in
       let goes = λ (other : (x.1).cause ≢ Memory). (walk_step {w = w} is at_body place carries (holds other).goes).leaves in
@@ -198,7 +194,7 @@ module _ {R E : Type 0} {receiver : Receiving R} {entries : Ghosts E} {t : Trave
         keeps = λ before start now was. let o = rw at_body at was in inl (carries (templates_in t.set.now) before start o.keeps);
         stops = λ other before start now was.
             let l = goes other before start now was in
-            let o = open_now receiver entries (walked t w is) s e at_body before start l.0 l.1 in
+            let o = open_now receiver entries (record t { walk = w; identifier_is = is }) s e at_body before start l.0 l.1 in
             with_none now l.0 (drop at bytes) rest l.2 ∙ o.reads rest
             ∙ ap (λ (r : Reads Items). message_of t.level t.template r) ((holds other).halts o.received o.at) ∙ content_fails t.level t.template _;
         waits = λ wanted.
