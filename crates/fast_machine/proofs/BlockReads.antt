@@ -32,7 +32,8 @@ use Rattle.fast_machine.specs.Runs.{Forgets, ReadsOn, ReadsRun, Run, RunStands, 
 use Rattle.fast_machine.specs.Standing.{Behind, Carried, HasAll, Stands, StopsBehind, framed_as}
 use Rattle.fast_machine.proofs.Calls.{Finds, Found, found_of}
 use Rattle.fast_machine.proofs.Standings.{Opening, Window, go_on, opened, run_from, window_drop, window_take}
-use Rattle.fast_machine.proofs.Followings.{forgets, not_memory}
+use Rattle.fast_machine.proofs.Followings.{forgets}
+use Rattle.fast_walk.proofs.ShortWalks.{want_of_bytes}
 use Rattle.fast_machine.proofs.Runs.{carried_of, ends_with}
 
 -- the bytes of a block among those that have come
@@ -259,6 +260,6 @@ module _ {R E : Type 0} {receiver : Receiving R} {entries : Ghosts E} (old : Mac
       let all : nat_le (room - p.at) (length (drop p.at (drop at bytes))) ≡ true = let came = rw (← drop-drop p.at at bytes) at full in grind (arith, came) in
       found_of Blocks u count r.0 counted short counts r.1 carried (rw (same, ← drop-drop p.at at bytes) (
         carried,
-        block_stops u p.at r.0 b few leaves.same.level set h BlockEnd (rw (wanted, all) refl) (r.2.1 (not_memory h.cause wanted)),
+        block_stops u p.at r.0 b few leaves.same.level set h BlockEnd (rw (wanted, all) refl) (r.2.1 (want_of_bytes h.cause wanted)),
         block_any u p.at r.0 b few leaves.same.level set (λ d rest x. forgets receiver.has receiver.stands receiver.keeps u s (entries.contents e) (before ++ r.0) forgotten d x.read x.goes) (r.2.2 wanted),
       ))

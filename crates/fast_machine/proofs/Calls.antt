@@ -23,7 +23,8 @@ use Rattle.fast_machine.specs.Following.{Counts, Follows, Refused, Waits, mode_o
 use Rattle.fast_machine.specs.Calls.{AnswersNone, FollowsAll, FollowsBehind, IsFault, IsFaultOf, IsSameStream, KeepsFault, ReadsNext, StandsAt}
 use Rattle.fast_machine.proofs.Runs.{carried_of}
 use Rattle.fast_machine.proofs.Standings.{stands_first}
-use Rattle.fast_machine.proofs.Followings.{few_messages, left_behind, memory_refused, not_memory, stands_fed}
+use Rattle.fast_machine.proofs.Followings.{few_messages, left_behind, memory_refused, stands_fed}
+use Rattle.fast_walk.proofs.ShortWalks.{want_of_bytes}
 
 -- ---- a chunk more
 
@@ -143,7 +144,7 @@ pub finds_waiting : {R E : Type 0} {receiver : Receiving R} {entries : Ghosts E}
 finds_waiting {receiver = receiver} {framing = framing} {old = old} {bytes = bytes} {h = h} {left = left} {u = u} {s = s} {e = e} result finds is same held answer = reads_none framing old bytes result answer (λ before fed messages short counts stands.
     let f = finds.found before fed messages short counts stands in
     let all = messages ++ f.ended in
-    let stops = rw (is) at (f.leaves.1 (not_memory h.cause is)) in
+    let stops = rw (is) at (f.leaves.1 (want_of_bytes h.cause is)) in
     (f.ended, held (before ++ f.ended) fed all (omega (arith, short)) f.counts (rw (same) (f.leaves.2 is)) (rw (same) (inr stops))))
 
 -- another fault is the first

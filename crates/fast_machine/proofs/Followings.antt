@@ -37,7 +37,7 @@ use Rattle.fast_machine.specs.Following.{Counts, FollowsAt, IsCutAt, IsHeld, Ref
 use Rattle.fast_stream.proofs.MessageReaders.{message_reader}
 use Rattle.fast_stream.proofs.ModeReaders.{next_reader, next_some}
 use Rattle.fast_stream.proofs.BlockReaders.{fits_append, fits_take}
-use Rattle.fast_machine.proofs.Runs.{all_unread, carried_of, ends_with, unfinished_with}
+use Rattle.fast_machine.proofs.Runs.{all_unread, carried_of, ends_with}
 use Rattle.fast_machine.proofs.Standings.{outside_of, size_stops, size_waits, window_append}
 
 pub first_fault : (mode : Mode) (set : List Resolved) → AllByRecursion (λ t. HaveTypedParts t.members) set → (bytes : List ℕ) (messages : List Content) (stop : MessageStop) → StopsBehind mode set bytes messages stop
@@ -232,12 +232,6 @@ cut_between mode set bytes messages fed count place counts short carries message
     let end = offset ∙ all in
     record { carried = carried; behind = behind; at = inr (record { messages = messages; carried = carries; place_is = λ i. record { message = behind i; offset = end i; template = template i; instruction = instruction i } }) }
 
-pub not_truncated : (c d : Cause) → c ≡ d → d ≢ Truncated → c ≢ Truncated
-not_truncated c d is other e = other (sym is ∙ e)
-
-pub not_memory : (c : Cause) → c ≡ Truncated → c ≢ Memory
-not_memory c is e = absurd cc
-
 -- ---- what a receiver keeps
 
 -- what goes on in the rest of a stream
@@ -286,10 +280,10 @@ module _ {R : Type 0} (has : Having R) (stands keeps : Standing R) (t : Traversa
     }
 
     next_behind : {unread : List ℕ} {start : Dictionary} {rest : List ℕ} → Unfinished (ReadsOn has stands keeps t r d before) t unread start rest → Unfinished (ReadsOn has stands keeps t s d after) t unread start rest
-    next_behind {start = start} u = unfinished_with u (λ read goes. continues_behind (templates_in t.set.now) start read t.stage goes)
+    next_behind {start = start} u = record { read = u.read; goes = continues_behind (templates_in t.set.now) start u.read t.stage u.goes; fits = u.fits; reads = u.reads; taken = u.taken; whole = u.whole; between = u.between; some = u.some }
 
     goes_behind : (framing : Framing) (left : ℕ) (unread : List ℕ) (start : Stand) (rest : List ℕ) → GoesIn framing left (ReadsOn has stands keeps t r d before) t unread start rest → GoesIn framing left (ReadsOn has stands keeps t s d after) t unread start rest
-    unfolding next_behind unfinished_with
+    unfolding next_behind
     goes_behind Plain left unread start rest h = (next_behind h.0, h.1, h.2)
     goes_behind Blocks left unread start rest (inl b) = inl (record { none = b.none; outside = b.outside; stage = b.stage; same = b.same; fits = b.fits; next = next_behind b.next })
     goes_behind Blocks left unread start rest (inr i) = inr (record { some = i.some; size = i.size; within = i.within; next = next_behind i.next; opens = i.opens; parts = i.parts; fits = i.fits })

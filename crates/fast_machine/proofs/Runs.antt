@@ -1,5 +1,5 @@
 -- How the reading of messages one behind the other stands after a piece and after a message.
-use Rattle.std.proofs.Common.{◌≡◌, ◌≢◌, ◌<◌, ℕ, length, drop, take, take-append-drop, arith, List, [], ◌∷◌, ◌++◌, None, Some, Ok, refl, sym, ap, subst, ◌∙◌, append_assoc, append-nil, ◌⊎◌, inl, inr}
+use Rattle.std.proofs.Common.{◌≡◌, ◌≢◌, ◌<◌, ℕ, length, drop, take, take-append-drop, arith, List, [], ◌∷◌, ◌++◌, None, Some, Ok, refl, sym, ap, ◌∙◌, append_assoc, append-nil, ◌⊎◌, inl, inr}
 use Rattle.fast_wire.specs.Reader.{IsBytes}
 use Rattle.fast_wire.specs.declared.level.Level.{Level}
 use Rattle.fast_template.specs.Resolved.{Resolved}
@@ -21,6 +21,11 @@ use Rattle.fast_walk.specs.declared.receiver.Receiver.{Ghosts as Receiving}
 use Rattle.fast_walk.proofs.Steps.{with_none}
 use Rattle.fast_machine.specs.Runs.{Forgets, Front, ReadsOn, ReadsRun, Having, Standing, Unfinished}
 use Rattle.fast_stream.proofs.MessageReaders.{message_found}
+use Rattle.fast_stream.proofs.Framings.{from_mode_from, in_mode_from}
+use Rattle.fast_stream.proofs.Runs.{carries_on, carries_one}
+use Rattle.fast_stream.specs.Blocks.{outside}
+use Rattle.fast_stream.specs.Modes.{plainly}
+use Rattle.std.proofs.lemmas.Bool.{cases_lt}
 
 -- what is so of the rest, and how the messages stand, is said in other words
 pub front_with : {S : Type 0} {A B : S → List ℕ → List Content → S → Type 0} {origin : S} {bytes : List ℕ} {messages : List Content} {Ends Later : S → List ℕ → Type 0}
@@ -37,22 +42,9 @@ carried_of f = ends_with f (λ s rest h. tt)
 -- one message more
 carries_more : (level : Level) (set : List Resolved) (ms : List Content) (m : Content) (a : Dictionary) (front x : List ℕ) (mid after : Dictionary)
     → CarriesFrom level set a front ms mid → MessageForm level set mid x m after → CarriesFrom level set a (front ++ x) (ms ++ m ∷ []) after
-carries_more level set [] m a front x mid after h form = record {
-  between = after;
-  front = x;
-  back = [];
-  parts = ap (λ (y : List ℕ). y ++ x) h.0 ∙ sym (append-nil x);
-  first = subst (λ (e : Dictionary). MessageForm level set e x m after) h.1 form;
-  second = (refl, refl);
-}
-carries_more level set (n ∷ ms) m a front x mid after h form = record {
-  between = h.between;
-  front = h.front;
-  back = h.back ++ x;
-  parts = ap (λ (y : List ℕ). y ++ x) h.parts ∙ append_assoc h.front h.back x;
-  first = h.first;
-  second = carries_more level set ms m h.between h.back x mid after h.second form;
-}
+carries_more level set ms m a front x mid after h form =
+    from_mode_from level set (ms ++ m ∷ []) (outside a) (outside after) (front ++ x)
+    (carries_on (plainly level) set ms (m ∷ []) (outside a) (outside mid) (outside after) front x (in_mode_from level set ms a mid front h) (carries_one (plainly level) set (outside mid) (outside after) x m (form, refl)))
 
 -- ---- the next message
 
@@ -66,16 +58,10 @@ module _ {G : Dictionary → (List ℕ → Reading) → Type 0} {t : Traversal} 
   all_unread at = u.whole ∙ ap (λ (xs : List ℕ). xs ++ unread) (u.between at)
 
   some_rest : (t.stage ≡ stage.Map → 0 < length unread) → 0 < length rest
-  some_rest some = elim (map_or_not t.stage) [ inl at ↦ subst (λ (xs : List ℕ). 0 < length xs) (sym (all_unread at)) (some at) | inr other ↦ u.some other ]
-    where
-      map_or_not : (s : Stage) → (s ≡ stage.Map) ⊎ (s ≢ stage.Map)
-      map_or_not stage.Map = inl refl
-      map_or_not stage.Identifier = inr (λ e. absurd cc)
-      map_or_not stage.Body = inr (λ e. absurd cc)
-
-  -- what goes on is said in other words
-  unfoldable pub unfinished_with : {H : Dictionary → (List ℕ → Reading) → Type 0} → ((read : List ℕ → Reading) → G start read → H start read) → Unfinished H t unread start rest
-  unfinished_with goes = record { read = u.read; goes = goes u.read u.goes; fits = u.fits; reads = u.reads; taken = u.taken; whole = u.whole; between = u.between; some = u.some }
+  some_rest some = elim (cases_lt 0 (length rest)) [
+    | inl more ↦ more
+    | inr none ↦ u.some (λ at. let same = ap (λ (xs : List ℕ). length xs) (all_unread at) in let more = some at in absurd (omega (arith, none, same, more)))
+  ]
 
 -- between two messages
 pub unfinished_between : {R : Type 0} (has : Having R) (stands keeps : Standing R) (t : Traversal) (r : R) (d : Dictionary) (before : List Content) (unread : List ℕ) (start : Dictionary) (rest : List ℕ) → t.stage ≡ stage.Map
@@ -92,9 +78,7 @@ unfinished_between has stands keeps t r d before unread start rest at h is same 
 }
 
 pub none_begun : (s : Stage) → s ≡ stage.Map → begun_at s ≡ 1 → ⊥
-none_begun stage.Map e h = absurd (omega (arith, h))
-none_begun stage.Identifier e h = absurd cc
-none_begun stage.Body e h = absurd cc
+none_begun s e h = let zero = ap begun_at e in absurd (omega (arith, zero, h))
 
 -- ---- a message
 

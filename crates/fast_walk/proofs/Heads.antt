@@ -28,15 +28,10 @@ abbrev own_bit : List Bool → Bool
 own_bit bits = bit_for (part_needs_bit identifier) bits
 
 module _ (level : Level) where
-  pub map_read : (set : List Resolved) (d : Dictionary) (bytes : List ℕ) (c : Cursor) → own_map_at level 0 true (cursor d [] node_limit bytes) ≡ Ok c
-      → message_at level set d bytes ≡ named_on level (in_template 0 (field_part_at level identifier c >>= named_at set c.bytes))
+  pub at_map : (set : List Resolved) (d : Dictionary) (bytes : List ℕ)
+      → message_at level set d bytes ≡ named_on level (in_template 0 (own_map_at level 0 true (cursor d [] node_limit bytes) >>= λ c. field_part_at level identifier c >>= named_at set c.bytes))
   unfolding message_at head_at
-  map_read set d bytes c h = rw h refl
-
-  pub map_stops : (set : List Resolved) (d : Dictionary) (bytes : List ℕ) (s : Stop) → own_map_at level 0 true (cursor d [] node_limit bytes) ≡ Err s
-      → message_at level set d bytes ≡ Err (record { template = 0; stop = s })
-  unfolding message_at head_at
-  map_stops set d bytes s h = rw h refl
+  at_map set d bytes = refl
 
   abbrev content_of : ℕ → Reads Items → Reading
   content_of id r = in_template id r >>= λ x. Ok (record { template = id; items = x.0 }, x.1.dictionary, x.1.bytes)

@@ -1,12 +1,11 @@
 -- What is too short to be read stays so until what it lacks has come.
-use Rattle.std.proofs.Common.{◌≡◌, ℕ, zero, suc, ◌<◌, ◌≤◌, Bool, true, false, List, [], ◌∷◌, ◌++◌, length, Option, Some, None, Result, Ok, Err, refl, sym, ap, subst, ◌∙◌, arith, length-append, inl, inr, ◌-◌, append-nil}
+use Rattle.std.proofs.Common.{◌≡◌, ℕ, zero, suc, ◌<◌, ◌≤◌, Bool, true, false, List, [], ◌∷◌, ◌++◌, length, Option, Some, None, Ok, Err, refl, sym, ap, subst, ◌∙◌, arith, length-append, inl, inr, ◌-◌, append-nil}
 use Rattle.std.specs.Prelude.{nat_le, IfSome, pos}
 use Rattle.fast_template.specs.Resolved.{Instruction, Resolved, Instructions, then_instruction, list_of, part_needs_bit, group_of, no_instructions}
 use Rattle.fast_dictionary.specs.Dictionary.{entry_at}
 use Rattle.fast_stream.specs.Bits.{bit_for}
 use Rattle.fast_stream.specs.Nodes.{Content, Items}
 use Rattle.fast_stream.specs.Faults.{Stop}
-use Rattle.fast_stream.specs.declared.fault.Cause.{Cause}
 use Rattle.fast_dictionary.specs.Dictionary.{Dictionary}
 use Rattle.fast_stream.specs.Reading.{Cursor, Reads, field_part_at, node_at, piece_at, stopped}
 use Rattle.fast_stream.specs.declared.fault.Cause.TheVariants.{Truncated}
@@ -25,15 +24,12 @@ use Rattle.fast_walk.proofs.Steps.{count_goes, part_stops}
 use Rattle.fast_walk.proofs.Walking.{is_instruction, is_mantissa, mantissa_on_stops, piece_stops_on}
 use Rattle.fast_wire.specs.Entity.{HasNoStop}
 use Rattle.fast_wire.specs.Level.{judge, overlong_unsigned}
-use Rattle.fast_wire.specs.Reading.{◌>>=◌, entity_at, unsigned_at, signed_at, unsigned_nullable_at, signed_nullable_at, ascii_at, ascii_nullable_at, bytes_at, vector_at, behind_length, vector_nullable_at}
+use Rattle.fast_wire.specs.Reading.{entity_at, unsigned_at, signed_at, unsigned_nullable_at, signed_nullable_at, ascii_at, ascii_nullable_at, vector_at, behind_length, vector_nullable_at}
 use Rattle.fast_wire.specs.declared.level.Level.{Level}
 use Rattle.fast_wire.specs.declared.level.Level.TheVariants.{Usual, Strict}
-use Rattle.fast_wire.specs.declared.fault.WireFault.{WireFault}
 use Rattle.fast_wire.specs.declared.fault.WireFault.TheVariants as wire
-use Rattle.fast_wire.specs.declared.nullable.Nullable.{Nullable}
 use Rattle.fast_wire.specs.declared.nullable.Nullable.TheVariants.{Value}
 use Rattle.fast_wire.proofs.GoingOn.{entity_goes, unsigned_goes, unsigned_nullable_goes}
-use Rattle.fast_wire.proofs.Readers.{ok_is}
 use Rattle.fast_wire.proofs.VectorForms.{bytes_wait}
 use Rattle.fast_value.specs.declared.kind.Kind.{Kind}
 use Rattle.fast_value.specs.declared.kind.Kind.TheVariants as kind
@@ -47,7 +43,7 @@ use Rattle.fast_field.specs.declared.fault.FieldFault.TheVariants as fault
 use Rattle.fast_field.specs.Faults.{field_fault}
 use Rattle.fast_field.specs.FieldReading.{part_at, units_at, integer_at, integer_spelled_at, decimal_spelled_at, units_spelled_at, spelled_at, integer_delta_at, decimal_delta_at, unit_delta_at, delta_at, tail_at, whole_at, row_at, field_at}
 use Rattle.fast_walk.specs.declared.lack.Lack.{Lack}
-use Rattle.fast_walk.specs.Lacks.{AreUnstopped, EntityLacks, FieldLacks, IsFirst, IsLacking, IsNextPart, IsVectorKind, Lacks, StopsShort, VectorLacks, WalkLacks, Wants, WantsByte, count_at, first_limit, sends, whole_limit}
+use Rattle.fast_walk.specs.Lacks.{AreUnstopped, EntityLacks, FieldLacks, IsFirst, IsLacking, IsNextPart, IsVectorKind, Lacks, StopsShort, VectorLacks, WalkLacks, Wants, WantsByte, IsCount, first_limit, sends, whole_limit}
 use Rattle.fast_field.specs.Values.{is_unsigned}
 use Rattle.fast_value.specs.declared.kind.Part.{Part}
 
@@ -94,33 +90,13 @@ units_wait level k p bytes h = rw h refl
 pub length_judged : (bytes more entity rest : List ℕ) → entity_at 10 bytes ≡ Ok (entity, rest) → overlong_unsigned entity ≡ false → judge Strict 10 overlong_unsigned field_fault fault.R6 (bytes ++ more) ≡ Ok tt
 length_judged bytes more entity rest h k = rw (entity_goes 10 bytes entity rest more h, k) refl
 
-abbrev as_counted : ℕ × List ℕ → Result (Nullable ℕ × List ℕ) WireFault
-as_counted n = Ok (Value n.0, n.1)
-
-vector_waits : (bytes more rest : List ℕ) (n : ℕ) → n ≤ 65535 → length (rest ++ more) < n → count_at Mandatory bytes ≡ Ok (Value n, rest) → vector_at (bytes ++ more) ≡ Err wire.NeedMore
-unfolding vector_at
-vector_waits bytes more rest n few short h = of_count (unsigned_at bytes) refl h
-  where
-    of_count : (r : Result (ℕ × List ℕ) WireFault) → unsigned_at bytes ≡ r → (r >>= as_counted) ≡ Ok (Value n, rest) → (unsigned_at (bytes ++ more) >>= λ n. bytes_at n.0 n.1) ≡ Err wire.NeedMore
-    of_count (Err w) e k = absurd cc
-    of_count (Ok x) e k =
-        let same = ok_is {F = WireFault} (Value x.0, x.1) (Value n, rest) k in
-        let whole : Value x.0 ≡ Value n = ap (λ (p : Nullable ℕ × List ℕ). p.0) same in
-        let count : x.0 ≡ n = cc in
-        let back : x.1 ≡ rest = ap (λ (p : Nullable ℕ × List ℕ). p.1) same in
-        rw (unsigned_goes bytes x.0 x.1 more e, count, back) (bytes_wait n (rest ++ more) few short)
-
-vector_nullable_waits : (bytes more rest : List ℕ) (n : ℕ) → n ≤ 65535 → length (rest ++ more) < n → unsigned_nullable_at bytes ≡ Ok (Value n, rest) → vector_nullable_at (bytes ++ more) ≡ Err wire.NeedMore
-unfolding vector_nullable_at behind_length
-vector_nullable_waits bytes more rest n few short h = rw (unsigned_nullable_goes bytes (Value n) rest more h, bytes_wait n (rest ++ more) few short) refl
-
 pub counted_waits : (level : Level) (k : Kind) (p : Presence) (bytes more rest : List ℕ) (n : ℕ) → IsVectorKind k → judge level 10 overlong_unsigned field_fault fault.R6 (bytes ++ more) ≡ Ok tt → n ≤ 65535 → length (rest ++ more) < n
-    → count_at p bytes ≡ Ok (Value n, rest) → units_at level k p (bytes ++ more) ≡ Err fault.NeedMore
-unfolding units_at part_at
-counted_waits level k Mandatory bytes more rest n (inl is) fit few short h = rw (is, fit, vector_waits bytes more rest n few short h) refl
-counted_waits level k Optional bytes more rest n (inl is) fit few short h = rw (is, fit, vector_nullable_waits bytes more rest n few short h) refl
-counted_waits level k Mandatory bytes more rest n (inr is) fit few short h = rw (is, fit, vector_waits bytes more rest n few short h) refl
-counted_waits level k Optional bytes more rest n (inr is) fit few short h = rw (is, fit, vector_nullable_waits bytes more rest n few short h) refl
+    → IsCount p bytes n rest → units_at level k p (bytes ++ more) ≡ Err fault.NeedMore
+unfolding units_at part_at vector_at vector_nullable_at behind_length
+counted_waits level k Mandatory bytes more rest n (inl is) fit few short h = rw (is, fit, unsigned_goes bytes n rest more h, bytes_wait n (rest ++ more) few short) refl
+counted_waits level k Optional bytes more rest n (inl is) fit few short h = rw (is, fit, unsigned_nullable_goes bytes (Value n) rest more h, bytes_wait n (rest ++ more) few short) refl
+counted_waits level k Mandatory bytes more rest n (inr is) fit few short h = rw (is, fit, unsigned_goes bytes n rest more h, bytes_wait n (rest ++ more) few short) refl
+counted_waits level k Optional bytes more rest n (inr is) fit few short h = rw (is, fit, unsigned_nullable_goes bytes (Value n) rest more h, bytes_wait n (rest ++ more) few short) refl
 
 -- ---- fields
 
@@ -224,32 +200,24 @@ part_opens level w d part l first s few until same =
 
 -- ---- walks that have no byte left
 
-stop_same : (c d : Cause) (i j m n : ℕ) → c ≡ d → i ≡ j → m ≡ n → ◌≡◌ {A = Stop} (record { cause = c; instruction = i; left = m }) (record { cause = d; instruction = j; left = n })
-stop_same c d i j m n is number left = rw (is, number, left) refl
-
-short_stops : (number : ℕ) (r : Reads Items) → StopsShort number 0 r → r ≡ stopped number [] Truncated
-short_stops number (Ok x) h = absurd h
-short_stops number (Err s) h = ap Err (stop_same s.cause Truncated s.instruction number s.left 0 h.0 h.1.0 h.1.1)
+short_stops : (number : ℕ) (bytes : List ℕ) (r : Reads Items) → StopsShort number (length bytes) r → r ≡ stopped number bytes Truncated
+short_stops number bytes (Ok x) h = absurd h
+short_stops number bytes (Err s) h = ap Err (let is = h.0 in let number_is = h.1.0 in let left_is = h.1.1 in λ i. record { cause = is i; instruction = number_is i; left = left_is i })
 
 pub next_wants : (w : Walk) (part : FieldPart) → IsNextPart w part → sends part.operator (bit_for (part_needs_bit part) w.bits) ≡ true → WantsByte w part.number
 next_wants w part first s = λ level d o here.
     let none : Lack = record { number = part.number; most = 0; until_stop = true } in
     let lacks = part_opens level w d part none first s (omega arith) refl refl in
-    short_stops part.number (reads_on level w d o []) (lacks o [] (record { few = omega arith; unstopped = λ _. tt }) here)
+    short_stops part.number [] (reads_on level w d o []) (lacks o [] (record { few = omega arith; unstopped = λ _. tt }) here)
 
 -- ---- messages
-
-message_stops : (level : Level) (template number left : ℕ) (r : Reads Items) → StopsShort number left r → message_of level template r ≡ Err (record { template = template; stop = record { cause = Truncated; instruction = number; left = left } })
-message_stops level template number left (Ok x) h = absurd h
-message_stops level template number left (Err s) h =
-    content_fails level template s ∙ ap (λ (s : Stop). Err (record { template = template; stop = s })) (stop_same s.cause Truncated s.instruction number s.left left h.0 h.1.0 h.1.1)
 
 -- whatever is still read of the message stops there
 pub lacking_stops : {R : Type 0} (has : R → Received → Dictionary → Type 0) (stands keeps : R → List Resolved → List Content → Dictionary → Type 0) (t : Traversal) (r : R) (set : List Resolved) (d start : Dictionary) (before : List Content) (read : List ℕ → Reading) (bytes : List ℕ) (l : Lack)
     → Continues has stands keeps t r set d before start read → Lacks t d bytes l
     → read bytes ≡ Err (stop_of t.template (record { cause = Truncated; number = l.number; by = halted.Walk }) bytes)
 lacking_stops {R} has stands keeps t r set d start before read bytes l goes lacks =
-    opened.reads bytes ∙ message_stops t.level t.template l.number (length bytes) (reads_on t.level t.walk d opened.received bytes) stops
+    opened.reads bytes ∙ ap (message_of t.level t.template) (short_stops l.number bytes (reads_on t.level t.walk d opened.received bytes) stops) ∙ content_fails t.level t.template _
   where
     opened : IsOpen has keeps t r set d before start read
     opened = subst (λ (s : Stage). ContinuesAt has stands keeps s t r set d before start read) lacks.0 goes

@@ -1,5 +1,5 @@
 -- Reading a message piece by piece: a step in front of what is read behind it, and where nothing is read.
-use Rattle.std.proofs.Common.{◌≡◌, ◌≢◌, ◌≤◌, ◌++◌, ℕ, true, List, [], Result, Ok, Err, length, drop, refl, sym, ap, subst, ◌∙◌, inl, inr, arith}
+use Rattle.std.proofs.Common.{◌≡◌, ◌≢◌, ◌≤◌, ◌++◌, ℕ, true, List, [], Result, Ok, Err, length, drop, map, refl, sym, ap, subst, ◌∙◌, inl, inr, arith}
 use Rattle.fast_template.specs.Resolved.{list_of, no_instructions}
 use Rattle.fast_template.specs.TemplateSets.{templates_in}
 use Rattle.fast_wire.specs.Level.{IsLeftClear, some_set}
@@ -16,7 +16,7 @@ use Rattle.fast_walk.specs.Pieces.{Holds}
 use Rattle.fast_walk.specs.Received.{Carries, Completes}
 use Rattle.fast_walk.specs.Told.{KeepScalars}
 use Rattle.fast_walk.specs.Traversals.{ContinuesAt, IsOpen, identifier_on, stop_of}
-use Rattle.fast_walk.specs.Walks.{IsWhole, Moves, next_of, reads_on}
+use Rattle.fast_walk.specs.Walks.{IsWhole, Moves, bare, frame_of, next_of, reads_on}
 use Rattle.fast_walk.specs.declared.halt.Halt.{Halt}
 use Rattle.fast_walk.specs.declared.receiver.Receiver.{Ghosts as Receiving}
 use Rattle.fast_walk.specs.declared.traversal.Stage.{Stage}
@@ -24,9 +24,9 @@ use Rattle.fast_walk.specs.declared.traversal.Stage.TheVariants as stage
 use Rattle.fast_walk.specs.declared.traversal.Traversal.{Traversal as TraversalNow}
 use Rattle.fast_walk.specs.declared.walk.Walk.{Walk as WalkNow}
 use Rattle.fast_walk.proofs.Heads.{content_fails, content_goes, content_stops}
-use Rattle.fast_walk.proofs.ShortWalks.{behind_few, identifier_few_at, map_few_at, no_want, walk_few, want_of_bytes}
+use Rattle.fast_walk.proofs.ShortWalks.{behind_few, identifier_few_at, map_few_at, walk_few, want_of_bytes}
 use Rattle.fast_walk.proofs.Steps.{with_none}
-use Rattle.fast_walk.proofs.Walking.{all_read, around_none, is_instruction, same_named}
+use Rattle.fast_walk.proofs.Walking.{all_read, is_instruction, none_mapped}
 
 -- a message whose body has ended
 record IsReceived {R E : Type 0} (receiver : Receiving R) (entries : Ghosts E) (t : TraversalNow) (r : R) (d : E) (before : List Content) (start : Dictionary) (read : List ℕ → Reading) : Type 0 where
@@ -35,10 +35,6 @@ record IsReceived {R E : Type 0} (receiver : Receiving R) (entries : Ghosts E) (
   pub rest : still.received.body.rest ≡ no_instructions
   pub around : still.received.around ≡ []
   pub reads : (bytes : List ℕ) → read bytes ≡ message_of t.level t.template (Ok (items_of still.received.body.done, cursor (entries.contents d) t.walk.bits t.walk.spare bytes))
-
--- with another walk
-abbrev walked : (t : TraversalNow) → WalkNow → t.identifier ≡ identifier → TraversalNow
-walked t w is = record { alloc = t.alloc; set = t.set; level = t.level; identifier = t.identifier; stage = t.stage; template = t.template; walk = w; identifier_is = is }
 
 module _ {R E : Type 0} (receiver : Receiving R) (entries : Ghosts E) (t : TraversalNow) (r : R) (d : E) where
   open_now : t.stage ≡ stage.Body → (before : List Content) (start : Dictionary) (read : List ℕ → Reading) → LeftOf receiver entries t r d before start read
@@ -50,7 +46,7 @@ module _ {R E : Type 0} (receiver : Receiving R) (entries : Ghosts E) (t : Trave
   received at_body whole before start read was =
       let o = open_now at_body before start read was in
       let next = is_instruction o.received.next (o.at.next ∙ ap next_of whole.0) in
-      let around = around_none o.received.around t.walk.around.items o.at.around whole.1 in
+      let around = none_mapped bare o.received.around (o.at.around ∙ ap (map frame_of) whole.1) in
       let rest : o.received.body.rest ≡ no_instructions = o.at.rest ∙ ap list_of whole.2 in
       record {
         still = o;
@@ -162,7 +158,7 @@ module _ {R E : Type 0} {receiver : Receiving R} {entries : Ghosts E} {t : Trave
 
   -- it is read on
   pub walk_step : {m : ℕ} {w : WalkNow} {s : R} {e : E} (is : t.identifier ≡ identifier) → t.stage ≡ stage.Body → (at ≤ m) × (m ≤ length bytes) → Carries (receiver.keeps r) (receiver.keeps s)
-      → Moves t.level receiver.has t.walk r (entries.contents d) w s (entries.contents e) (drop at bytes) (drop m bytes) → IsStep receiver entries t r d bytes at m (walked t w is) s e
+      → Moves t.level receiver.has t.walk r (entries.contents d) w s (entries.contents e) (drop at bytes) (drop m bytes) → IsStep receiver entries t r d bytes at m (record t { walk = w; identifier_is = is }) s e
   walk_step {w = w} {e = e} is at_body place carries goes = record {
     place = place;
     took = λ map. let k : stage.Body ≡ stage.Map = sym at_body ∙ map in absurd cc;
@@ -179,7 +175,7 @@ module _ {R E : Type 0} {receiver : Receiving R} {entries : Ghosts E} {t : Trave
             set_is = p.2.set ∙ o.set_is;
             before_is = p.2.before ∙ o.before_is;
             template_is = p.2.template ∙ o.template_is;
-            named = same_named o.received p.0 p.2 o.named;
+            named = rw (p.2.set, p.2.template, p.2.members) o.named;
             reads = λ bytes. refl;
           }),
           λ more. o.reads (drop at bytes ++ more) ∙ ap (λ (r : Reads Items). message_of t.level t.template r) (p.3 more),
@@ -189,7 +185,7 @@ module _ {R E : Type 0} {receiver : Receiving R} {entries : Ghosts E} {t : Trave
   -- it is read on to a place, and stops there
   pub walk_halts : {w : WalkNow} {s : R} {e : E} {x : ℕ × Halt} (is : t.identifier ≡ identifier) → t.stage ≡ stage.Body → (at ≤ x.0) × (x.0 ≤ length bytes) → Carries (receiver.keeps r) (receiver.keeps s)
       → ((x.1).cause ≢ Memory → Holds t.level receiver.has receiver.room (entries.serves e) t.walk r (entries.contents d) w s (entries.contents e) (drop at bytes) (drop x.0 bytes) x.1)
-      → MessageStops receiver entries t r d bytes at x (walked t w is) s e
+      → MessageStops receiver entries t r d bytes at x (record t { walk = w; identifier_is = is }) s e
   walk_halts {w = w} {s = s} {e = e} {x = x} is at_body place carries holds =
       let rest = drop x.0 bytes in
       let goes = λ (other : (x.1).cause ≢ Memory). (walk_step {w = w} is at_body place carries (holds other).goes).leaves in
@@ -198,7 +194,7 @@ module _ {R E : Type 0} {receiver : Receiving R} {entries : Ghosts E} {t : Trave
         keeps = λ before start now was. let o = rw at_body at was in inl (carries (templates_in t.set.now) before start o.keeps);
         stops = λ other before start now was.
             let l = goes other before start now was in
-            let o = open_now receiver entries (walked t w is) s e at_body before start l.0 l.1 in
+            let o = open_now receiver entries (record t { walk = w; identifier_is = is }) s e at_body before start l.0 l.1 in
             with_none now l.0 (drop at bytes) rest l.2 ∙ o.reads rest
             ∙ ap (λ (r : Reads Items). message_of t.level t.template r) ((holds other).halts o.received o.at) ∙ content_fails t.level t.template _;
         waits = λ wanted.
@@ -242,5 +238,5 @@ module _ {R E : Type 0} {receiver : Receiving R} {entries : Ghosts E} {t : Trave
         let e : IsReceived receiver entries t r d before start now = received receiver entries t r d at_body whole before start now was in
         let f = refused other in
         rw (template, f.1, f.2) (e.reads (drop at bytes) ∙ content_stops t.level t.template (items_of e.still.received.body.done) (cursor (entries.contents d) t.walk.bits t.walk.spare (drop at bytes)) f.0 f.3);
-    waits = λ wanted. absurd (no_want h.cause wanted (refused (want_of_bytes h.cause wanted)).1);
+    waits = λ wanted. let is : h.cause ≡ R8 = (refused (want_of_bytes h.cause wanted)).1 in let both : Truncated ≡ R8 = sym wanted ∙ is in absurd cc;
   }

@@ -36,7 +36,7 @@ use Rattle.fast_walk.proofs.Steps.{count_goes, items_on, part_goes, part_stops}
 use Rattle.fast_field.proofs.ReadFields.{bytes_from}
 use Rattle.fast_wire.specs.Reader.{IsBytes}
 use Rattle.fast_walk.proofs.Telling.{asked_for, taken_keeps, told_part}
-use Rattle.fast_walk.proofs.Walking.{goes_kept, goes_on, is_instruction, left_last, piece_on, piece_stops_on, served_push}
+use Rattle.fast_walk.proofs.Walking.{goes_on, is_instruction, left_last, piece_on, piece_stops_on, served_push}
 
 -- ---- the instruction that is next
 
@@ -119,9 +119,9 @@ module _ {R : Type 0} {level : Level} {Has : Having R} {Room : R → List (List 
   stops_here can halts = record { halts = halts; walk = refl; entries = refl; has = λ o e had. had; room = can.room }
 
   -- a node too many
-  pub count_stops : {serves : Key → Bool} {i : Instruction} {is : Instructions} → CanWalk serves d (Room r) w → Begins w i is
+  pub count_stops : {serves : Key → Bool} {j i : Instruction} {is : Instructions} → CanWalk serves d (Room r) w → Begins w j is → j ≡ i
       → ((e : Dictionary) (bits : List Bool) (b : List ℕ) → node_at (number_in i) (cursor e bits w.spare b) ≡ stopped h.number b h.cause) → h.cause ≢ cause.Memory → Stops level Has Room w r d w r d bytes h
-  count_stops {serves} {i} can begins stops other = stops_here can (halts_at level d bytes h begins (not_counted level i _ _ (stops d w.bits bytes)))
+  count_stops {i = i} can first same stops other = stops_here can (halts_at level d bytes h (rw same at first) (not_counted level i _ _ (stops d w.bits bytes)))
 
   -- a part that has a fault
   pub fault_stops : {serves : Key → Bool} {s : R} {e : Dictionary} {f : FieldFault} {asked : Level} {needs bit : Bool} (p : FieldPart) → CanWalk serves d (Room r) w → asked ≡ level → needs ≡ part_needs_bit p → bit ≡ bit_for needs w.bits
@@ -141,13 +141,13 @@ module _ {R : Type 0} {level : Level} {Has : Having R} {Room : R → List (List 
       }
 
   -- the first part of an instruction
-  pub first_stops : {serves : Key → Bool} {s : R} {e : Dictionary} {f : FieldFault} {asked : Level} {needs bit : Bool} {i : Instruction} {is : Instructions} (p : FieldPart) → CanWalk serves d (Room r) w → Begins w i is → 0 < w.spare
+  pub first_stops : {serves : Key → Bool} {s : R} {e : Dictionary} {f : FieldFault} {asked : Level} {needs bit : Bool} {j i : Instruction} {is : Instructions} (p : FieldPart) → CanWalk serves d (Room r) w → Begins w j is → j ≡ i → 0 < w.spare
       → asked ≡ level → needs ≡ part_needs_bit p → bit ≡ bit_for needs w.bits → h.cause ≡ cause_of_field f → h.number ≡ p.number
       → (f ≢ fault.Memory → Faults asked p bit d e bytes f (CarriesOpen (Has r) (Has s))) → (f ≢ fault.Memory → CarriesRoom (Room r) (Room s))
       → ((c k : Cursor) (t : Stop) → node_at (number_in i) c ≡ Ok k → field_part_at level p k ≡ Err t → piece_at level i c ≡ Err t)
       → h.cause ≢ cause.Memory → Stops level Has Room w r d w s e bytes h
-  first_stops {i = i} p can begins some l n b caused numbered faults room first =
-      fault_stops p can l n b caused numbered faults room (λ stops. halts_at level d bytes h begins (first _ _ _ (count_goes (number_in i) w.spare d w.bits bytes some) (stops (w.spare - 1))))
+  first_stops {i = i} p can first same some l n b caused numbered faults room begins =
+      fault_stops p can l n b caused numbered faults room (λ stops. halts_at level d bytes h (rw same at first) (begins _ _ _ (count_goes (number_in i) w.spare d w.bits bytes some) (stops (w.spare - 1))))
 
 -- ---- where it goes on
 
@@ -204,7 +204,7 @@ pub holds_at : {R : Type 0} {level : Level} {Has : Having R} {Room : R → List 
 holds_at {level = level} {Has = Has} {w = w} {v = v} {r = r} {s = s} {t = t} {d = d} {e = e} {bytes = bytes} {at = at} {n = n} one stops = record {
   goes = rw (stops.walk, stops.entries)
       (goes_on (At Has w r d) (At Has v s e) (At Has v t e) (reads_on level w d) (reads_on level v e) (reads_on level v e) (drop at bytes) (drop n bytes) (drop n bytes) one.goes
-      (goes_kept (At Has v s e) (At Has v t e) (reads_on level v e) (drop n bytes) (λ o at. (at.0, stops.has o e at.1))));
+      (λ o at. (o, (at.0, stops.has o e at.1), record { set = refl; before = refl; template = refl; members = refl; start = refl }, λ more. refl)));
   halts = rw (stops.walk, stops.entries) stops.halts;
   on = record { ready = rw (stops.walk) one.on.ready; kept = rw (stops.entries) one.on.kept; room = stops.room };
 }

@@ -1,52 +1,43 @@
 -- Each part of a set's template is told as such, and its key is a key of the set.
-use Rattle.std.proofs.Common.{◌≡◌, ℕ, Bool, true, false, List, [], ◌∷◌, ◌++◌, map, Option, Some, refl, subst, arith}
+use Rattle.std.proofs.Common.{◌≡◌, ℕ, Bool, true, false, List, [], ◌∷◌, map, Option, Some, refl, subst, arith}
 use Rattle.std.specs.Prelude.{Contains, IsTrue, find, option_map, if◌then◌else◌}
 use Rattle.std.proofs.lemmas.List.Elements.{Contains-append_left, Contains-append_right}
 use Rattle.std.specs.List.{AllByRecursion}
 use Rattle.fast_value.specs.declared.key.Key.{Key}
+use Rattle.fast_value.specs.declared.kind.Kind.{Kind}
 use Rattle.fast_value.specs.declared.kind.Kind.TheVariants as kind
+use Rattle.fast_value.specs.declared.kind.Part.{Part}
+use Rattle.fast_value.specs.declared.kind.Presence.{Presence}
+use Rattle.fast_template.specs.declared.resolved.FieldPart.{FieldPart}
 use Rattle.fast_value.specs.declared.kind.Part.TheVariants as part
 use Rattle.fast_value.specs.declared.kind.Presence.TheVariants.{Mandatory}
 use Rattle.fast_template.specs.declared.resolved.FlatTemplate.{FlatTemplate}
 use Rattle.fast_template.specs.Resolved.{Instruction, Instructions, whole_field, field_in_parts, group_of, sequence_of, no_instructions, then_instruction, keys_of_one, keys_of, Resolved, resolved_of, list_of}
-use Rattle.fast_template.specs.TemplateSets.{TemplateList, IsSound, HasTypedParts, HaveTypedParts, templates_in, keys_of_all, identifier_key, has_id, template_of}
+use Rattle.fast_template.specs.TemplateSets.{TemplateList, IsPartOf, IsSound, HasTypedParts, HaveTypedParts, templates_in, keys_of_all, identifier_key, has_id, template_of}
 use Rattle.fast_stream.specs.Streams.{members_of}
-use Rattle.fast_walk.specs.Walks.{IsServed, AreServed}
+use Rattle.fast_walk.specs.Walks.{IsServed, IsServedWith, AreServed}
 use Rattle.fast_walk.specs.Traversals.{ServesAll}
 use Rattle.fast_walk.proofs.Telling.{part_told}
-
-first : (k : Key) (ks : List Key) → Contains (k ∷ ks) k
-first k ks = (0, omega arith, refl)
-
-later : (k l : Key) (ks : List Key) → Contains ks l → Contains (k ∷ ks) l
-later k l ks h = Contains-append_right (k ∷ []) ks l h
 
 abbrev Serves : (Key → Bool) → List Key → Type 0
 Serves serves ks = (k : Key) → Contains ks k → IsTrue (serves k)
 
-front : (serves : Key → Bool) (ks ls : List Key) → Serves serves (ks ++ ls) → Serves serves ks
-front serves ks ls h k there = h k (Contains-append_left ks ls k there)
-
-back : (serves : Key → Bool) (ks ls : List Key) → Serves serves (ks ++ ls) → Serves serves ls
-back serves ks ls h k there = h k (Contains-append_right ks ls k there)
+part_served : (serves : Key → Bool) (part : Part) (kind : Kind) (presence : Presence) (p : FieldPart) → IsPartOf part kind presence p → IsTrue (serves p.key) → IsServedWith serves part kind presence p
+part_served serves part kind presence p typed h = ((h, part_told part kind presence p typed), typed.presence_is)
 
 mutual
   served_one : (serves : Key → Bool) (i : Instruction) → HasTypedParts i → Serves serves (keys_of_one i) → IsServed serves i
-  served_one serves (whole_field name number presence whole) typed h = ((h whole.key (first whole.key []), part_told part.Whole whole.kind presence whole typed), typed.presence_is)
-  served_one serves (field_in_parts name number presence exponent mantissa) typed h = (
-    ((h exponent.key (first exponent.key (mantissa.key ∷ [])), part_told part.Exponent kind.Int32 presence exponent typed.0), typed.0.presence_is),
-    ((h mantissa.key (later exponent.key mantissa.key (mantissa.key ∷ []) (first mantissa.key [])), part_told part.Mantissa kind.Int64 Mandatory mantissa typed.1), typed.1.presence_is),
-  )
+  served_one serves (whole_field name number presence whole) typed h = part_served serves part.Whole whole.kind presence whole typed (h whole.key (0, omega arith, refl))
+  served_one serves (field_in_parts name number presence exponent mantissa) typed h =
+      (part_served serves part.Exponent kind.Int32 presence exponent typed.0 (h exponent.key (0, omega arith, refl)), part_served serves part.Mantissa kind.Int64 Mandatory mantissa typed.1 (h mantissa.key (1, omega arith, refl)))
   served_one serves (group_of name number presence members) typed h = served_list serves members typed h
-  served_one serves (sequence_of name number presence length members) typed h = (
-    ((h length.key (first length.key (keys_of members)), part_told part.Length kind.UInt32 presence length typed.0), typed.0.presence_is),
-    served_list serves members typed.1 (λ k there. h k (later length.key k (keys_of members) there)),
-  )
+  served_one serves (sequence_of name number presence length members) typed h =
+      (part_served serves part.Length kind.UInt32 presence length typed.0 (h length.key (0, omega arith, refl)), served_list serves members typed.1 (λ k there. h k (Contains-append_right (length.key ∷ []) (keys_of members) k there)))
 
   served_list : (serves : Key → Bool) (is : Instructions) → HaveTypedParts is → Serves serves (keys_of is) → AreServed serves is
   served_list serves no_instructions typed h = tt
   served_list serves (then_instruction i is) typed h =
-      (served_one serves i typed.0 (front serves (keys_of_one i) (keys_of is) h), served_list serves is typed.1 (back serves (keys_of_one i) (keys_of is) h))
+      (served_one serves i typed.0 (λ k there. h k (Contains-append_left (keys_of_one i) (keys_of is) k there)), served_list serves is typed.1 (λ k there. h k (Contains-append_right (keys_of_one i) (keys_of is) k there)))
 
 chosen : (serves : Key → Bool) (t : Resolved) (ts : List Resolved) (id : ℕ) (members : Instructions) (b : Bool) → AreServed serves t.members → (members_of ts id ≡ Some members → AreServed serves members)
     → option_map (λ (r : Resolved). r.members) (if b then Some t else find (λ r. has_id id r.id) ts) ≡ Some members → AreServed serves members
@@ -56,19 +47,16 @@ chosen serves t ts id members false own others h = others h
 members_in : (serves : Key → Bool) (ts : List Resolved) (id : ℕ) (members : Instructions) → AllByRecursion (λ t. HaveTypedParts t.members) ts → Serves serves (keys_of_all ts) → members_of ts id ≡ Some members → AreServed serves members
 members_in serves [] id members typed h e = absurd cc
 members_in serves (t ∷ ts) id members typed h e =
-    chosen serves t ts id members (has_id id t.id) (served_list serves t.members typed.0 (front serves (keys_of t.members) (keys_of_all ts) h))
-    (members_in serves ts id members typed.1 (back serves (keys_of t.members) (keys_of_all ts) h)) e
+    chosen serves t ts id members (has_id id t.id) (served_list serves t.members typed.0 (λ k there. h k (Contains-append_left (keys_of t.members) (keys_of_all ts) k there)))
+    (members_in serves ts id members typed.1 (λ k there. h k (Contains-append_right (keys_of t.members) (keys_of_all ts) k there))) e
 
 pub members_served : (serves : Key → Bool) (set : TemplateList) (id : ℕ) (members : Instructions) → IsSound set → ServesAll serves set → members_of (templates_in set) id ≡ Some members → AreServed serves members
-members_served serves set id members sound h e = members_in serves (templates_in set) id members sound.typed (λ k there. h k (later identifier_key k (keys_of_all (templates_in set)) there)) e
+members_served serves set id members sound h e = members_in serves (templates_in set) id members sound.typed (λ k there. h k (Contains-append_right (identifier_key ∷ []) (keys_of_all (templates_in set)) k there)) e
 
 -- ---- the template of an identifier
 
-abbrev members_by : Bool → FlatTemplate → Option FlatTemplate → Option Instructions
-members_by b t o = option_map (λ (f : FlatTemplate). list_of f.members.items) (if b then Some t else o)
-
 both : (b : Bool) (t : FlatTemplate) (o : Option FlatTemplate) (r : Option Resolved) → option_map (λ (x : Resolved). x.members) r ≡ option_map (λ (f : FlatTemplate). list_of f.members.items) o
-    → option_map (λ (x : Resolved). x.members) (if b then Some (resolved_of t) else r) ≡ members_by b t o
+    → option_map (λ (x : Resolved). x.members) (if b then Some (resolved_of t) else r) ≡ option_map (λ (f : FlatTemplate). list_of f.members.items) (if b then Some t else o)
 both true t o r h = refl
 both false t o r h = h
 

@@ -1,5 +1,5 @@
 -- A walk that waits for more bytes has few of them before it.
-use Rattle.std.proofs.Common.{◌≡◌, ◌≤◌, ◌+◌, ℕ, Bool, List, [], ◌∷◌, length, length-drop, drop, map, Err, refl, sym, ap, ◌∙◌, arith}
+use Rattle.std.proofs.Common.{◌≡◌, ◌≤◌, ◌+◌, ℕ, Bool, List, [], ◌∷◌, length, length-drop, drop, map, Err, refl, sym, ◌∙◌, arith}
 use Rattle.std.specs.FinMap as finite
 use Rattle.fast_template.specs.Resolved.{no_instructions, Resolved, list_of}
 use Rattle.fast_dictionary.specs.Dictionary.{Dictionary}
@@ -8,15 +8,15 @@ use Rattle.fast_wire.specs.Level.{some_set}
 use Rattle.fast_wire.specs.declared.level.Level.{Level}
 use Rattle.fast_wire.specs.declared.level.Level.TheVariants.{Usual, Strict}
 use Rattle.fast_stream.specs.declared.fault.Cause.{Cause}
-use Rattle.fast_stream.specs.declared.fault.Cause.TheVariants.{R8, Truncated, Memory}
+use Rattle.fast_stream.specs.declared.fault.Cause.TheVariants.{Truncated, Memory}
 use Rattle.fast_walk.specs.declared.halt.Halt.{Halt}
 use Rattle.fast_stream.specs.Nodes.{Items, node_limit}
 use Rattle.fast_stream.specs.Streams.{identifier}
 use Rattle.fast_stream.specs.Reading.{Cursor, Reads, field_part_at, decimal_of, segment_at, closing, end_at, each_at, body_at, named_at, in_template, message_at}
 use Rattle.fast_walk.specs.OpenSegments.{Body, Inside, in_group, in_sequence, Waiting, ended_on, Next, at_instruction, at_mantissa, at_element, Sequel, body_on, elements_on, top_on, behind_inside, all_around, cursor}
-use Rattle.fast_walk.specs.Received.{Received}
+use Rattle.fast_walk.specs.Received.{Received, moved, opened}
 use Rattle.fast_walk.specs.Traversals.{identifier_on, stop_of}
-use Rattle.fast_walk.specs.Walks.{IsAt, HaltsAs, bare, bare_next, bare_inside, next_of, inside_of, number_of, frame_of}
+use Rattle.fast_walk.specs.Walks.{IsAt, HaltsAs, bare, bare_next, bare_inside, next_of, inside_of, frame_of}
 use Rattle.fast_walk.specs.declared.walk.Next.{Next as NextNow}
 use Rattle.fast_walk.specs.declared.walk.Next.TheVariants as next
 use Rattle.fast_walk.specs.declared.walk.Inside.{Inside as InsideNow}
@@ -35,24 +35,12 @@ inside_is_bare : (i : InsideNow) → bare_inside (inside_of i) ≡ inside_of i
 inside_is_bare (inside.Group number) = refl
 inside_is_bare (inside.Element q) = refl
 
-frame_is_bare : (f : FrameNow) → bare (frame_of f) ≡ frame_of f
-frame_is_bare f = ap (λ (i : Inside). record { bits = f.bits; number = number_of f.inside; body = record { rest = list_of f.rest.now; done = [] }; inside = i }) (inside_is_bare f.inside)
-
 frames_are_bare : (fs : List FrameNow) → map bare (map frame_of fs) ≡ map frame_of fs
 frames_are_bare [] = refl
-frames_are_bare (f ∷ fs) = ap (λ (w : Waiting). w ∷ map bare (map frame_of fs)) (frame_is_bare f) ∙ ap (λ (ws : List Waiting). frame_of f ∷ ws) (frames_are_bare fs)
+frames_are_bare (f ∷ fs) = rw (inside_is_bare f.inside, frames_are_bare fs) refl
 
 abbrev something : WalkNow → Received
-something w = record {
-  set = [];
-  before = [];
-  template = 0;
-  members = no_instructions;
-  start = finite.empty;
-  next = next_of w.next;
-  body = record { rest = list_of w.rest.now; done = [] };
-  around = map frame_of w.around.items;
-}
+something w = moved (opened [] [] 0 no_instructions finite.empty) (next_of w.next) (record { rest = list_of w.rest.now; done = [] }) (map frame_of w.around.items)
 
 is_at_something : (w : WalkNow) → IsAt w (something w)
 is_at_something w = record { next = next_is_bare w.next; rest = refl; around = frames_are_bare w.around.items }
@@ -61,9 +49,6 @@ is_at_something w = record { next = next_is_bare w.next; rest = refl; around = f
 
 pub behind_few : (bytes : List ℕ) (at : ℕ) → length (drop at bytes) ≤ 65554 → length bytes ≤ at + 65554
 behind_few bytes at few = let size = length-drop at bytes in omega (arith, size, few)
-
-pub no_want : (cause : Cause) → cause ≡ Truncated → cause ≡ R8 → ⊥
-no_want cause t r = let k : Truncated ≡ R8 = sym t ∙ r in absurd cc
 
 pub want_of_bytes : (cause : Cause) → cause ≡ Truncated → cause ≡ Memory → ⊥
 want_of_bytes cause t m = let k : Truncated ≡ Memory = sym t ∙ m in absurd cc

@@ -1,9 +1,10 @@
 -- How reading goes on from one piece to the next.
 use Rattle.std.proofs.Common.{◌≡◌, ℕ, zero, suc, ◌-◌, ◌<◌, Bool, true, List, [], ◌∷◌, ◌++◌, Option, Some, Result, Ok, Err, refl, sym, ap, ◌∙◌, arith, append-nil}
+use Rattle.std.specs.Prelude.{IsErrAnd}
 use Rattle.fast_value.specs.declared.scalar.Scalar.{Scalar}
 use Rattle.fast_value.specs.declared.scalar.Scalar.TheVariants.{U32}
 use Rattle.fast_template.specs.declared.resolved.FieldPart.{FieldPart}
-use Rattle.fast_template.specs.Resolved.{Instruction, Instructions, no_instructions, then_instruction, has_map}
+use Rattle.fast_template.specs.Resolved.{Instructions, no_instructions, has_map}
 use Rattle.fast_dictionary.specs.Dictionary.{Dictionary}
 use Rattle.fast_wire.specs.Reading.{◌>>=◌, entity_at}
 use Rattle.fast_wire.specs.declared.fault.WireFault.{WireFault}
@@ -15,7 +16,7 @@ use Rattle.fast_stream.specs.Nodes.{Item, group_items, sequence_elements, Items,
 use Rattle.fast_stream.specs.Bits.{bit_for}
 use Rattle.fast_stream.specs.declared.fault.Cause.TheVariants.{R7, R8}
 use Rattle.fast_stream.specs.Faults.{Stop, cause_of_wire}
-use Rattle.fast_stream.specs.Reading.{Cursor, Reads, node_at, field_part_at, own_map_at, closing, segment_at, each_at, elements_at, group_at, piece_at, body_at}
+use Rattle.fast_stream.specs.Reading.{Cursor, Reads, node_at, field_part_at, own_map_at, closing, segment_at, each_at, elements_at, group_at, body_at}
 use Rattle.fast_walk.specs.OpenSegments.{items_before, elements_before, Body, Sequel, ended_on, in_group, in_sequence, Waiting, with_item, under_bits, body_on, elements_on, behind_inside, around_on, all_around}
 use Rattle.fast_template.specs.Resolved.{part_needs_bit}
 use Rattle.fast_dictionary.specs.Dictionary.{entry_at}
@@ -26,6 +27,11 @@ use Rattle.fast_stream.specs.Bodies.{written}
 use Rattle.fast_stream.specs.Faults.{cause_of_field}
 use Rattle.fast_stream.specs.Reading.{stopped}
 use Rattle.fast_walk.specs.OpenSegments.{cursor}
+
+-- what the exit of a `?` hands on
+pub exit_is : {T E : Type 0} {e : E} (r : Result T E) → IsErrAnd r (λ x. x ≡ e) → r ≡ Err e
+exit_is (Ok x) h = absurd h
+exit_is (Err x) h = ap Err h
 
 -- ---- lists of items
 
@@ -128,14 +134,10 @@ module _ (level : Level) where
   after_both done n (Err s) = refl
   after_both done n (Ok x) = ap (λ (y : Items). Ok (y, x.1)) (sym (items_before-more done n x.0))
 
-  after_piece : (is : Instructions) (done : List Item) (r : Reads Item) → after_items done (r >>= λ n. after_item n.0 (body_at level is n.1)) ≡ items_on is done r
+  -- its item, and the body behind it
+  pub after_piece : (is : Instructions) (done : List Item) (r : Reads Item) → after_items done (r >>= λ n. after_item n.0 (body_at level is n.1)) ≡ items_on is done r
   after_piece is done (Err s) = refl
   after_piece is done (Ok n) = after_both done n.0 (body_at level is n.1)
-
-  -- its item, and the body behind it
-  pub then_on : (i : Instruction) (is : Instructions) (done : List Item) (c : Cursor)
-      → body_on level (record { rest = then_instruction i is; done = done }) c ≡ items_on is done (piece_at level i c)
-  then_on i is done c = after_piece is done (piece_at level i c)
 
   -- ---- the end of a segment
 
@@ -158,18 +160,12 @@ module _ (level : Level) where
   group_around is done bits (Err s) = refl
   group_around is done bits (Ok x) = refl
 
-  abbrev from_group : Instructions → List Item → List Bool → ℕ → Reads Items → Reads Items
-  from_group is done bits number r = ended_on level number r >>= λ ns. behind_inside level in_group (record { rest = is; done = done }) ns.0 (under_bits bits ns.1)
-
   -- a group that is there: its map, and its members
   pub group_on : (number : ℕ) (members is : Instructions) (done : List Item) (c d : Cursor) → own_map_at level number (has_map members) c ≡ Ok d
       → items_on is done (group_at true (segment_at level number (has_map members) (closing level number (λ j. body_at level members j))) c)
       ≡ around_on level (record { bits = c.bits; number = number; body = record { rest = is; done = done }; inside = in_group }) (body_on level (record { rest = members; done = [] }) d)
   group_on number members is done c d h =
-      rw h
-      (ap (λ (r : Reads Items). items_on is done (as_group (back_under c.bits r))) (closed_on level number (λ j. body_at level members j) d)
-      ∙ group_around is done c.bits (ended_on level number (body_at level members d))
-      ∙ ap (from_group is done c.bits number) (sym (from_none (body_at level members d))))
+      rw (h, closed_on level number (λ j. body_at level members j) d, from_none (body_at level members d)) (group_around is done c.bits (ended_on level number (body_at level members d)))
 
   abbrev as_sequence : Reads Elements → Reads Item
   as_sequence r = r >>= λ es. Ok (sequence_elements es.0, es.1)
@@ -200,12 +196,6 @@ module _ (level : Level) where
   element_around s b bits (Err f) = refl
   element_around s b bits (Ok x) = element_then s.done x.0 b (each_at s.number (segment_at level s.number s.own_map (closing level s.number (λ j. body_at level s.members j))) s.left (under_bits bits x.1))
 
-  abbrev before_others : Sequel → Body → Reads Items → Reads Items
-  before_others s b r = elements_then s.done b (r >>= λ x. after_element x.0 (each_at s.number (segment_at level s.number s.own_map (closing level s.number (λ j. body_at level s.members j))) s.left x.1))
-
-  abbrev from_element : Sequel → Body → List Bool → Reads Items → Reads Items
-  from_element s b bits r = ended_on level s.number r >>= λ ns. behind_inside level (in_sequence s) b ns.0 (under_bits bits ns.1)
-
   -- one element more: it is counted, has a map of its own, and then its members
   pub element_on : (number : ℕ) (own_map : Bool) (members : Instructions) (left : ℕ) (done : List Items) (b : Body) (c d e : Cursor)
       → node_at number c ≡ Ok d → own_map_at level number own_map d ≡ Ok e
@@ -214,10 +204,7 @@ module _ (level : Level) where
       (body_on level (record { rest = members; done = [] }) e)
   element_on number own_map members left done b c d e h k =
       let s : Sequel = record { number = number; own_map = own_map; members = members; left = left; done = done } in
-      rw (h, k)
-      (ap (λ (r : Reads Items). before_others s b (back_under d.bits r)) (closed_on level number (λ j. body_at level members j) e)
-      ∙ element_around s b d.bits (ended_on level number (body_at level members e))
-      ∙ ap (from_element s b d.bits) (sym (from_none (body_at level members e))))
+      rw (h, k, closed_on level number (λ j. body_at level members j) e, from_none (body_at level members e)) (element_around s b d.bits (ended_on level number (body_at level members e)))
 
   -- the end of a segment
   pub end_goes : (ws us : List Waiting) (w : Waiting) (b : Body) (c : Cursor) → IsLeftClear level c.bits → ws ≡ us ++ w ∷ [] → b.rest ≡ no_instructions

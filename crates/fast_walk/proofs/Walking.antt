@@ -1,13 +1,12 @@
 -- How reading goes on, whatever was received.
-use Rattle.std.proofs.Common.{◌≡◌, ◌<◌, ◌-◌, ℕ, zero, suc, ℤ, Bool, true, List, [], ◌∷◌, ◌++◌, length, map, slice_index_or, slice_set, Option, Some, None, Result, Ok, Err, refl, sym, ap, ◌∙◌, arith}
+use Rattle.std.proofs.Common.{◌≡◌, ◌<◌, ◌-◌, ℕ, zero, suc, ℤ, Bool, true, List, [], ◌∷◌, ◌++◌, length, map, slice_index_or, slice_set, Option, Some, None, Ok, Err, refl, sym, ap, ◌∙◌, arith}
 use Rattle.std.proofs.lemmas.List.{map_push}
-use Rattle.std.specs.Prelude.{option_to_list}
 use Rattle.fast_value.specs.declared.key.Key.{Key}
 use Rattle.fast_value.specs.declared.scalar.Scalar.{Scalar}
 use Rattle.fast_value.specs.declared.scalar.Scalar.TheVariants.{I32, I64, Decimal}
 use Rattle.fast_value.specs.declared.kind.Presence.{Presence}
 use Rattle.fast_template.specs.declared.resolved.FieldPart.{FieldPart}
-use Rattle.fast_template.specs.Resolved.{Instruction, Instructions, whole_field, field_in_parts, group_of, no_instructions, then_instruction, is_optional, has_map, list_of, Resolved}
+use Rattle.fast_template.specs.Resolved.{Instruction, Instructions, whole_field, field_in_parts, group_of, no_instructions, then_instruction, is_optional, has_map, list_of}
 use Rattle.fast_wire.specs.Level.{IsLeftClear, some_set}
 use Rattle.fast_wire.specs.declared.level.Level.{Level}
 use Rattle.fast_wire.specs.declared.level.Level.TheVariants.{Strict}
@@ -16,20 +15,18 @@ use Rattle.fast_dictionary.specs.Dictionary.{Dictionary}
 use Rattle.fast_stream.specs.Nodes.{single, Items, items_of, sequence_elements, elements_of}
 use Rattle.fast_stream.specs.Bits.{bit_for, after_bit}
 use Rattle.fast_stream.specs.Faults.{Stop}
-use Rattle.fast_stream.specs.Streams.{members_of}
 use Rattle.fast_stream.specs.Reading.{Cursor, Reads, node_at, field_part_at, own_map_at, behind_bit, piece_at, stopped}
 use Rattle.fast_walk.specs.OpenSegments.{Body, Sequel, Waiting, Inside, in_group, in_sequence, Next, at_instruction, at_mantissa, at_element, with_item, with_element, cursor, fewer, under_bits, body_on, mantissa_on, top_on, behind_inside, all_around}
 use Rattle.fast_walk.specs.Received.{Having, Received, Same, Goes, after_sequence, in_element, behind_last, closed_in, ended_in}
 use Rattle.fast_walk.specs.Room.{left_around}
 use Rattle.fast_walk.specs.Walks.{At, IsAt, IsOpened, bare_inside, bare, bare_next, bare_sequel, frame_of, inside_of, next_of, reads_on, sequel_of, AreAllServed, IsLast, IsWaitingServed}
 use Rattle.fast_walk.specs.declared.walk.Frame.{Frame as FrameNow}
-use Rattle.fast_walk.specs.declared.walk.Inside.TheVariants as inside
 use Rattle.fast_walk.specs.declared.walk.Next.TheVariants as next
 use Rattle.fast_walk.specs.declared.walk.Sequel.{Sequel as SequelNow}
 use Rattle.fast_walk.specs.declared.walk.Walk.{Walk as WalkNow}
 use Rattle.std.proofs.Math.Seq.{get_or-append_seam, set-append_seam}
 use Rattle.std.proofs.Common.{length-append}
-use Rattle.fast_walk.proofs.Steps.{all_around-more, all_around-stops, count_goes, end_goes, end_stops, items_on, no_more_goes, set_stops, some_left, then_on, whole_goes}
+use Rattle.fast_walk.proofs.Steps.{after_piece, all_around-more, all_around-stops, count_goes, end_goes, end_stops, items_on, no_more_goes, set_stops, some_left, whole_goes}
 use Rattle.fast_walk.proofs.Steps.{element_on as element_around_on, group_on as group_around_on}
 
 -- ---- what is next
@@ -48,14 +45,9 @@ is_mantissa (at_mantissa e q) z p h = let same : q ≡ p = cc in record { expone
 is_mantissa n z p h = absurd cc
 
 -- the sequence whose element is next, with those that are read
-pub record IsSequel (n : Next) (t : Sequel) : Type 0 where
-  pub sequel : Sequel
-  pub is : n ≡ at_element sequel
-  pub same : bare_sequel sequel ≡ t
-
-pub is_sequel : (n : Next) (t : Sequel) → bare_next n ≡ at_element t → IsSequel n t
-is_sequel (at_element s) t h = record { sequel = s; is = refl; same = cc }
-is_sequel n t h = absurd cc
+pub is_element : (n : Next) (t : Sequel) → bare_next n ≡ at_element t → (s : Sequel) × (n ≡ at_element s) × (bare_sequel s ≡ t)
+is_element (at_element s) t h = (s, refl, cc)
+is_element n t h = absurd cc
 
 -- the sequence whose element is next in a body, and those around it
 pub record IsAtElement (q : Received) (t : Sequel) (is : Instructions) (fs : List Waiting) : Type 0 where
@@ -67,36 +59,19 @@ pub record IsAtElement (q : Received) (t : Sequel) (is : Instructions) (fs : Lis
 
 abbrev pub at_element_of : (o : Received) {w : WalkNow} {s : SequelNow} → IsAt w o → w.next ≡ next.Element s → IsAtElement o (sequel_of s) (list_of w.rest.now) (map frame_of w.around.items)
 at_element_of o {s = s} at is =
-    let q = is_sequel o.next (sequel_of s) (at.next ∙ ap next_of is) in
-    record { sequel = q.sequel; next = q.is; same = q.same; rest = at.rest; around = at.around }
+    let q = is_element o.next (sequel_of s) (at.next ∙ ap next_of is) in
+    record { sequel = q.0; next = q.1; same = q.2; rest = at.rest; around = at.around }
 
-pub record IsElementOf (i : Inside) (t : Sequel) : Type 0 where
-  pub sequel : Sequel
-  pub is : i ≡ in_sequence sequel
-  pub same : bare_sequel sequel ≡ t
-
-pub is_element_of : (i : Inside) (t : Sequel) → bare_inside i ≡ in_sequence t → IsElementOf i t
+pub is_element_of : (i : Inside) (t : Sequel) → bare_inside i ≡ in_sequence t → (s : Sequel) × (i ≡ in_sequence s) × (bare_sequel s ≡ t)
 is_element_of in_group t h = absurd cc
-is_element_of (in_sequence s) t h = record { sequel = s; is = refl; same = cc }
+is_element_of (in_sequence s) t h = (s, refl, cc)
 
 -- ---- an element
-
-pub left_is : (s t : Sequel) → bare_sequel s ≡ t → t.left ≡ s.left
-left_is s t same = sym (ap (λ (x : Sequel). x.left) same)
-
-node_is : (s t : Sequel) (c : Cursor) (r : Result Cursor Stop) → bare_sequel s ≡ t → node_at t.number c ≡ r → node_at s.number c ≡ r
-node_is s t c r same h = ap (λ (x : Sequel). node_at x.number c) same ∙ h
-
-pub some_is : (s t : Sequel) → bare_sequel s ≡ t → 0 < t.left → 0 < s.left
-some_is s t same some = let left = left_is s t same in omega (arith, left, some)
 
 around_element : (q : Received) {t : Sequel} {is : Instructions} {fs : List Waiting} (bits : List Bool) (a : IsAtElement q t is fs)
     → map bare (in_element q bits a.sequel).around ≡ fs ++ record { bits = bits; number = t.number; body = record { rest = is; done = [] }; inside = in_sequence (fewer t) } ∷ []
 around_element q {is = is} {fs = fs} bits a =
-    map_push bare q.around (record { bits = bits; number = a.sequel.number; body = q.body; inside = in_sequence (fewer a.sequel) })
-    ∙ ap (λ (ws : List Waiting). ws ++ record { bits = bits; number = a.sequel.number; body = record { rest = q.body.rest; done = [] }; inside = in_sequence (fewer (bare_sequel a.sequel)) } ∷ []) a.around
-    ∙ ap (λ (x : Instructions). fs ++ record { bits = bits; number = a.sequel.number; body = record { rest = x; done = [] }; inside = in_sequence (fewer (bare_sequel a.sequel)) } ∷ []) a.rest
-    ∙ ap (λ (x : Sequel). fs ++ record { bits = bits; number = x.number; body = record { rest = is; done = [] }; inside = in_sequence (fewer x) } ∷ []) a.same
+    map_push bare q.around (record { bits = bits; number = a.sequel.number; body = q.body; inside = in_sequence (fewer a.sequel) }) ∙ rw (a.around, a.rest, ← a.same) refl
 
 -- ---- the end of a segment
 
@@ -118,38 +93,20 @@ last_of (u ∷ us) (g ∷ fs) f h =
     let l = last_of us fs f cc in
     record { before = u ∷ l.before; last = l.last; is = ap (λ (vs : List Waiting). u ∷ vs) l.is; rests = rw (one, l.rests) refl; same = l.same }
 
-pub rest_of_last : (us fs : List Waiting) (f : Waiting) (l : Last us fs f) → l.last.body.rest ≡ f.body.rest
-rest_of_last us fs f l = ap (λ (w : Waiting). w.body.rest) l.same
+-- where its sequence has ended with it
+last_same : (k : ℕ) (o : Received) (s : Sequel) → ((behind_last k o s).around ≡ o.around) × ((behind_last k o s).body.rest ≡ o.body.rest) × Same o (behind_last k o s)
+last_same zero o s = (refl, refl, record { set = refl; before = refl; template = refl; members = refl; start = refl })
+last_same (suc n) o s = (refl, refl, record { set = refl; before = refl; template = refl; members = refl; start = refl })
 
-pub inside_of_last : (us fs : List Waiting) (f : Waiting) (l : Last us fs f) → bare_inside l.last.inside ≡ f.inside
-inside_of_last us fs f l = ap (λ (w : Waiting). w.inside) l.same
-
-ended_around : (o : Received) (ws : List Waiting) (b : Body) (i : Inside) → (ended_in o ws b i).around ≡ ws
-ended_around o ws b in_group = refl
-ended_around o ws b (in_sequence s) = refl
-
--- and where its sequence has ended with it
-pub record IsClosed (o : Received) (ws : List Waiting) (b : Body) (p : Received) : Type 0 where
-  pub around : p.around ≡ ws
-  pub rest : p.body.rest ≡ b.rest
-  pub same : Same o p
-
-last_same : (k : ℕ) (o : Received) (s : Sequel) → IsClosed o o.around o.body (behind_last k o s)
-last_same zero o s = record { around = refl; rest = refl; same = record { set = refl; before = refl; template = refl; members = refl; start = refl } }
-last_same (suc n) o s = record { around = refl; rest = refl; same = record { set = refl; before = refl; template = refl; members = refl; start = refl } }
-
-pub closed_same : (o : Received) (ws : List Waiting) (b : Body) (i : Inside) → IsClosed o ws b (closed_in o ws b i)
-closed_same o ws b in_group = record { around = refl; rest = refl; same = record { set = refl; before = refl; template = refl; members = refl; start = refl } }
+pub closed_same : (o : Received) (ws : List Waiting) (b : Body) (i : Inside) → ((closed_in o ws b i).around ≡ ws) × ((closed_in o ws b i).body.rest ≡ b.rest) × Same o (closed_in o ws b i)
+closed_same o ws b in_group = (refl, refl, record { set = refl; before = refl; template = refl; members = refl; start = refl })
 closed_same o ws b (in_sequence s) =
     let p = last_same s.left (ended_in o ws b (in_sequence s)) (with_element s (items_of o.body.done)) in
-    record { around = p.around; rest = p.rest; same = record { set = p.same.set; before = p.same.before; template = p.same.template; members = p.same.members; start = p.same.start } }
+    (p.0, p.1, record { set = p.2.set; before = p.2.before; template = p.2.template; members = p.2.members; start = p.2.start })
 
 -- what it is where none is left
 pub closed_none : (o : Received) (ws : List Waiting) (b : Body) (i : Inside) (s : Sequel) → i ≡ in_sequence s → s.left ≡ 0 → closed_in o ws b i ≡ after_sequence (ended_in o ws b (in_sequence s)) (with_element s (items_of o.body.done))
 closed_none o ws b i s h none = ap (closed_in o ws b) h ∙ ap (λ (n : ℕ). behind_last n (ended_in o ws b (in_sequence s)) (with_element s (items_of o.body.done))) none
-
-pub popped : (old new : List FrameNow) (r : Option FrameNow) (f : FrameNow) → old ≡ new ++ option_to_list r → r ≡ Some f → map frame_of old ≡ map frame_of new ++ frame_of f ∷ []
-popped old new r f h k = ap (map frame_of) (h ∙ ap (λ (o : Option FrameNow). new ++ option_to_list o) k) ∙ map_push frame_of new f
 
 -- ---- the last frame in another's place
 
@@ -177,49 +134,22 @@ goes_on Has Had Later read reads later a b c g h o has =
     let q = h p.0 p.1 in
     (q.0, q.1, record { set = q.2.set ∙ p.2.set; before = q.2.before ∙ p.2.before; template = q.2.template ∙ p.2.template; members = q.2.members ∙ p.2.members; start = q.2.start ∙ p.2.start }, λ more. p.3 more ∙ q.3 more)
 
--- where nothing is read, and what was received is kept
-pub goes_kept : (Has Had : Received → Type 0) (read : Received → List ℕ → Reads Items) (a : List ℕ) → ((o : Received) → Has o → Had o) → Goes Has read Had read a a
-goes_kept Has Had read a kept o has = (o, kept o has, record { set = refl; before = refl; template = refl; members = refl; start = refl }, λ more. refl)
-
--- the template that the message names
-pub same_named : (o p : Received) → Same o p → members_of o.set o.template ≡ Some o.members → members_of p.set p.template ≡ Some p.members
-same_named o p same named =
-    ap (λ (t : ℕ). members_of p.set t) same.template ∙ ap (λ (s : List Resolved). members_of s o.template) same.set ∙ named ∙ ap {B = Option Instructions} Some (sym same.members)
-
-no_frames : (us : List Waiting) → map bare us ≡ [] → us ≡ []
-no_frames [] h = refl
-no_frames (u ∷ us) h = absurd cc
-
-pub around_none : (us : List Waiting) (fs : List FrameNow) → map bare us ≡ map frame_of fs → fs ≡ [] → us ≡ []
-around_none us fs h none = no_frames us (h ∙ ap (map frame_of) none)
+pub none_mapped : {A B : Type 0} (f : A → B) (xs : List A) → map f xs ≡ [] → xs ≡ []
+none_mapped f [] h = refl
+none_mapped f (x ∷ xs) h = absurd cc
 
 -- ---- at a level
 
 -- the last of those that wait, where any does
-pub record HasLast (us : List Waiting) : Type 0 where
-  pub before : List Waiting
-  pub last : Waiting
-  pub is : us ≡ before ++ last ∷ []
-
-pub has_last : (us : List Waiting) → (us ≡ [] → ⊥) → HasLast us
+has_last : (us : List Waiting) → (us ≡ [] → ⊥) → (before : List Waiting) × (last : Waiting) × (us ≡ before ++ last ∷ [])
 has_last [] some = absurd (some refl)
-has_last (u ∷ []) some = record { before = []; last = u; is = refl }
+has_last (u ∷ []) some = ([], u, refl)
 has_last (u ∷ v ∷ us) some =
     let l = has_last (v ∷ us) (λ e. absurd cc) in
-    record { before = u ∷ l.before; last = l.last; is = ap (λ (ws : List Waiting). u ∷ ws) l.is }
+    (u ∷ l.0, l.1, ap (λ (ws : List Waiting). u ∷ ws) l.2)
 
 pub last_frames : {w : WalkNow} {s : SequelNow} (l : IsLast w s) → map frame_of w.around.items ≡ map frame_of l.fore ++ frame_of l.frame ∷ []
 last_frames l = ap (map frame_of) l.frames ∙ map_push frame_of l.fore l.frame
-
-pub last_is : {w : WalkNow} {s : SequelNow} (l : IsLast w s) (n : ℕ) (f : FrameNow) → length w.around.items ≡ n → f ≡ slice_index_or w.around.items (n - 1) f → f.inside ≡ inside.Element s
-last_is {w} l n f long is = ap (λ (x : FrameNow). x.inside) (is ∙ (at_last w.around.items l.fore n l.frame f long l.frames).0) ∙ l.inside
-
-pub last_inside : {w : WalkNow} {s : SequelNow} (l : IsLast w s) → inside_of l.frame.inside ≡ in_sequence (sequel_of s)
-last_inside l = ap inside_of l.inside
-
-pub no_frame : (fs : List FrameNow) → map frame_of fs ≡ [] → fs ≡ []
-no_frame [] h = refl
-no_frame (f ∷ fs) h = absurd cc
 
 -- the frame of the element that is open, where another one of its sequence is to come
 pub record HasNext (us fs : List Waiting) (t : Sequel) : Type 0 where
@@ -235,12 +165,12 @@ abbrev pub has_next : (us : List Waiting) {w : WalkNow} {s : SequelNow} → map 
 has_next us {w} {s} h last =
     let fore = map frame_of last.fore in
     let l = last_of us fore (frame_of last.frame) (h ∙ last_frames last) in
-    let e = is_element_of l.last.inside (sequel_of s) (inside_of_last us fore (frame_of last.frame) l ∙ last_inside last) in
-    record { fore = fore; frame = frame_of last.frame; frames = last_frames last; last = l; sequel = e.sequel; is = e.is; same = e.same }
+    let e = is_element_of l.last.inside (sequel_of s) (ap (λ (w : Waiting). w.inside) l.same ∙ ap inside_of last.inside) in
+    record { fore = fore; frame = frame_of last.frame; frames = last_frames last; last = l; sequel = e.0; is = e.1; same = e.2 }
 
 -- the next one is next in the body that waits
 abbrev pub ended_at : (o : Received) (fs : List Waiting) (t : Sequel) (n : HasNext o.around fs t) → IsAtElement (ended_in o n.last.before n.last.last.body (in_sequence n.sequel)) t n.frame.body.rest n.fore
-ended_at o fs t n = record { sequel = with_element n.sequel (items_of o.body.done); next = refl; same = n.same; rest = rest_of_last o.around n.fore n.frame n.last; around = n.last.rests }
+ended_at o fs t n = record { sequel = with_element n.sequel (items_of o.body.done); next = refl; same = n.same; rest = ap (λ (w : Waiting). w.body.rest) n.last.same; around = n.last.rests }
 
 pub left_last : (fs fore : List Waiting) (f : Waiting) → fs ≡ fore ++ f ∷ [] → left_around fs ≡ left_around fore ++ f.bits ∷ []
 left_last fs fore f h = ap left_around h ∙ map_push (λ (w : Waiting). w.bits) fore f
@@ -248,17 +178,14 @@ left_last fs fore f h = ap left_around h ∙ map_push (λ (w : Waiting). w.bits)
 module _ (level : Level) where
   -- ---- one piece
 
-  body_is : (b : Body) (is : Instructions) (c : Cursor) → b.rest ≡ is → body_on level b c ≡ body_on level (record { rest = is; done = b.done }) c
-  body_is b is c h = ap (λ (is : Instructions). body_on level (record { rest = is; done = b.done }) c) h
-
   -- at an instruction what is left is that of its body
   top_is : (n : Next) (b : Body) (is : Instructions) (c : Cursor) → n ≡ at_instruction → b.rest ≡ is → top_on level n b c ≡ body_on level (record { rest = is; done = b.done }) c
-  top_is n b is c next h = ap (λ (n : Next). top_on level n b c) next ∙ body_is b is c h
+  top_is n b is c next h = rw (next, h) refl
 
   -- its first instruction, and what is behind it
   pub piece_on : (ws : List Waiting) (n : Next) (b : Body) (i : Instruction) (is : Instructions) (c : Cursor) → n ≡ at_instruction → b.rest ≡ then_instruction i is
       → all_around level ws (top_on level n b c) ≡ all_around level ws (items_on level is b.done (piece_at level i c))
-  piece_on ws n b i is c next first = ap (all_around level ws) (top_is n b _ c next first ∙ then_on level i is b.done c)
+  piece_on ws n b i is c next first = ap (all_around level ws) (top_is n b _ c next first ∙ after_piece level is b.done (piece_at level i c))
 
   pub field_on : (ws : List Waiting) (n : Next) (b : Body) (name : List ℕ) (number : ℕ) (presence : Presence) (whole : FieldPart) (is : Instructions) (c d e : Cursor) (v : Option Scalar)
       → n ≡ at_instruction → b.rest ≡ then_instruction (whole_field name number presence whole) is → node_at number c ≡ Ok d → field_part_at level whole d ≡ Ok (v, e)
@@ -295,24 +222,21 @@ module _ (level : Level) where
   group_on ws n b name number presence members is c d e next first h k m =
       piece_on ws n b _ is c next first ∙ ap (all_around level ws) (rw (h, k) (group_around_on level number members is b.done (behind_bit (is_optional presence) d) e m)) ∙ sym (all_around-more level ws _ _)
 
-  map_is : (s t : Sequel) (c : Cursor) (r : Result Cursor Stop) → bare_sequel s ≡ t → own_map_at level t.number t.own_map c ≡ r → own_map_at level s.number s.own_map c ≡ r
-  map_is s t c r same h = ap (λ (x : Sequel). own_map_at level x.number x.own_map c) same ∙ h
-
   element_on : (q : Received) {t : Sequel} {is : Instructions} {fs : List Waiting} (a : IsAtElement q t is fs) (c d e : Cursor) → 0 < t.left → node_at t.number c ≡ Ok d → own_map_at level t.number t.own_map d ≡ Ok e
       → all_around level q.around (top_on level q.next q.body c) ≡ all_around level (in_element q d.bits a.sequel).around (body_on level (record { rest = a.sequel.members; done = [] }) e)
   element_on q a c d e some h k =
       let s = a.sequel in
       ap (λ (n : Next). all_around level q.around (top_on level n q.body c)) a.next
-      ∙ ap (all_around level q.around) (some_left level s q.body c (some_is s _ a.same some) ∙ element_around_on level s.number s.own_map s.members (s.left - 1) s.done q.body c d e (node_is s _ c (Ok d) a.same h) (map_is s _ d (Ok e) a.same k))
+      ∙ ap (all_around level q.around) (some_left level s q.body c (rw (← a.same) at some) ∙ element_around_on level s.number s.own_map s.members (s.left - 1) s.done q.body c d e (rw (← a.same) at h) (rw (← a.same) at k))
       ∙ sym (all_around-more level q.around _ _)
 
   pub no_node_on : (q : Received) {t : Sequel} {is : Instructions} {fs : List Waiting} (c : Cursor) {f : Stop} → IsAtElement q t is fs → 0 < t.left → node_at t.number c ≡ Err f → all_around level q.around (top_on level q.next q.body c) ≡ Err f
-  no_node_on q c {f} a some h = rw (a.next, some_left level a.sequel q.body c (some_is a.sequel _ a.same some), node_is a.sequel _ c (Err f) a.same h) (all_around-stops level q.around f)
+  no_node_on q c {f} a some h = rw (a.next, some_left level a.sequel q.body c (rw (← a.same) at some), rw (← a.same) at h) (all_around-stops level q.around f)
 
   pub no_map_on : (q : Received) {t : Sequel} {is : Instructions} {fs : List Waiting} (c : Cursor) {d : Cursor} {f : Stop} → IsAtElement q t is fs → 0 < t.left → node_at t.number c ≡ Ok d → own_map_at level t.number t.own_map d ≡ Err f
       → all_around level q.around (top_on level q.next q.body c) ≡ Err f
   no_map_on q c {d} {f} a some h k =
-      rw (a.next, some_left level a.sequel q.body c (some_is a.sequel _ a.same some), node_is a.sequel _ c (Ok d) a.same h, map_is a.sequel _ d (Err f) a.same k) (all_around-stops level q.around f)
+      rw (a.next, some_left level a.sequel q.body c (rw (← a.same) at some), rw (← a.same) at h, rw (← a.same) at k) (all_around-stops level q.around f)
 
   -- in an element, from where it was next
   pub enters : {R : Type 0} (Has : Having R) (w : WalkNow) {v : WalkNow} (s : R) (d : Dictionary) (o q : Received) (bytes rest : List ℕ) {frames : List FrameNow} {outer own : List Bool} {left : ℕ} {t : Sequel} {is : Instructions}
@@ -323,7 +247,7 @@ module _ (level : Level) where
       → (p : Received) × At Has v s d p × Same o p × ((more : List ℕ) → reads_on level w d o (bytes ++ more) ≡ reads_on level v d p (rest ++ more))
   enters Has w s d o q bytes rest {outer = outer} {left = left} a same reads some spare end goes has = (
     in_element q outer a.sequel,
-    (record { next = ap next_of (sym end.next); rest = ap (λ (s : Sequel). s.members) a.same ∙ sym end.rest; around = around_element q outer a ∙ sym end.around }, has (sym (ap (λ (s : Sequel). s.own_map) a.same)) (some_is a.sequel _ a.same some)),
+    (record { next = ap next_of (sym end.next); rest = ap (λ (s : Sequel). s.members) a.same ∙ sym end.rest; around = around_element q outer a ∙ sym end.around }, has (sym (ap (λ (s : Sequel). s.own_map) a.same)) (rw (← a.same) at some)),
     record { set = same.set; before = same.before; template = same.template; members = same.members; start = same.start },
     λ more. rw (end.bits, end.spare) (reads (bytes ++ more) ∙ element_on q a _ _ _ some (count_goes _ left d outer (bytes ++ more) spare) (goes more)),
   )
@@ -335,10 +259,10 @@ module _ (level : Level) where
   -- ---- the end of a segment
 
   -- what is left behind it, in the body that waited
-  ended_top : (o : Received) (ws : List Waiting) (b : Body) (i : Inside) (ns : Items) (c : Cursor) → items_of o.body.done ≡ ns
-      → behind_inside level i b ns c ≡ top_on level (ended_in o ws b i).next (ended_in o ws b i).body c
-  ended_top o ws b in_group ns c h = rw (sym h) refl
-  ended_top o ws b (in_sequence s) ns c h = rw (sym h) refl
+  ended_reads : (o : Received) (ws : List Waiting) (b : Body) (i : Inside) (c : Cursor)
+      → all_around level (ended_in o ws b i).around (top_on level (ended_in o ws b i).next (ended_in o ws b i).body c) ≡ all_around level ws (behind_inside level i b (items_of o.body.done) c)
+  ended_reads o ws b in_group c = refl
+  ended_reads o ws b (in_sequence s) c = refl
 
   pub end_on : (o : Received) (ws fs : List Waiting) (f : Waiting) (l : Last o.around fs f) (c : Cursor) → IsLeftClear level c.bits → o.next ≡ at_instruction → o.body.rest ≡ no_instructions
       → all_around level o.around (top_on level o.next o.body c)
@@ -348,9 +272,7 @@ module _ (level : Level) where
       ap (λ (n : Next). all_around level o.around (top_on level n o.body c)) next
       ∙ end_goes level o.around l.before l.last o.body c clear l.is rest
       ∙ ap (λ (w : Waiting). all_around level l.before (behind_inside level l.last.inside l.last.body (items_of o.body.done) (under_bits w.bits c))) l.same
-      ∙ ap (λ (r : Reads Items). all_around level l.before r) (ended_top o l.before l.last.body l.last.inside (items_of o.body.done) (under_bits f.bits c) refl)
-      ∙ ap (λ (ws : List Waiting). all_around level ws (top_on level (ended_in o l.before l.last.body l.last.inside).next (ended_in o l.before l.last.body l.last.inside).body (under_bits f.bits c)))
-      (sym (ended_around o l.before l.last.body l.last.inside))
+      ∙ sym (ended_reads o l.before l.last.body l.last.inside (under_bits f.bits c))
 
   last_reads : (k : ℕ) (o : Received) (s : Sequel) (c : Cursor) → o.next ≡ at_element s → s.left ≡ k
       → all_around level o.around (top_on level o.next o.body c)
@@ -376,9 +298,9 @@ module _ (level : Level) where
       → all_around level o.around (top_on level o.next o.body c) ≡ stopped number c.bytes R8
   end_on_stops o fs number c same some named next rest strict left =
       let l = has_last o.around (λ none. some (sym same ∙ ap (map bare) none)) in
-      let numbered = named (map bare l.before) (bare l.last) (sym same ∙ ap (map bare) l.is ∙ map_push bare l.before l.last) in
+      let numbered = named (map bare l.0) (bare l.1) (sym same ∙ ap (map bare) l.2 ∙ map_push bare l.0 l.1) in
       ap (all_around level o.around) (top_is o.next o.body no_instructions c next rest ∙ whole_goes level o.body.done c)
-      ∙ end_stops level o.around l.before l.last number _ _ l.is numbered (set_stops level number (items_of o.body.done) c strict left)
+      ∙ end_stops level o.around l.0 l.1 number _ _ l.2 numbered (set_stops level number (items_of o.body.done) c strict left)
 
   -- behind the element that is open its sequence goes on
   pub sequel_on : (o : Received) (fs : List Waiting) (t : Sequel) (n : HasNext o.around fs t) (c : Cursor) → IsLeftClear level c.bits → o.next ≡ at_instruction → o.body.rest ≡ no_instructions

@@ -1,9 +1,7 @@
 -- How many bytes more a piece lacks at least that has begun.
 use Rattle.std.specs.Prelude.{◌≡◌, ◌≢◌, ◌≤◌, ◌<◌, ◌+◌, ℕ, Bool, true, false, List, [], ◌++◌, length, Result, Ok, Err, ◌⊎◌, pos}
 use Rattle.std.specs.List.{AllByRecursion}
-use Rattle.fast_wire.specs.Reading.{◌>>=◌, unsigned_at, unsigned_nullable_at}
-use Rattle.fast_wire.specs.declared.fault.WireFault.{WireFault}
-use Rattle.fast_wire.specs.declared.nullable.Nullable.{Nullable}
+use Rattle.fast_wire.specs.Reading.{unsigned_at, unsigned_nullable_at}
 use Rattle.fast_wire.specs.declared.nullable.Nullable.TheVariants.{Value}
 use Rattle.fast_value.specs.declared.kind.Kind.{Kind}
 use Rattle.fast_value.specs.declared.kind.Kind.TheVariants as kind
@@ -68,18 +66,22 @@ first_limit o k = first_most o k + 1
 abbrev pub IsVectorKind : Kind → Type 0
 IsVectorKind k = (k ≡ kind.Unicode) ⊎ (k ≡ kind.Bytes)
 
--- a kind of characters or bytes
-abbrev pub IsUnitKind : Kind → Type 0
-IsUnitKind k = (k ≡ kind.Ascii) ⊎ IsVectorKind k
-
 -- the length of a vector
-abbrev pub count_at : Presence → List ℕ → Result (Nullable ℕ × List ℕ) WireFault
-count_at Mandatory bytes = unsigned_at bytes >>= λ n. Ok (Value n.0, n.1)
-count_at Optional bytes = unsigned_nullable_at bytes
+abbrev pub IsCount : Presence → List ℕ → ℕ → List ℕ → Type 0
+IsCount Mandatory bytes n rest = unsigned_at bytes ≡ Ok (n, rest)
+IsCount Optional bytes n rest = unsigned_nullable_at bytes ≡ Ok (Value n, rest)
+
+-- a kind whose delta is two entities, or an entity and a vector
+abbrev pub takes_two : Kind → Bool
+takes_two kind.Decimal = true
+takes_two kind.Ascii = true
+takes_two kind.Unicode = true
+takes_two kind.Bytes = true
+takes_two k = false
 
 -- another entity stands behind the first: in a decimal in one piece, and behind a removal
-abbrev pub HasSecond : FieldPart → Bool → Type 0
-HasSecond p bit = ((p.kind ≡ kind.Decimal) × (p.operator ≢ operator.Tail) × (sends p.operator bit ≡ true)) ⊎ (IsUnitKind p.kind × (p.operator ≡ operator.Delta))
+abbrev pub HasSecond : Operator → Kind → Bool → Type 0
+HasSecond o k bit = ((k ≡ kind.Decimal) × (o ≢ operator.Tail) × (sends o bit ≡ true)) ⊎ ((takes_two k ≡ true) × (o ≡ operator.Delta))
 
 -- so it waits
 pub record SecondWaits (level : Level) (k : Kind) (bytes : List ℕ) : Type 0 where

@@ -1,12 +1,11 @@
 -- What a receiver is told has one proof at most.
 use mathlib.Core.Bool.{Bool-set}
-use Rattle.std.specs.Prelude.{◌≡◌, ◌<◌, ℕ, Bool, true, List, [], ◌∷◌, Option, Some, None, IsSome, IfSome, IsTrue, Ok, Err}
+use Rattle.std.specs.Prelude.{◌<◌, ℕ, Bool, true, List, [], ◌∷◌, Option, Some, None, IsSome, IfSome, IsTrue, Ok, Err}
 use Rattle.std.specs.Coded.{×_prop, Π_prop, Unit-prop, le_prop}
 use Rattle.std.specs.List.{AllByRecursion}
 use Rattle.std.proofs.Props.{props}
 use Rattle.fast_value.specs.declared.kind.Kind.{Kind}
 use Rattle.fast_value.specs.declared.kind.Part.{Part}
-use Rattle.fast_value.specs.declared.kind.Presence.{Presence}
 use Rattle.fast_value.specs.declared.scalar.Scalar.{Scalar}
 use Rattle.fast_value.specs.declared.scalar.Scalar.TheVariants.{Decimal}
 use Rattle.fast_template.specs.declared.resolved.FieldPart.{FieldPart}
@@ -45,9 +44,6 @@ initial-prop p (Some v) = hlevel (props, scalar-prop)
 some-prop : {A : Type 0} (o : Option A) → IsProp (IsSome o)
 some-prop None = hlevel props
 some-prop (Some x) = hlevel props
-
-pub presence-prop : (presence : Presence) (p : FieldPart) → IsProp (p.presence ≡ presence)
-presence-prop presence p = hlevel props
 
 pub IsTold-prop : (part : Part) (kind : Kind) (p : FieldPart) → IsProp (IsTold part kind p)
 IsTold-prop part kind p = hlevel (props, initial-prop, some-prop)

@@ -12,7 +12,7 @@ ghost use Rattle.fast_stream.specs.Bits.{bit_for};
 ghost use Rattle.fast_dictionary.specs.declared.entry.Entry.{Entry};
 ghost use Rattle.fast_dictionary.specs.Dictionary.{Dictionary, entry_of};
 ghost use Rattle.fast_field.specs.Faults.{field_fault};
-ghost use Rattle.fast_walk.specs.Lacks.{AreUnstopped, EntityLacks, FieldLacks, HasSecond, IsNextPart, Lacks, SecondLacks, VectorLacks, WalkLacks, WantsByte, count_at, first_limit as first_limit_of, sends};
+ghost use Rattle.fast_walk.specs.Lacks.{AreUnstopped, EntityLacks, FieldLacks, HasSecond, IsCount, IsNextPart, Lacks, SecondLacks, VectorLacks, WalkLacks, WantsByte, first_limit as first_limit_of, sends};
 
 use crate::bits::first_for;
 use crate::traversal::{Stage, Traversal};
@@ -133,7 +133,7 @@ fn is_fit_length(level: Level, bytes: &[u8]) -> bool
 // The length of a vector, and the place behind it; none where it is not whole, or NULL.
 fn length_of(presence: Presence, bytes: &[u8]) -> Option<(u128, usize)>
     ensures place { IfSome result (λ x. x.1 ≤ length bytes.now) }
-    ensures count { IfSome result (λ x. count_at presence bytes.now ≡ Ok (Value x.0, drop x.1 bytes.now)) }
+    ensures count { IfSome result (λ x. IsCount presence bytes.now x.0 (drop x.1 bytes.now)) }
 {
     match presence {
         Presence::Mandatory => match read_unsigned(bytes, 0) {
@@ -197,7 +197,7 @@ pub(crate) fn field_lack(level: Level, part: &FieldPart, bit: bool, bytes: &[u8]
 // Whether another entity stands behind the first of a field: in a decimal in one piece, and behind a removal.
 #[inline(always)]
 fn has_second(part: &FieldPart, bit: bool) -> bool
-    ensures { result ≡ true → HasSecond part.now bit }
+    ensures { result ≡ true → HasSecond part.now.operator part.now.kind bit }
 {
     match part.kind {
         Kind::Decimal => match part.operator {

@@ -1,7 +1,8 @@
 use Rattle.std.proofs.Common.{ap, inl, refl, arith}
 use Rattle.fast_template.specs.TemplateSets.{templates_in}
 use Rattle.fast_machine.specs.Following.{mode_of}
-use Rattle.fast_machine.proofs.Followings.{cut_between, not_memory}
+use Rattle.fast_machine.proofs.Followings.{cut_between}
+use Rattle.fast_walk.proofs.ShortWalks.{want_of_bytes}
 use Rattle.fast_machine.proofs.machine.Machine.cut.Goals as goal
 
 pub returns-in-Ok-clause-place : goal.returns-in-Ok-clause-place
@@ -19,4 +20,4 @@ returns-in-Err-clause-place g c = λ none before fed messages follows.
     let t = e.truncated none in
     let after = t.1 before fed messages c.requires.few follows in
     let r = (rw (e.answer, e.same.set, e.same.mode) at after.at).0 in
-    record { carried = r.0; behind = r.1; at = inl (rw (t.0) at (r.2 (not_memory c.in-Err.fault.cause t.0))) }
+    record { carried = r.0; behind = r.1; at = inl (rw (t.0) at (r.2 (want_of_bytes c.in-Err.fault.cause t.0))) }

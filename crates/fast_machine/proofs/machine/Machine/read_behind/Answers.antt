@@ -1,16 +1,16 @@
 use Rattle.std.proofs.Common.{◌≡◌, ◌++◌, ℕ, List, [], Option, Some, None, IfNone, length, ap, sym, subst, arith, rules, append-nil}
 use Rattle.std.proofs.lemmas.List.{nil_from_length}
-use Rattle.std.proofs.lemmas.Result.{err_from_is_err_and}
+use Rattle.fast_walk.proofs.Steps.{exit_is}
 use Rattle.fast_machine.specs.Calls.{ReadsNext}
 use Rattle.fast_machine.proofs.Calls.{follows_without_memory}
-use Rattle.fast_machine.proofs.Followings.{not_memory}
+use Rattle.fast_walk.proofs.ShortWalks.{want_of_bytes}
 use Rattle.fast_machine.proofs.machine.Machine.read_behind.Goals as goal
 
 pub returns-in-Err-clause-reads : goal.returns-in-Err-clause-reads
 returns-in-Err-clause-reads g c =
     let r = c.refuse.ensures in (
       r.keeps.kept,
-      (λ e. not_memory c.refuse.result.cause e r.fault.cause_is),
+      (λ e. want_of_bytes c.refuse.result.cause e r.fault.cause_is),
       λ before fed messages short counts stands. (
         [],
         rw (append-nil before, append-nil messages)
@@ -27,8 +27,7 @@ returns-then-is_empty-clause-reads g c =
 
 pub returns-in_err-next-in-Ok-clause-reads : goal.returns-in_err-next-in-Ok-clause-reads
 returns-in_err-next-in-Ok-clause-reads g c =
-    let p = err_from_is_err_and c.from_residual.result c.from_residual.ensures.1 in
-    rw (p.1, p.2) (rw (c.deref.ensures.value, c.in-Ok.ensures.items, c.replace-bytes.ensures.value) at c.in_err-next-in-Ok.ensures.reads)
+    rw (exit_is c.from_residual.result c.from_residual.ensures.1) (rw (c.deref.ensures.value, c.in-Ok.ensures.items, c.replace-bytes.ensures.value) at c.in_err-next-in-Ok.ensures.reads)
 
 then_none : {A B : Type 0} (place : Option ℕ) → (A → B) → IfNone place A → IfNone place B
 then_none None f a = f a

@@ -1,7 +1,7 @@
 use Rattle.std.proofs.Common.{[], inl, inr, append-nil, ◌≢◌, ◌≡◌, ◌<◌, ◌+◌, ◌-◌, ◌++◌, ℕ, List, None, Some, length, drop, sym, ap, refl, arith}
 use Rattle.std.proofs.lemmas.List.{take_rest}
 use Rattle.fast_template.specs.TemplateSets.{templates_in}
-use Rattle.fast_stream.specs.declared.fault.Cause.TheVariants.{Truncated, BlockEnd}
+use Rattle.fast_stream.specs.declared.fault.Cause.TheVariants.{Truncated}
 use Rattle.fast_stream.specs.declared.mode.Framing.TheVariants.{Blocks}
 use Rattle.fast_stream.specs.Nodes.{Content}
 use Rattle.fast_walk.specs.declared.traversal.Stage.TheVariants as stage
@@ -9,7 +9,7 @@ use Rattle.fast_machine.specs.Calls.{StandsAt}
 use Rattle.fast_machine.specs.Standing.{StopsBehind, framed_as}
 use Rattle.fast_machine.proofs.Runs.{carried_of, none_begun}
 use Rattle.fast_machine.proofs.Calls.{Finds, finds_fault, finds_waiting, follows_kept, follows_refused, reads_none}
-use Rattle.fast_machine.proofs.Followings.{fault_refused, not_truncated, size_other, size_template}
+use Rattle.fast_machine.proofs.Followings.{fault_refused, size_other, size_template}
 use Rattle.fast_machine.proofs.BlockReads.{IsOpen, block_cuts, block_goes, empty_window}
 use Rattle.fast_machine.proofs.machine.Machine.read_block.Given as given
 use Rattle.fast_machine.proofs.machine.Machine.read_block.Goals as goal
@@ -75,7 +75,7 @@ pub returns-in_default-clause-reads : goal.returns-in_default-clause-reads
 returns-in_default-clause-reads g c =
     let k = c.keep.ensures in (
       k.keeps.kept,
-      not_truncated c.keep.result.cause c.in-Err.cause k.fault.cause_is (λ e. c.in_default.not-Truncated e),
+      rw (k.fault.cause_is) (λ e. c.in_default.not-Truncated e),
       λ before fed messages short counts stands.
           let old = c.args.self.now in
           let t = old.traversal in
@@ -89,7 +89,7 @@ pub returns-then-self-rest-clause-reads : goal.returns-then-self-rest-clause-rea
 returns-then-self-rest-clause-reads g c =
     let k = c.keep-then-self-rest.ensures in (
       k.keeps.kept,
-      not_truncated c.keep-then-self-rest.result.cause BlockEnd k.fault.cause_is (λ e. absurd cc),
+      rw (k.fault.cause_is) (λ e. absurd cc),
       λ before fed messages short counts stands.
           let old = c.args.self.now in
           let p = c.read_if_any-progress in
@@ -114,7 +114,7 @@ returns-in_default-cause-clause-reads g c =
     let at = goal.at.returns-in_default-cause-clause-reads g c in
     let other : c.in-Some.halt.cause ≢ Truncated = λ e. c.in_default-cause.not-Truncated e in (
       refl,
-      not_truncated c.fault_of-fault.result.cause c.in-Some.halt.cause c.fault_of-fault.ensures.cause other,
+      rw (c.fault_of-fault.ensures.cause) other,
       λ before fed messages short counts stands.
           let f = finds_fault c.fault_of-fault.result _ c.requires.framing (halted g at.In-Some (opened g at.After-within-room) (λ wanted. absurd (other wanted))) other c.read_if_any-progress.ensures.leaves.sound
           (ap (λ (xs : List ℕ). length xs) (sym (take_rest c.args.bytes.now (c.in-Ok.opened.1 + c.read_if_any-progress.result.at)))) (rw (c.template-template.ensures) at c.fault_of-fault.ensures.refused) before fed messages short counts stands in

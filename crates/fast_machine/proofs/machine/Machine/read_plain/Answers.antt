@@ -4,7 +4,6 @@ use Rattle.fast_stream.specs.declared.fault.Cause.TheVariants.{Truncated}
 use Rattle.fast_stream.specs.declared.mode.Framing.TheVariants.{Plain}
 use Rattle.fast_stream.specs.Nodes.{Content}
 use Rattle.fast_machine.proofs.Calls.{Finds, finds_fault, finds_waiting}
-use Rattle.fast_machine.proofs.Followings.{not_truncated}
 use Rattle.fast_machine.proofs.PlainReads.{plain_goes}
 use Rattle.fast_machine.proofs.machine.Machine.read_plain.Given as given
 use Rattle.fast_machine.proofs.machine.Machine.read_plain.Goals as goal
@@ -33,7 +32,7 @@ pub returns-in_default-clause-reads : goal.returns-in_default-clause-reads
 returns-in_default-clause-reads g c =
     let other : c.in-Some.halt.cause ≢ Truncated = λ e. c.in_default.not-Truncated e in (
       refl,
-      not_truncated c.fault_of-fault.result.cause c.in-Some.halt.cause c.fault_of-fault.ensures.cause other,
+      rw (c.fault_of-fault.ensures.cause) other,
       λ before fed messages short counts stands.
           let f = finds_fault c.fault_of-fault.result _ c.requires.framing (halted g (goal.at.returns-in_default-clause-reads g c).In-Some) other c.read_message-progress.ensures.leaves.sound
           (ap (λ (xs : List ℕ). length xs) (sym (take_rest c.args.bytes.now c.read_message-progress.result.at))) (rw (c.template-template.ensures) at c.fault_of-fault.ensures.refused) before fed messages short counts stands in

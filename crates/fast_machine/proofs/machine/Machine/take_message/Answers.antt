@@ -1,6 +1,6 @@
 use Rattle.std.proofs.Common.{◌≡◌, ◌++◌, ◌-◌, ◌∙◌, ℕ, List, length, length-append, length-drop, take, drop, take-append-drop, arith, ap, sym, append_assoc}
 use Rattle.std.proofs.Math.Seq.{take-length}
-use Rattle.std.proofs.lemmas.Result.{err_from_is_err_and}
+use Rattle.fast_walk.proofs.Steps.{exit_is}
 use Rattle.fast_wire.proofs.Calls.{all_bytes}
 use Rattle.fast_wire.specs.declared.level.Level.{Level}
 use Rattle.fast_stream.specs.declared.mode.Framing.{Framing}
@@ -16,8 +16,7 @@ framed_by level framing = record { level = level; framing = framing }
 
 pub returns-in_err-read_behind-clause-follows : goal.returns-in_err-read_behind-clause-follows
 returns-in_err-read_behind-clause-follows g c =
-    let p = err_from_is_err_and c.from_residual.result c.from_residual.ensures.1 in
-    rw (p.1) (λ none before fed messages follows.
+    rw (exit_is c.from_residual.result c.from_residual.ensures.1) (λ none before fed messages follows.
     let chunk = c.args.chunk.now in
     let f = chunk_fed c.args.self.now chunk none c.requires.room (all_bytes chunk (λ k. omega (arith, c.type_inv.chunk k))) before fed messages follows in
     c.in_err-read_behind.ensures.reads.2 before (fed ++ chunk) messages f.short f.counts f.stands)

@@ -1,12 +1,11 @@
 use Rattle.std.proofs.Common.{refl}
-use Rattle.std.proofs.lemmas.Result.{err_from_is_err_and}
+use Rattle.fast_walk.proofs.Steps.{exit_is}
 use Rattle.fast_walk.proofs.Messages.{end_refused, ends_behind, message_ends, stops_behind, walk_halts, walk_step}
 use Rattle.fast_walk.proofs.traversal.Traversal.body.Goals as goal
 
 pub returns-in_err-next-clause-reads : goal.returns-in_err-next-clause-reads
 returns-in_err-next-clause-reads g c =
-    let p = err_from_is_err_and c.from_residual.result c.from_residual.ensures.1 in
-    rw (p.1, p.2) (walk_halts _ c.requires.stage c.in_err-next.ensures.runs.0 c.run.ensures.keeps c.in_err-next.ensures.runs.1)
+    rw (exit_is c.from_residual.result c.from_residual.ensures.1) (walk_halts _ c.requires.stage c.in_err-next.ensures.runs.0 c.run.ensures.keeps c.in_err-next.ensures.runs.1)
 
 pub returns-in-Ok-finish-clause-reads : goal.returns-in-Ok-finish-clause-reads
 returns-in-Ok-finish-clause-reads g c =

@@ -6,7 +6,7 @@ use Rattle.fast_walk.specs.Walks.{frame_of, sequel_of}
 use Rattle.fast_walk.specs.declared.walk.Frame.{Frame as FrameNow}
 use Rattle.fast_walk.specs.declared.walk.Inside.TheVariants.{Element}
 use Rattle.fast_walk.specs.declared.walk.Sequel.{Sequel as SequelNow}
-use Rattle.fast_walk.proofs.Walking.{at_last, last_is}
+use Rattle.fast_walk.proofs.Walking.{at_last}
 use Rattle.fast_walk.proofs.walk.Walk.go_on.Goals as goal
 
 pub returns-in-Element : goal.returns-in-Element
@@ -17,7 +17,8 @@ returns-in-Element c = λ fore f frames.
     let waits = c.in-Some.frame.now in
     let elements = c.in-Element.elements in
     let last = at_last items fore n f waits long frames in
-    let e = sym c.in-Element.is ∙ last_is c.requires.last n waits long c.in-Some.ensures.value in
+    let l = c.requires.last in
+    let e = sym c.in-Element.is ∙ ap (λ (x : FrameNow). x.inside) (c.in-Some.ensures.value ∙ (at_last items l.fore n l.frame waits long l.frames).0) ∙ l.inside in
     let same : elements ≡ c.args.sequel = cc in
     let later : FrameNow = record { bits = waits.bits; rest = waits.rest; inside = Element (record { number = elements.number; own_map = elements.own_map; members = elements.members; left = elements.left - 1 }) } in
     record {

@@ -1,6 +1,6 @@
 use Rattle.std.proofs.Common.{◌≡◌, ◌++◌, ◌∷◌, ◌-◌, [], Bool, true, false, List, None, drop, map, refl, sym, ap, ◌∙◌, arith}
 use Rattle.std.proofs.lemmas.List.{map_push}
-use Rattle.std.proofs.lemmas.Result.{err_from_is_err_and}
+use Rattle.fast_walk.proofs.Steps.{exit_is}
 use Rattle.fast_template.specs.Resolved.{list_of, has_map, is_optional}
 use Rattle.fast_stream.specs.Bits.{after_bit, bit_for}
 use Rattle.fast_stream.specs.Nodes.{single, no_elements, sequence_elements}
@@ -15,32 +15,23 @@ use Rattle.fast_walk.proofs.walk.Walk.instruction.Goals as goal
 
 pub returns-in_err-count-in-Field-clause-piece : goal.returns-in_err-count-in-Field-clause-piece
 returns-in_err-count-in-Field-clause-piece g c =
-    let begins = rw (is_field c.in-Field.is) at c.requires.first in
-    let p = err_from_is_err_and c.from_residual.result c.from_residual.ensures.1 in
-    rw (p.1, p.2) (count_stops c.requires.walk begins c.in_err-count-in-Field.ensures)
+    rw (exit_is c.from_residual.result c.from_residual.ensures.1) (count_stops c.requires.walk c.requires.first (is_field c.in-Field.is) c.in_err-count-in-Field.ensures)
 
 pub returns-in_err-count-in-Parts-clause-piece : goal.returns-in_err-count-in-Parts-clause-piece
 returns-in_err-count-in-Parts-clause-piece g c =
-    let begins = rw (is_parts c.in-Parts.is) at c.requires.first in
-    let p = err_from_is_err_and c.from_residual-in_err-count-in-Parts.result c.from_residual-in_err-count-in-Parts.ensures.1 in
-    rw (p.1, p.2) (count_stops c.requires.walk begins c.in_err-count-in-Parts.ensures)
+    rw (exit_is c.from_residual-in_err-count-in-Parts.result c.from_residual-in_err-count-in-Parts.ensures.1) (count_stops c.requires.walk c.requires.first (is_parts c.in-Parts.is) c.in_err-count-in-Parts.ensures)
 
 pub returns-in_err-count-in-Group-clause-piece : goal.returns-in_err-count-in-Group-clause-piece
 returns-in_err-count-in-Group-clause-piece g c =
-    let begins = rw (is_group c.in-Group.members c.in-Group.is) at c.requires.first in
-    let p = err_from_is_err_and c.from_residual-in_err-count-in-Group.result c.from_residual-in_err-count-in-Group.ensures.1 in
-    rw (p.1, p.2) (count_stops c.requires.walk begins c.in_err-count-in-Group.ensures)
+    rw (exit_is c.from_residual-in_err-count-in-Group.result c.from_residual-in_err-count-in-Group.ensures.1) (count_stops c.requires.walk c.requires.first (is_group c.in-Group.members c.in-Group.is) c.in_err-count-in-Group.ensures)
 
 pub returns-in_err-count-in-Sequence-clause-piece : goal.returns-in_err-count-in-Sequence-clause-piece
 returns-in_err-count-in-Sequence-clause-piece g c =
-    let begins = rw (is_sequence c.in-Sequence.members c.in-Sequence.is) at c.requires.first in
-    let p = err_from_is_err_and c.from_residual-in_err-count-in-Sequence.result c.from_residual-in_err-count-in-Sequence.ensures.1 in
-    rw (p.1, p.2) (count_stops c.requires.walk begins c.in_err-count-in-Sequence.ensures)
+    rw (exit_is c.from_residual-in_err-count-in-Sequence.result c.from_residual-in_err-count-in-Sequence.ensures.1) (count_stops c.requires.walk c.requires.first (is_sequence c.in-Sequence.members c.in-Sequence.is) c.in_err-count-in-Sequence.ensures)
 
 pub returns-in-Err-clause-piece : goal.returns-in-Err-clause-piece
 returns-in-Err-clause-piece g c =
-    let begins = rw (is_field c.in-Field.is) at c.requires.first in
-    first_stops c.in-Field.whole c.requires.walk begins c.in_ok-count-in-Field.ensures c.level-level.ensures c.part_needs_bit-needs.ensures c.first_for-bit.ensures c.part_halt.ensures.cause c.part_halt.ensures.number c.in-Err.ensures.stops c.in-Err.ensures.room_on
+    first_stops c.in-Field.whole c.requires.walk c.requires.first (is_field c.in-Field.is) c.in_ok-count-in-Field.ensures c.level-level.ensures c.part_needs_bit-needs.ensures c.first_for-bit.ensures c.part_halt.ensures.cause c.part_halt.ensures.number c.in-Err.ensures.stops c.in-Err.ensures.room_on
     (λ b k s h m. rw (h, m) refl)
 
 pub returns-in-Ok-clause-piece : goal.returns-in-Ok-clause-piece
@@ -53,8 +44,7 @@ returns-in-Ok-clause-piece g c =
 
 pub returns-in-Err-exponent-clause-piece : goal.returns-in-Err-exponent-clause-piece
 returns-in-Err-exponent-clause-piece g c =
-    let begins = rw (is_parts c.in-Parts.is) at c.requires.first in
-    first_stops c.in-Parts.exponent c.requires.walk begins c.in_ok-count-in-Parts.ensures c.level-level.ensures c.part_needs_bit-needs-in-Parts.ensures c.first_for-bit-in-Parts.ensures c.part_halt-in-Err-exponent.ensures.cause c.part_halt-in-Err-exponent.ensures.number
+    first_stops c.in-Parts.exponent c.requires.walk c.requires.first (is_parts c.in-Parts.is) c.in_ok-count-in-Parts.ensures c.level-level.ensures c.part_needs_bit-needs-in-Parts.ensures c.first_for-bit-in-Parts.ensures c.part_halt-in-Err-exponent.ensures.cause c.part_halt-in-Err-exponent.ensures.number
     c.in-Err-exponent.ensures.stops c.in-Err-exponent.ensures.room_on (λ b k s h m. rw (h, m) refl)
 
 pub returns-then-present-clause-piece : goal.returns-then-present-clause-piece
@@ -78,8 +68,7 @@ returns-else-present-clause-piece g c =
 pub returns-in_err-bits-in-Group-clause-piece : goal.returns-in_err-bits-in-Group-clause-piece
 returns-in_err-bits-in-Group-clause-piece g c =
     let begins = rw (is_group c.in-Group.members c.in-Group.is) at c.requires.first in
-    let p = err_from_is_err_and c.from_residual-in_err-bits-in-Group.result c.from_residual-in_err-bits-in-Group.ensures.1 in
-    rw (p.1, p.2) (λ other.
+    rw (exit_is c.from_residual-in_err-bits-in-Group.result c.from_residual-in_err-bits-in-Group.ensures.1) (λ other.
     let old = c.args.self.now in
     let d = g.E.Entries.contents c.args.entries.now in
     let bytes = drop c.args.at c.args.bytes.now in
@@ -167,8 +156,7 @@ returns-in_ok-open-in-Group-clause-piece g c =
 
 pub returns-in-Err-begin_sequence-clause-piece : goal.returns-in-Err-begin_sequence-clause-piece
 returns-in-Err-begin_sequence-clause-piece g c =
-    let begins = rw (is_sequence c.in-Sequence.members c.in-Sequence.is) at c.requires.first in
-    first_stops c.in-Sequence.length c.requires.walk begins c.in_ok-count-in-Sequence.ensures c.level-level.ensures c.part_needs_bit-needs-in-Sequence.ensures c.first_for-bit-in-Sequence.ensures c.part_halt-in-Err-begin_sequence.ensures.cause c.part_halt-in-Err-begin_sequence.ensures.number
+    first_stops c.in-Sequence.length c.requires.walk c.requires.first (is_sequence c.in-Sequence.members c.in-Sequence.is) c.in_ok-count-in-Sequence.ensures c.level-level.ensures c.part_needs_bit-needs-in-Sequence.ensures c.first_for-bit-in-Sequence.ensures c.part_halt-in-Err-begin_sequence.ensures.cause c.part_halt-in-Err-begin_sequence.ensures.number
     c.in-Err-begin_sequence.ensures.stops c.in-Err-begin_sequence.ensures.room_on (λ b k s h m. rw (h, m) refl)
 
 pub returns-in-None-clause-piece : goal.returns-in-None-clause-piece

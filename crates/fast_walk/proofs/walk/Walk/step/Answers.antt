@@ -1,18 +1,19 @@
 use Rattle.std.proofs.Common.{◌≡◌, ◌++◌, ◌-◌, ◌∷◌, [], List, Some, length, length-append, drop, map, refl, ap, ◌∙◌, arith, rules}
-use Rattle.std.proofs.lemmas.List.{nil_from_length}
-use Rattle.std.proofs.lemmas.Result.{err_from_is_err_and}
+use Rattle.std.proofs.lemmas.List.{map_push, nil_from_length}
+use Rattle.std.specs.Prelude.{option_to_list, Option}
+use Rattle.fast_walk.proofs.Steps.{exit_is}
 use Rattle.fast_value.specs.declared.scalar.Scalar.TheVariants.{Decimal}
 use Rattle.fast_template.specs.Resolved.{list_of}
 use Rattle.fast_field.proofs.ReadFields.{bytes_from}
 use Rattle.fast_stream.specs.Nodes.{single}
-use Rattle.fast_walk.specs.OpenSegments.{cursor, in_sequence}
+use Rattle.fast_walk.specs.OpenSegments.{Sequel, Waiting, cursor, in_sequence}
 use Rattle.fast_walk.specs.Received.{after_sequence, closed_in, ended_in, passed}
 use Rattle.fast_walk.specs.Room.{left_around}
-use Rattle.fast_walk.specs.Walks.{bare, frame_of, next_of, sequel_of, weight_of}
+use Rattle.fast_walk.specs.Walks.{bare, frame_of, inside_of, next_of, weight_of}
 use Rattle.fast_walk.specs.declared.walk.Frame.{Frame as FrameNow}
 use Rattle.fast_walk.proofs.Pieces.{fault_stops, less_opened, opened_on, part_on, part_took, stops_here}
 use Rattle.fast_walk.proofs.Steps.{count_goes}
-use Rattle.fast_walk.proofs.Walking.{at_element_of, closed_on, closed_same, end_on_stops, ended_at, enters, has_next, inside_of_last, is_instruction, is_mantissa, last_frames, last_inside, last_of, left_is, left_last, mantissa_on_goes, mantissa_on_stops, no_frame, no_map_on, no_more_on, no_node_on, popped, rest_of_last, sequel_on, served_pop}
+use Rattle.fast_walk.proofs.Walking.{at_element_of, closed_on, closed_same, end_on_stops, ended_at, enters, has_next, is_instruction, is_mantissa, last_frames, last_of, left_last, mantissa_on_goes, mantissa_on_stops, no_map_on, no_more_on, no_node_on, none_mapped, sequel_on, served_pop}
 use Rattle.fast_walk.proofs.walk.Walk.step.Goals as goal
 
 pub returns-in-Err-clause-piece : goal.returns-in-Err-clause-piece
@@ -50,7 +51,7 @@ returns-then-sequel-eq0-clause-piece g c =
         within = c.requires.place;
         goes = λ o at.
             let a = at_element_of o at.0 c.in-Element.is in
-            let left = left_is a.sequel (sequel_of c.in-Element.sequel) a.same in
+            let left = ap (λ (s : Sequel). s.left) a.same in
             let none : a.sequel.left ≡ 0 = omega (arith, left, c.if-sequel-eq0.true) in (
               after_sequence o a.sequel,
               (record { next = refl; rest = at.0.rest; around = at.0.around }, c.in_ok-end_sequence-in-Element.ensures.has o _ a.sequel a.next none at.1),
@@ -64,14 +65,12 @@ returns-then-sequel-eq0-clause-piece g c =
 
 pub returns-in_err-count-in-Element-clause-piece : goal.returns-in_err-count-in-Element-clause-piece
 returns-in_err-count-in-Element-clause-piece g c =
-    let p = err_from_is_err_and c.from_residual-in_err-count-in-Element.result c.from_residual-in_err-count-in-Element.ensures.1 in
-    rw (p.1, p.2) (λ other. stops_here c.requires.walk (λ o at.
+    rw (exit_is c.from_residual-in_err-count-in-Element.result c.from_residual-in_err-count-in-Element.ensures.1) (λ other. stops_here c.requires.walk (λ o at.
     no_node_on g.L.Leveled.at o _ (at_element_of o at c.in-Element.is) (omega (arith, c.if-sequel-eq0.false)) (c.in_err-count-in-Element.ensures _ _ _)))
 
 pub returns-in_err-bits-in-Element-clause-piece : goal.returns-in_err-bits-in-Element-clause-piece
 returns-in_err-bits-in-Element-clause-piece g c =
-    let p = err_from_is_err_and c.from_residual-in_err-bits-in-Element.result c.from_residual-in_err-bits-in-Element.ensures.1 in
-    rw (p.1, p.2) (λ other. stops_here c.requires.walk (λ o at.
+    rw (exit_is c.from_residual-in_err-bits-in-Element.result c.from_residual-in_err-bits-in-Element.ensures.1) (λ other. stops_here c.requires.walk (λ o at.
     no_map_on g.L.Leveled.at o _ (at_element_of o at c.in-Element.is) (omega (arith, c.if-sequel-eq0.false)) (count_goes _ _ _ _ _ c.in_ok-count-in-Element.ensures) (rw (c.level-level.ensures) at c.in_err-bits-in-Element.ensures.stops other _ _ _)))
 
 pub returns-in_ok-open-in-Element-clause-piece : goal.returns-in_ok-open-in-Element-clause-piece
@@ -97,18 +96,16 @@ returns-in_ok-open-in-Element-clause-piece g c =
 
 pub returns-in_err-count-in-Some-next_sequel-clause-piece : goal.returns-in_err-count-in-Some-next_sequel-clause-piece
 returns-in_err-count-in-Some-next_sequel-clause-piece g c =
-    let p = err_from_is_err_and c.from_residual-in_err-count-in-Some-next_sequel.result c.from_residual-in_err-count-in-Some-next_sequel.ensures.1 in
     let empty = nil_from_length c.args.self.now.rest.now c.in-None.ensures.cases in
-    rw (p.1, p.2) (λ other. stops_here c.requires.walk (λ o at.
+    rw (exit_is c.from_residual-in_err-count-in-Some-next_sequel.result c.from_residual-in_err-count-in-Some-next_sequel.ensures.1) (λ other. stops_here c.requires.walk (λ o at.
     let n = has_next o.around at.around c.in-Some-next_sequel.ensures.1 in
     sequel_on g.L.Leveled.at o _ _ n _ (rw (c.level-in-None.ensures) at c.in_ok-judge_end-in-None.ensures.clear) (is_instruction o.next (at.next ∙ ap next_of c.in-Instruction.is)) (at.rest ∙ ap list_of empty)
     ∙ no_node_on g.L.Leveled.at _ _ (ended_at o _ _ n) c.in-Some-next_sequel.ensures.0 (c.in_err-count-in-Some-next_sequel.ensures _ _ _)))
 
 pub returns-in_err-bits-in-Some-next_sequel-clause-piece : goal.returns-in_err-bits-in-Some-next_sequel-clause-piece
 returns-in_err-bits-in-Some-next_sequel-clause-piece g c =
-    let p = err_from_is_err_and c.from_residual-in_err-bits-in-Some-next_sequel.result c.from_residual-in_err-bits-in-Some-next_sequel.ensures.1 in
     let empty = nil_from_length c.args.self.now.rest.now c.in-None.ensures.cases in
-    rw (p.1, p.2) (λ other. stops_here c.requires.walk (λ o at.
+    rw (exit_is c.from_residual-in_err-bits-in-Some-next_sequel.result c.from_residual-in_err-bits-in-Some-next_sequel.ensures.1) (λ other. stops_here c.requires.walk (λ o at.
     let n = has_next o.around at.around c.in-Some-next_sequel.ensures.1 in
     sequel_on g.L.Leveled.at o _ _ n _ (rw (c.level-in-None.ensures) at c.in_ok-judge_end-in-None.ensures.clear) (is_instruction o.next (at.next ∙ ap next_of c.in-Instruction.is)) (at.rest ∙ ap list_of empty)
     ∙ no_map_on g.L.Leveled.at _ _ (ended_at o _ _ n) c.in-Some-next_sequel.ensures.0 (count_goes _ _ _ _ _ c.in_ok-count-in-Some-next_sequel.ensures) (rw (c.level-strictness.ensures) at c.in_err-bits-in-Some-next_sequel.ensures.stops other _ _ _)))
@@ -124,7 +121,7 @@ returns-in_ok-next_element-in-Some-next_sequel-clause-piece g c =
     let end = c.go_on.ensures l.fore l.frame l.frames in
     let enter = c.in_ok-next_element-in-Some-next_sequel.ensures in
     let served = served_pop (g.E.Entries.serves c.args.entries.now) (map frame_of l.fore) (frame_of l.frame) (rw (last_frames l) at can.ready.around) in
-    let members = rw (last_inside l) at served.1.1 in
+    let members = rw (ap inside_of l.inside) at served.1.1 in
     let longer = ap (λ (fs : List FrameNow). length fs) l.frames ∙ length-append l.fore (l.frame ∷ []) in
     let less = less_opened old.next c.in_ok-count-in-Some-next_sequel.ensures end in (
       record {
@@ -144,14 +141,13 @@ returns-in_ok-next_element-in-Some-next_sequel-clause-piece g c =
 
 pub returns-in_err-judge_end-in-None-clause-piece : goal.returns-in_err-judge_end-in-None-clause-piece
 returns-in_err-judge_end-in-None-clause-piece g c =
-    let p = err_from_is_err_and c.from_residual-in_err-judge_end-in-None.result c.from_residual-in_err-judge_end-in-None.ensures.1 in
     let empty = nil_from_length c.args.self.now.rest.now c.in-None.ensures.cases in
-    rw (p.1, p.2) (λ other. stops_here c.requires.walk (λ o at.
+    rw (exit_is c.from_residual-in_err-judge_end-in-None.result c.from_residual-in_err-judge_end-in-None.ensures.1) (λ other. stops_here c.requires.walk (λ o at.
     let old = c.args.self.now in
     let h = c.in_err-judge_end-in-None.ensures in
     rw (h.refused.1)
     (end_on_stops g.L.Leveled.at o (map frame_of old.around.items) c.in_err-judge_end-in-None.field-0.0.number (cursor _ old.bits old.spare _) at.around
-    (λ none. c.requires.inside c.in-Instruction.is (no_frame old.around.items none) empty)
+    (λ none. c.requires.inside c.in-Instruction.is (none_mapped frame_of old.around.items none) empty)
     h.inside (is_instruction o.next (at.next ∙ ap next_of c.in-Instruction.is)) (at.rest ∙ ap list_of empty) (rw (c.level-in-None.ensures) at h.refused.0) h.refused.2)))
 
 pub returns-in_ok-take_up-in-Some-pop-clause-piece : goal.returns-in_ok-take_up-in-Some-pop-clause-piece
@@ -162,7 +158,8 @@ returns-in_ok-take_up-in-Some-pop-clause-piece g c =
     let empty = nil_from_length c.args.self.now.rest.now c.in-None.ensures.cases in
     let f = c.in-Some-pop.field-0 in
     let fs = map frame_of c.pop.new.self.items in
-    let pop = popped old.around.items c.pop.new.self.items c.pop.result f c.pop.ensures.items c.in-Some-pop.is in
+    let new = c.pop.new.self.items in
+    let pop = ap (map frame_of) (c.pop.ensures.items ∙ ap (λ (o : Option FrameNow). new ++ option_to_list o) c.in-Some-pop.is) ∙ map_push frame_of new f in
     let end = c.in_ok-take_up-in-Some-pop.ensures in
     let served = served_pop (g.E.Entries.serves c.args.entries.now) fs (frame_of f) (rw pop at can.ready.around) in (
       record {
@@ -175,10 +172,10 @@ returns-in_ok-take_up-in-Some-pop-clause-piece g c =
             let b = l.last.body in
             let i = l.last.inside in
             let p = closed_same o l.before b i in
-            let had = end.has o d l.before l.last next rest l.is (inside_of_last o.around fs (frame_of f) l) at.1 in (
+            let had = end.has o d l.before l.last next rest l.is (ap (λ (w : Waiting). w.inside) l.same) at.1 in (
               closed_in o l.before b i,
-              (record { next = had.1; rest = rw (end.rest) (p.rest ∙ rest_of_last o.around fs (frame_of f) l); around = rw (end.around) (ap (map bare) p.around ∙ l.rests) }, had.0),
-              p.same,
+              (record { next = had.1; rest = rw (end.rest) (p.1 ∙ ap (λ (w : Waiting). w.body.rest) l.same); around = rw (end.around) (ap (map bare) p.0 ∙ l.rests) }, had.0),
+              p.2,
               λ more. rw (end.bits, end.spare) (closed_on g.L.Leveled.at o l.before fs (frame_of f) l (cursor d old.bits old.spare _) (rw (c.level-in-None.ensures) at c.in_ok-judge_end-in-None.ensures.clear) next rest),
             );
         on = record {
