@@ -3,7 +3,6 @@ use Rattle.fast_value.specs.declared.kind.Kind.TheVariants.{UInt32}
 use Rattle.fast_value.specs.declared.kind.Part.TheVariants.{Length}
 use Rattle.fast_template.specs.Resolved.{sequence_of}
 use Rattle.fast_stream.specs.Nodes.{single}
-use Rattle.fast_told.specs.Told.{line_now}
 use Rattle.fast_told.proofs.Writing.{has_length, has_said}
 use Rattle.fast_told.proofs.ToldFields.{absent_said}
 use Rattle.fast_show.proofs.writer.LineWriterReceiver.begin_sequence.Goals as goal
@@ -16,12 +15,10 @@ returns-in_ok-tell_absent-in-None-default-clause-goes g c =
     (took, λ number members is o next first has. (has.0, has_said c.args.self.now.exponent o (sequence_of c.args.name.now number c.args.presence c.args.part.now members) is (single None) next first refl said has.1))
 
 pub returns-in_ok-open_under-in-Some-default-clause-goes : goal.returns-in_ok-open_under-in-Some-default-clause-goes
-returns-in_ok-open_under-in-Some-default-clause-goes g c =
-    let old = c.args.self.now in
-    let opened = c.in_ok-open_under-in-Some-default.ensures in (
-      rw (c.in-Some-default.is-0) at c.in_ok-next.ensures.takes.1,
-      λ number members is o next first has. (
-        has.0,
-        has_length g.S.Escape.form old.exponent c.in-Some-default.length (line_now g.S.Escape.form old.line) (line_now g.S.Escape.form c.open_under.new.self) o c.args.name.now number c.args.presence c.args.part.now members is next first opened.text opened.led has.1,
-      ),
-    )
+returns-in_ok-open_under-in-Some-default-clause-goes g c = (
+  rw (c.in-Some-default.is-0) at c.in_ok-next.ensures.takes.1,
+  λ number members is o next first has. (
+    has.0,
+    has_length g.S.Escape.form c.args.self.now.exponent c.in-Some-default.length o c.args.name.now number c.args.presence c.args.part.now members is next first c.in_ok-open_under-in-Some-default.ensures has.1,
+  ),
+)

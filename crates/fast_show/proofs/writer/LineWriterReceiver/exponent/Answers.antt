@@ -4,7 +4,6 @@ use Rattle.fast_value.specs.declared.kind.Part.TheVariants.{Exponent}
 use Rattle.fast_value.specs.declared.scalar.Scalar.TheVariants.{I32}
 use Rattle.fast_template.specs.Resolved.{field_in_parts}
 use Rattle.fast_stream.specs.Nodes.{single}
-use Rattle.fast_told.specs.Told.{line_now}
 use Rattle.fast_told.proofs.Writing.{has_exponent, has_said}
 use Rattle.fast_told.proofs.ToldFields.{absent_said}
 use Rattle.fast_show.proofs.writer.LineWriterReceiver.exponent.Goals as goal
@@ -18,14 +17,12 @@ returns-in_ok-tell_absent-in-None-default-clause-goes g c =
 
 pub returns-in_ok-label-in-Some-default-clause-goes : goal.returns-in_ok-label-in-Some-default-clause-goes
 returns-in_ok-label-in-Some-default-clause-goes g c =
-    let old = c.args.self.now in
-    let e = c.in-Some-default.exponent in
-    let labelled = c.in_ok-label-in-Some-default.ensures in (
+    let e = c.in-Some-default.exponent in (
       Some (I32 e),
       rw (c.in-Some-default.is-0) at c.in_ok-next.ensures.takes.1,
       (e, refl),
       λ number mantissa is o next first has. (
         has.0,
-        has_exponent g.S.Escape.form old.exponent _ e (line_now g.S.Escape.form old.line) (line_now g.S.Escape.form c.label.new.self) o c.args.name.now number c.args.presence c.args.part.now mantissa is next first labelled.text labelled.led (search rules) has.1,
+        has_exponent g.S.Escape.form c.args.self.now.exponent _ e o c.args.name.now number c.args.presence c.args.part.now mantissa is next first c.in_ok-label-in-Some-default.ensures (search rules) has.1,
       ),
     )
