@@ -1,20 +1,15 @@
 -- What was read of a field of a set is told: a value of its type, or that it is left out where it may be.
-use Rattle.std.proofs.Common.{◌≡◌, ◌<◌, ◌≤◌, ℕ, Bool, true, List, [], ◌∷◌, Option, Some, None, Ok, refl, length, drop, get_or, arith, Fits, w8}
-use Rattle.std.specs.Prelude.{nat_lt}
-use Rattle.std.specs.List.{AllByRecursion}
-use Rattle.std.proofs.lemmas.Bool.Decides.{nat_tests}
+use Rattle.std.proofs.Common.{◌≡◌, ◌<◌, ◌≤◌, ℕ, Bool, List, Option, Some, None, Ok, refl, length, drop, get_or, arith, Fits, w8}
 use Rattle.fast_wire.specs.declared.level.Level.{Level}
-use Rattle.fast_value.specs.Scalar.{IsScalar}
 use Rattle.fast_value.specs.declared.kind.Presence.{Presence}
 use Rattle.fast_value.specs.declared.kind.Presence.TheVariants.{Mandatory, Optional}
 use Rattle.fast_value.specs.declared.scalar.Scalar.{Scalar}
-use Rattle.fast_value.specs.declared.scalar.Scalar.TheVariants.{Ascii}
 use Rattle.fast_template.specs.declared.resolved.FieldPart.{FieldPart}
 use Rattle.fast_dictionary.specs.declared.entry.Entry.{Entry}
 use Rattle.fast_field.specs.Parts.{IsBitOf, IsKindOfPart}
-use Rattle.fast_field.specs.Refusals.{are_characters, has_characters}
 use Rattle.fast_field.specs.Within.{IsOfField}
 use Rattle.fast_field.proofs.FieldsWithin.{values_within}
+use Rattle.fast_field.proofs.Refused.{characters_there}
 use Rattle.fast_field.proofs.ReadFields.{bytes_from}
 use Rattle.fast_stream.specs.Nodes.{single}
 use Rattle.fast_walk.specs.Received.{TookFrom, Took}
@@ -29,17 +24,9 @@ use Rattle.fast_walk.specs.Told.{IsTold}
 use Rattle.fast_value.specs.declared.kind.Kind.{Kind}
 use Rattle.fast_value.specs.declared.kind.Part.{Part}
 
-characters : (s : List ℕ) → AllByRecursion (λ c. c < 128) s → are_characters s ≡ true
-characters [] all = refl
-characters (c ∷ s) all = let low = all.0 in let t : nat_lt c 128 ≡ true = grind (arith, nat_tests) in rw (t) (characters s all.1)
-
-of_characters : (v : Scalar) → IsScalar v → has_characters v ≡ true
-of_characters (Ascii s) h = characters s h.1
-of_characters v h = refl
-
 told : (form : Form) (p : FieldPart) (v : Option Scalar) → IsOfField p v → field_text form p.kind p.presence (single v) ≡ Some (said_text form v)
 told form p None of_field = rw (of_field) refl
-told form p (Some v) of_field = rw (of_field.0, of_characters v of_field.1) refl
+told form p (Some v) of_field = rw (of_field.0, characters_there v of_field.1) refl
 
 -- of a part of a set whose entry is within its type
 pub tells : {form : Form} {level : Level} {p : FieldPart} {bit : Bool} {old new : Entry} {v o : Option Scalar} {name : List ℕ} (bytes : List ℕ) (at next : ℕ) (l k : LineNow)
