@@ -40,7 +40,7 @@ all_characters : (s : List ℕ) → AllByRecursion (λ c. c < 128) s → are_cha
 all_characters [] h = refl
 all_characters (c ∷ s) h = let le = h.0 in let t : nat_lt c 128 ≡ true = grind (arith, nat_tests) in rw (t, all_characters s h.1) refl
 
-characters_there : (v : Scalar) → IsScalar v → has_characters v ≡ true
+pub characters_there : (v : Scalar) → IsScalar v → has_characters v ≡ true
 characters_there (Ascii s) h = all_characters s h.1
 characters_there v h = refl
 

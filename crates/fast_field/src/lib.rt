@@ -48,4 +48,5 @@ pub use levels::reads_as_usual;
 pub use passed::{Passed, fits, pass_found, pass_left_out};
 pub use plan::{Plan, plan_field};
 pub use read::{find_field, read_field, read_in_place};
+pub use refuse::is_spellable;
 pub use write::{write_field, write_found, write_in_place};

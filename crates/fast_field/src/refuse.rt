@@ -24,7 +24,7 @@ fn all_characters(text: &[u8]) -> bool
 
 /// Whether a string of ASCII has its characters alone.
 #[inline(always)]
-fn is_spellable(value: &Scalar) -> bool
+pub fn is_spellable(value: &Scalar) -> bool
     ensures { result ≡ has_characters value.now }
 {
     match value {

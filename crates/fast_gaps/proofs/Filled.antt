@@ -1,7 +1,6 @@
 -- Gaps that are filled: what is written behind them, a gap more, and the gaps one by one.
-use Rattle.std.proofs.Common.{◌≡◌, ◌≤◌, ◌<◌, ℕ, zero, suc, ◌+◌, ◌-◌, min, get_or, List, [], ◌∷◌, ◌++◌, length, take, drop, length-drop, length-take, refl, sym, ap, ap₂, ◌∙◌, append_assoc, append-nil, arith}
-use Rattle.std.proofs.Math.Seq.{drop-cons}
-use Rattle.std.proofs.lemmas.List.{take-append-le, drop-append-le, take-append-drop, drop-drop}
+use Rattle.std.proofs.Common.{◌≡◌, ◌≤◌, ◌<◌, ℕ, ◌+◌, ◌-◌, get_or, List, [], ◌∷◌, ◌++◌, length, take, drop, length-drop, length-take, refl, sym, ap, ap₂, ◌∙◌, append_assoc, append-nil, arith}
+use Rattle.std.proofs.lemmas.List.{drop_all, drop_min, drop_more, take_all, take-append-le, drop-append-le, drop-drop}
 use Rattle.fast_lines.specs.declared.form.Form.{Form}
 use Rattle.fast_gaps.specs.declared.gap.Gap.{Gap}
 use Rattle.fast_gaps.specs.declared.gap.PlacedGap.{PlacedGap}
@@ -39,14 +38,7 @@ texts_more (h ∷ gs) g texts = texts_more gs g (texts_behind h.gap texts)
 
 -- all of a list is its front, and nothing is behind it
 all_taken : (written fill : List ℕ) (n : ℕ) → length written ≡ n → take n written ++ (fill ++ drop n written) ≡ written ++ fill
-all_taken written fill n size =
-    let none : drop n written ≡ [] = empty_of (drop n written) (let rest = length-drop n written in omega (arith, rest, size)) in
-    let all : take n written ≡ written = sym (append-nil (take n written)) ∙ ap (λ (x : List ℕ). take n written ++ x) (sym none) ∙ take-append-drop n written in
-    rw (none, all, append-nil fill) refl
-  where
-    empty_of : (xs : List ℕ) → length xs ≡ 0 → xs ≡ []
-    empty_of [] e = refl
-    empty_of (x ∷ xs) e = absurd cc
+all_taken written fill n size = rw (take_all n written (omega (arith, size)), drop_all n written (omega (arith, size)), append-nil fill) refl
 
 pub filled_gap : (form : Form) (gs : List PlacedGap) (texts : Texts) (written : List ℕ) (n : ℕ) (gap : Gap) → closed gs + n ≡ length written
     → filled form (gs ++ (record { behind = n; gap = gap }) ∷ []) texts written ≡ filled form gs texts written ++ gap_text form gap (texts_after gs texts)
@@ -59,22 +51,6 @@ filled_gap form (h ∷ gs) texts written n gap size =
     ap (λ (x : List ℕ). take h.behind written ++ (gap_text form h.gap texts ++ x)) (filled_gap form gs later rest n gap (omega (arith, left, size)))
     ∙ ap (λ (x : List ℕ). take h.behind written ++ x) (sym (append_assoc (gap_text form h.gap texts) (filled form gs later rest) fill))
     ∙ sym (append_assoc (take h.behind written) (gap_text form h.gap texts ++ filled form gs later rest) fill)
-
--- ---- by texts that are the same under each slot
-
-pub filled_by : (form : Form) (gs : List PlacedGap) (texts others : Texts) (written : List ℕ) → ((slot : ℕ) → texts slot ≡ others slot)
-    → filled form gs texts written ≡ filled form gs others written
-filled_by form gs texts others written same = ap (λ (t : Texts). filled form gs t written) (λ i slot. same slot i)
-
--- ---- the next gap
-
-pub gap_told : (form : Form) (gs : List PlacedGap) (g : PlacedGap) (texts later : Texts) (written rest fill : List ℕ)
-    → fill ≡ take g.behind written ++ gap_text form g.gap texts → rest ≡ drop g.behind written → ((slot : ℕ) → later slot ≡ texts_behind g.gap texts slot)
-    → fill ++ filled form gs later rest ≡ filled form (g ∷ gs) texts written
-gap_told form gs g texts later written rest fill made behind same =
-    ap₂ (λ (a b : List ℕ). a ++ filled form gs later b) made behind
-    ∙ ap (λ (x : List ℕ). (take g.behind written ++ gap_text form g.gap texts) ++ x) (filled_by form gs later (texts_behind g.gap texts) (drop g.behind written) same)
-    ∙ append_assoc (take g.behind written) (gap_text form g.gap texts) (filled form gs (texts_behind g.gap texts) (drop g.behind written))
 
 -- ---- what a list of gaps keeps with one more
 
@@ -97,31 +73,14 @@ filled_behind form gs c written later more same few is = rw (is) (filled_more fo
 
 -- ---- gap by gap
 
-next_gap : (gs : List PlacedGap) (k : ℕ) (g : PlacedGap) → k < length gs → get_or gs k g ≡ g → drop k gs ≡ g ∷ drop (k + 1) gs
-next_gap gs k g within is =
-    let one : suc k ≡ k + 1 = omega arith in
-    drop-cons gs k g within ∙ ap₂ (λ (x : PlacedGap) (xs : List PlacedGap). x ∷ xs) is (ap (λ n. drop n gs) one)
-
-none_left : (n : ℕ) (xs : List ℕ) → xs ≡ [] → drop n xs ≡ []
-none_left zero xs e = e
-none_left (suc n) [] e = refl
-none_left (suc n) (x ∷ xs) e = absurd cc
-
-drop_least : (n k : ℕ) (xs : List ℕ) → k ≡ min n (length xs) → drop k xs ≡ drop n xs
-drop_least n k [] e = none_left k [] refl ∙ sym (none_left n [] refl)
-drop_least zero k (x ∷ xs) e = let none : k ≡ 0 = omega (arith, e) in ap (λ m. drop m (x ∷ xs)) none
-drop_least (suc n) zero (x ∷ xs) e = absurd (omega (arith, e))
-drop_least (suc n) (suc k) (x ∷ xs) e = drop_least n k xs (omega (arith, e))
-
 pub gap_passed : (form : Form) (gs : List PlacedGap) (k at behind : ℕ) (g : PlacedGap) (old between new : Texts) (text out fill later : List ℕ)
     → k < length gs → get_or gs k g ≡ g → behind ≡ length (take g.behind (drop at text)) → fill ≡ take g.behind (drop at text) ++ gap_text form g.gap old → later ≡ out ++ fill
     → ((slot : ℕ) → between slot ≡ old slot) → ((slot : ℕ) → new slot ≡ texts_behind g.gap between slot)
     → later ++ filled form (drop (k + 1) gs) new (drop (at + behind) text) ≡ out ++ filled form (drop k gs) old (drop at text)
 gap_passed form gs k at behind g old between new text out fill later within here few made is same passed =
     let rest = drop at text in
-    let back : drop (at + behind) text ≡ drop g.behind rest = sym (drop-drop behind at text) ∙ drop_least g.behind behind rest (few ∙ length-take g.behind rest) in
-    let texts : (slot : ℕ) → new slot ≡ texts_behind g.gap old slot = λ slot. passed slot ∙ ap (λ (t : Texts). texts_behind g.gap t slot) (λ i other. same other i) in
-    let one = gap_told form (drop (k + 1) gs) g old new rest (drop (at + behind) text) fill made back texts in
-    ap (λ (xs : List ℕ). xs ++ filled form (drop (k + 1) gs) new (drop (at + behind) text)) is
-    ∙ append_assoc out fill (filled form (drop (k + 1) gs) new (drop (at + behind) text))
-    ∙ ap (λ (xs : List ℕ). out ++ xs) (one ∙ ap (λ (xs : List PlacedGap). filled form xs old rest) (sym (next_gap gs k g within here)))
+    let back : drop (at + behind) text ≡ drop g.behind rest = sym (drop-drop behind at text) ∙ ap (λ (n : ℕ). drop n rest) (few ∙ length-take g.behind rest) ∙ drop_min g.behind rest in
+    let before : between ≡ old = λ i slot. same slot i in
+    let texts : new ≡ texts_behind g.gap old = (λ i slot. passed slot i) ∙ ap (texts_behind g.gap) before in
+    let next : drop k gs ≡ g ∷ drop (k + 1) gs = drop_more gs k g within ∙ ap (λ (h : PlacedGap). h ∷ drop (k + 1) gs) here in
+    rw (is, made, back, texts, next, append_assoc, append_assoc) refl

@@ -29,11 +29,7 @@ fn text_of(value: &Scalar) -> Option<(Units, &[u8])>
         Scalar::Ascii(text) => Some((Units::Characters, text.as_slice())),
         Scalar::Unicode(text) => Some((Units::Characters, text.as_bytes())),
         Scalar::Bytes(bytes) => Some((Units::Bytes, bytes.as_slice())),
-        Scalar::U32(_)
-        | Scalar::I32(_)
-        | Scalar::U64(_)
-        | Scalar::I64(_)
-        | Scalar::Decimal { .. } => None,
+        _ => None,
     }
 }
 
@@ -120,9 +116,7 @@ fn cut_gap(
 {
     let slot = match part.operator {
         Operator::Plain | Operator::Constant | Operator::Default => None,
-        Operator::Copy | Operator::Increment | Operator::Delta | Operator::Tail => {
-            Some(part.key.slot)
-        }
+        _ => Some(part.key.slot),
     };
     let (initial, removal, added) = shorter_cut(part, last_of(texts, slot), text)?;
     let part = added.to_vec(alloc)?;
@@ -154,10 +148,8 @@ pub(crate) fn text_gap(
             if text.len() <= FEW {
                 return Ok(None);
             }
-            match cut_gap(alloc, part, units, text, texts) {
-                Err(error) => Err(error),
-                Ok(gap) => Ok(Some(gap)),
-            }
+            let gap = cut_gap(alloc, part, units, text, texts)?;
+            Ok(Some(gap))
         }
     }
 }
@@ -204,17 +196,6 @@ fn push_units<S: Signs>(
     }
 }
 
-// Sees that there is room for the text of a slot.
-fn make_room(alloc: Global, slot: Option<u32>, texts: &mut Texts) -> Result<(), AllocError>
-    ensures same { (other : ℕ) → texts_in texts.new other ≡ texts_in texts.old other }
-    ensures room { OnOk result (HasRoom slot texts.new) }
-{
-    match slot {
-        Some(slot) => texts.make_room(alloc, slot),
-        None => Ok(()),
-    }
-}
-
 /// Appends what fills a gap; of a text it makes that text, and sees that there is room for it.
 pub(crate) fn fill<S: Signs>(
     signs: S,
@@ -237,13 +218,11 @@ pub(crate) fn fill<S: Signs>(
             removal,
             part,
         } => {
-            make_room(alloc, *slot, texts)?;
-            put_in(
-                base_of(initial, last_of(texts, *slot)),
-                *removal,
-                part,
-                text,
-            )?;
+            if let Some(slot) = slot {
+                texts.make_room(alloc, *slot)?;
+            }
+            let base = base_of(initial, last_of(texts, *slot));
+            put_in(base, *removal, part, text)?;
             push_units(signs, *units, text, out)
         }
     }

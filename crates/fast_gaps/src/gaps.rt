@@ -109,18 +109,14 @@ impl Gaps {
             Ok(None) => Ok(false),
             Ok(Some(gap)) => {
                 let behind = written - self.closed;
-                match self.placed.push(PlacedGap { behind, gap }) {
-                    Err(error) => {
-                        self.placed.clear();
-                        self.closed = 0;
-                        self.texts.clear();
-                        Err(error.into())
-                    }
-                    Ok(()) => {
-                        self.closed = written;
-                        Ok(true)
-                    }
+                if let Err(error) = self.placed.push(PlacedGap { behind, gap }) {
+                    self.placed.clear();
+                    self.closed = 0;
+                    self.texts.clear();
+                    return Err(error.into());
                 }
+                self.closed = written;
+                Ok(true)
             }
         }
     }

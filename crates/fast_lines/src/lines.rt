@@ -1,11 +1,9 @@
 //! Messages of any template set as lines, and what a check says.
 
-ghost use Rattle.std.specs.Prelude.{◌≡◌, ◌++◌, ◌&&◌, ◌≤◌, [], Some, None, IfSome, OnOk, codes, map};
+ghost use Rattle.std.specs.Prelude.{◌≡◌, ◌++◌, ◌≤◌, [], Some, None, IfSome, OnOk, codes, map};
 ghost use Rattle.fast_lines.specs.Pieces.{laid};
 ghost use Rattle.std.specs.Option.{option_copied};
 ghost use Rattle.fast_template.specs.Resolved.{instruction_of, list_of, resolved_of};
-ghost use Rattle.fast_value.specs.Scalar.{is_of};
-ghost use Rattle.fast_field.specs.Refusals.{are_characters, has_characters};
 ghost use Rattle.fast_stream.specs.Nodes.{single, item_of, items_in, elements_of, content_of};
 ghost use Rattle.fast_lines.specs.declared.form.Form.{Form as FormOf};
 ghost use Rattle.fast_lines.specs.Lines.{absent_text, braced, elements_text, field_text, group_text, sequence_text, label, line_by, line_in, member_text, members_text, scalar_text, value_text, ok_text, said_text};
@@ -18,8 +16,10 @@ use crate::form::{Form, JsonSigns, TextSigns};
 use crate::piece::Piece;
 use crate::signs::Signs;
 use crate::strings::{lay_quoted, push_quoted};
+use fast_field::is_spellable;
 use fast_stream::{Message, Node};
 use fast_template::{Flat, FlatTemplate, Kind, Presence, Scalar, TemplateSet};
+use fast_value::is_of_kind;
 use std::alloc::AllocError;
 use thiserror::Error;
 
@@ -40,14 +40,6 @@ impl From<AllocError> for ShowFault {
     fn from(_: AllocError) -> Self {
         ShowFault::Memory
     }
-}
-
-/// Whether each byte is a character of ASCII.
-#[tactic(auto, using(fast_field::proofs::RefusalSteps::characters_told))]
-fn all_characters(text: &[u8]) -> bool
-    ensures { result ≡ are_characters text.now }
-{
-    text.is_ascii()
 }
 
 /// Appends a value of any type.
@@ -93,22 +85,6 @@ pub fn lay_scalar<S: Signs>(signs: S, value: Option<&Scalar>, piece: &mut Piece)
     }
 }
 
-/// Whether a value is of a type, and of ASCII has characters up to 127.
-fn fits(kind: Kind, value: &Scalar) -> bool
-    ensures { result ≡ (is_of kind value.now && has_characters value.now) }
-{
-    match value {
-        Scalar::U32(_) => kind == Kind::UInt32,
-        Scalar::I32(_) => kind == Kind::Int32,
-        Scalar::U64(_) => kind == Kind::UInt64,
-        Scalar::I64(_) => kind == Kind::Int64,
-        Scalar::Decimal { .. } => kind == Kind::Decimal,
-        Scalar::Ascii(text) => kind == Kind::Ascii && all_characters(text.as_slice()),
-        Scalar::Unicode(_) => kind == Kind::Unicode,
-        Scalar::Bytes(_) => kind == Kind::Bytes,
-    }
-}
-
 /// Appends a value of a type.
 fn show_value<S: Signs>(
     signs: S,
@@ -118,7 +94,7 @@ fn show_value<S: Signs>(
 ) -> Result<(), ShowFault>
     ensures { Shows (value_text S.form kind value.now) result out.old.items out.new.items }
 {
-    if !fits(kind, value) {
+    if !is_of_kind(kind, value) || !is_spellable(value) {
         return Err(ShowFault::Mismatch);
     }
     push_scalar(signs, value, out)?;
@@ -152,8 +128,7 @@ fn show_field<S: Signs>(
     match node {
         Node::Value(value) => show_value(signs, kind, value, out),
         Node::Absent => show_absent(signs, presence, out),
-        Node::Group(_) => Err(ShowFault::Mismatch),
-        Node::Sequence(_) => Err(ShowFault::Mismatch),
+        Node::Group(_) | Node::Sequence(_) => Err(ShowFault::Mismatch),
     }
 }
 
@@ -162,10 +137,10 @@ fn name_of(flat: &Flat) -> &str
     ensures { (form : FormOf) → label_text form result.now ≡ label form (instruction_of flat.now) }
 {
     match flat {
-        Flat::Field { name, .. } => name.as_str(),
-        Flat::Parts { name, .. } => name.as_str(),
-        Flat::Group { name, .. } => name.as_str(),
-        Flat::Sequence { name, .. } => name.as_str(),
+        Flat::Field { name, .. }
+        | Flat::Parts { name, .. }
+        | Flat::Group { name, .. }
+        | Flat::Sequence { name, .. } => name.as_str(),
     }
 }
 
@@ -215,8 +190,7 @@ fn show_group<S: Signs>(
     match node {
         Node::Group(nodes) => show_braced(signs, members, nodes, out),
         Node::Absent => show_absent(signs, presence, out),
-        Node::Value(_) => Err(ShowFault::Mismatch),
-        Node::Sequence(_) => Err(ShowFault::Mismatch),
+        Node::Value(_) | Node::Sequence(_) => Err(ShowFault::Mismatch),
     }
 }
 
@@ -261,8 +235,7 @@ fn show_sequence<S: Signs>(
             Ok(())
         }
         Node::Absent => show_absent(signs, presence, out),
-        Node::Value(_) => Err(ShowFault::Mismatch),
-        Node::Group(_) => Err(ShowFault::Mismatch),
+        Node::Value(_) | Node::Group(_) => Err(ShowFault::Mismatch),
     }
 }
 

@@ -1,15 +1,13 @@
 -- A message that has a form is not refused.
-use Rattle.std.proofs.Common.{◌≡◌, ◌%◌, ◌<◌, ◌≤◌, ℕ, zero, suc, Bool, true, false, List, [], ◌∷◌, ◌++◌, length, drop, Option, Some, None, Result, Ok, refl, sym, ap, subst, ◌∙◌, arith, append-nil}
-use Rattle.std.specs.Prelude.{not, nat_lt}
-use Rattle.std.specs.List.{AllByRecursion}
-use Rattle.std.proofs.lemmas.Bool.{le-ltb, lt-ltb}
+use Rattle.std.proofs.Common.{◌≡◌, ◌%◌, ◌≤◌, ℕ, zero, suc, Bool, true, false, List, [], ◌∷◌, ◌++◌, length, drop, Option, Some, None, Result, Ok, refl, sym, ap, subst, ◌∙◌, arith, append-nil}
+use Rattle.std.specs.Prelude.{not}
+use Rattle.std.proofs.lemmas.Bool.{le-ltb}
 use Rattle.std.proofs.lemmas.List.{append_assoc, length-map}
 use Rattle.fast_wire.specs.declared.level.Level.TheVariants.{Usual}
-use Rattle.fast_value.specs.Scalar.{IsScalar}
 use Rattle.fast_value.specs.declared.kind.Presence.{Presence}
 use Rattle.fast_value.specs.declared.kind.Presence.TheVariants.{Mandatory, Optional}
 use Rattle.fast_value.specs.declared.scalar.Scalar.{Scalar}
-use Rattle.fast_value.specs.declared.scalar.Scalar.TheVariants.{U32, I32, I64, Decimal, Ascii, Unicode, Bytes}
+use Rattle.fast_value.specs.declared.scalar.Scalar.TheVariants.{U32, I32, I64, Decimal}
 use Rattle.fast_template.specs.declared.resolved.FieldPart.{FieldPart}
 use Rattle.fast_template.specs.Resolved.{Instruction, Instructions, whole_field, field_in_parts, group_of, sequence_of, no_instructions, then_instruction, part_needs_bit, is_optional, has_map}
 use Rattle.fast_template.specs.TemplateSets.{TemplateList, templates_in, IsSound}
@@ -22,13 +20,12 @@ use Rattle.fast_wire.proofs.MapBits.{length_bits}
 use Rattle.fast_field.specs.Fields.{Form}
 use Rattle.fast_field.specs.Parts.{IsFieldPart, EachPart, EachPartIn}
 use Rattle.fast_field.specs.Planning.{left_out_of}
-use Rattle.fast_field.specs.Refusals.{are_characters, has_characters}
 use Rattle.fast_field.specs.Values.{units_of}
 use Rattle.fast_field.specs.Within.{IsOfField}
 use Rattle.fast_field.proofs.BestValues.{can_be_left_out}
 use Rattle.fast_field.proofs.FieldsWithin.{values_within}
 use Rattle.fast_field.proofs.PartsOfSets.{parts_of_sets}
-use Rattle.fast_field.proofs.Refused.{not_refused}
+use Rattle.fast_field.proofs.Refused.{characters_there, few_units as units_few, not_refused}
 use Rattle.fast_stream.specs.Bits.{bit_for, after_bit}
 use Rattle.fast_stream.specs.Nodes.{Item, single, group_items, sequence_elements, Items, no_items, then_item, Elements, no_elements, then_element, element_count, nodes_of, nodes_in, nodes_in_elements, node_limit, Content}
 use Rattle.fast_stream.specs.Bodies.{State, Then, Each, WithMap, SegmentBy, PartBy, PieceBy, BodyBy, written}
@@ -123,23 +120,9 @@ part_passes p v s b t is holds h =
       holds = subst HoldScalars (sym after) (form_holds p s.dictionary bit b v is holds h.0);
     }
 
-all_characters : (s : List ℕ) → AllByRecursion (λ c. c < 128) s → are_characters s ≡ true
-all_characters [] h = refl
-all_characters (c ∷ s) h = rw (lt-ltb c 128 h.0) (all_characters s h.1)
-
-characters : (v : Scalar) → IsScalar v → has_characters v ≡ true
-characters (Ascii s) h = all_characters s h.1
-characters v h = refl
-
-units_few : (v : Scalar) → IsScalar v → nat_lt 65535 (length (units_of v)) ≡ false
-units_few (Ascii s) h = le-ltb 65535 (length s) h.0
-units_few (Unicode s) h = le-ltb 65535 (length s) h.0
-units_few (Bytes s) h = le-ltb 65535 (length s) h.0
-units_few v h = refl
-
 value_allowed : (p : FieldPart) (v : Option Scalar) → IsOfField p v → (value_fits p v ≡ true) × (item_is_large (single v) ≡ false)
 value_allowed p None h = (rw h refl, refl)
-value_allowed p (Some v) h = (rw (h.0, characters v h.1) refl, units_few v h.1)
+value_allowed p (Some v) h = (rw (h.0, characters_there v h.1) refl, le-ltb 65535 (length (units_of v)) (units_few v h.1))
 
 part_value : (p : FieldPart) (v : Option Scalar) (s : State) (b : List ℕ) (t : State) → IsFieldPart p → HoldScalars s.dictionary → PartBy (Form Usual) p s b v t → IsOfField p v
 part_value p v s b t is holds h = (values_within p (entry_at s.dictionary p.key) (bit_for (part_needs_bit p) s.bits) b v is (holds p.key) h.0).of_field

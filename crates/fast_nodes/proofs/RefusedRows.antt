@@ -1,5 +1,5 @@
 -- Worked rows: why a message is not written, computed by the definition.
-use Rattle.std.proofs.Common.{◌≡◌, ℕ, true, List, [], ◌∷◌, Option, Some, pos, negsuc, refl}
+use Rattle.std.proofs.Common.{◌≡◌, ℕ, true, List, [], ◌∷◌, Option, Some, pos, negsuc, map, refl}
 use Rattle.std.specs.Prelude.{codes, nat_lt, length}
 use Rattle.std.specs.FinMap as finite
 use Rattle.fast_template.proofs.WorkedSet.{worked_set}
@@ -18,25 +18,19 @@ Answers m f = first_refusal worked_set finite.empty m ≡ f
 abbrev of_instruction : EncodeCause → ℕ → Option EncodeFault
 of_instruction c n = Some (record { cause = c; instruction = n })
 
-unknown_template : Answers (message 100 []) (Some (refused cause.D9))
-unfolding value_refusal
-unknown_template = refl
+abbrev AllAnswer : List (Content × Option EncodeFault) → Type 0
+AllAnswer rows = map (λ r. first_refusal worked_set finite.empty r.0) rows ≡ map (λ r. r.1) rows
 
-three_nodes : Answers (message 1 (u32 1 ∷ text (codes "AB") ∷ decimal (negsuc 1) (pos 100) ∷ [])) (Some (refused cause.Mismatch))
+refused_rows : AllAnswer (
+    (message 100 [], Some (refused cause.D9)) ∷
+    (message 1 (u32 1 ∷ text (codes "AB") ∷ decimal (negsuc 1) (pos 100) ∷ []), Some (refused cause.Mismatch)) ∷
+    (message 1 (u32 1 ∷ text (codes "AB") ∷ decimal (pos 64) (pos 1) ∷ absent ∷ []), of_instruction cause.R1 3) ∷
+    (message 14 (u32 8 ∷ absent ∷ u32 3 ∷ []), of_instruction cause.NotConstant 1) ∷
+    (message 15 (decimal (negsuc 0) (pos 100) ∷ absent ∷ []), of_instruction cause.D3 1) ∷
+    (message 1 (absent ∷ text (codes "AB") ∷ decimal (pos 64) (pos 1) ∷ absent ∷ []), Some (refused cause.Mismatch)) ∷
+    [])
 unfolding value_refusal
-three_nodes = refl
-
-far_exponent : Answers (message 1 (u32 1 ∷ text (codes "AB") ∷ decimal (pos 64) (pos 1) ∷ absent ∷ [])) (of_instruction cause.R1 3)
-unfolding value_refusal
-far_exponent = refl
-
-other_constant : Answers (message 14 (u32 8 ∷ absent ∷ u32 3 ∷ [])) (of_instruction cause.NotConstant 1)
-unfolding value_refusal
-other_constant = refl
-
-other_exponent : Answers (message 15 (decimal (negsuc 0) (pos 100) ∷ absent ∷ [])) (of_instruction cause.D3 1)
-unfolding value_refusal
-other_exponent = refl
+refused_rows = refl
 
 -- the limit of nodes comes before the fields
 too_many_units : (s : List ℕ) → are_characters s ≡ true → nat_lt 65535 (length s) ≡ true
@@ -49,7 +43,3 @@ no_character : (s : List ℕ) → nat_lt 65535 (length s) ≡ true
     → Answers (message 1 (u32 1 ∷ text (128 ∷ s) ∷ decimal (pos 64) (pos 1) ∷ absent ∷ [])) (Some (refused cause.Mismatch))
 unfolding value_refusal
 no_character s long = refl
-
-absent_mandatory : Answers (message 1 (absent ∷ text (codes "AB") ∷ decimal (pos 64) (pos 1) ∷ absent ∷ [])) (Some (refused cause.Mismatch))
-unfolding value_refusal
-absent_mandatory = refl

@@ -20,7 +20,8 @@ use Rattle.fast_nodes.specs.FirstRefusal.{item_is_large, has_large, has_large_in
 use Rattle.fast_writer.specs.Written.{Segment, state, bits_for, Asked, IsEmpty}
 use Rattle.fast_nodes.proofs.Additions.{adds_then, body_none, elements_none, elements_more, group_added, not_sealed, segment_added, sequence_added}
 use Rattle.fast_nodes.proofs.Changes.{goes_same, goes_then}
-use Rattle.fast_nodes.proofs.Views.{count_seen, is_elements, is_group, is_items, is_sequence, seen}
+use Rattle.fast_walk.proofs.Pieces.{is_group, is_sequence}
+use Rattle.fast_nodes.proofs.Views.{count_seen, is_elements, is_items, seen}
 
 -- ---- what is known of each
 

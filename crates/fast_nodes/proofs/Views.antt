@@ -1,12 +1,10 @@
 -- What instructions and nodes with others inside are to contracts.
-use Rattle.std.proofs.Common.{◌≡◌, ◌≢◌, false, ℕ, suc, sym, List, [], ◌∷◌, Some, None, length, map, ap, ◌∙◌, refl, arith}
+use Rattle.std.proofs.Common.{◌≡◌, ◌≢◌, false, suc, sym, List, [], ◌∷◌, Some, None, length, map, ap, ◌∙◌, refl, arith}
 use Rattle.std.proofs.lemmas.Bool.{and_right}
 use Rattle.std.specs.Global.{Vec}
-use Rattle.fast_value.specs.declared.kind.Presence.{Presence}
-use Rattle.fast_template.specs.declared.resolved.FieldPart.{FieldPart}
-use Rattle.fast_template.specs.declared.resolved.Flat.{Flat, fold_out-Flat}
-use Rattle.fast_template.specs.declared.resolved.Flat.TheVariants.{Parts, outs-Parts, Group, outs-Group, Sequence, outs-Sequence}
-use Rattle.fast_template.specs.Resolved.{Instruction, flat_step, instruction_of, list_of, field_in_parts, group_of, sequence_of}
+use Rattle.fast_template.specs.declared.resolved.Flat.{Flat}
+use Rattle.fast_template.specs.declared.resolved.Flat.TheVariants.{Group, Sequence}
+use Rattle.fast_template.specs.Resolved.{instruction_of, list_of}
 use Rattle.fast_value.specs.declared.scalar.Scalar.{Scalar}
 use Rattle.fast_stream.specs.declared.message.Node.{Node, fold_out-Node}
 use Rattle.fast_stream.specs.declared.message.Node.TheVariants.{outs-Absent, outs-Value}
@@ -21,18 +19,6 @@ seen es = elements_of (map (λ e. items_in e.items) es)
 pub count_seen : (es : List (Vec Node)) → element_count (seen es) ≡ length es
 count_seen [] = refl
 count_seen (e ∷ es) = let h = count_seen es in omega (arith, h)
-
-pub is_group : {flat : Flat} {name : List ℕ} {number : ℕ} {presence : Presence} (members : Vec Flat) → flat ≡ Group name number presence members → instruction_of flat ≡ group_of name number presence (list_of members.items)
-is_group {name} {number} {presence} members is = ap instruction_of is ∙ fold_out-Flat Instruction flat_step (Group name number presence members) ∙ rw (outs-Group name number presence members) refl
-
-pub is_sequence : {flat : Flat} {name : List ℕ} {number : ℕ} {presence : Presence} {part : FieldPart} (members : Vec Flat) → flat ≡ Sequence name number presence part members
-    → instruction_of flat ≡ sequence_of name number presence part (list_of members.items)
-is_sequence {name} {number} {presence} {part} members is =
-    ap instruction_of is ∙ fold_out-Flat Instruction flat_step (Sequence name number presence part members) ∙ rw (outs-Sequence name number presence part members) refl
-
-pub is_parts : {flat : Flat} {name : List ℕ} {number : ℕ} {presence : Presence} {exponent mantissa : FieldPart} → flat ≡ Parts name number presence exponent mantissa
-    → instruction_of flat ≡ field_in_parts name number presence exponent mantissa
-is_parts {name} {number} {presence} {exponent} {mantissa} is = ap instruction_of is ∙ fold_out-Flat Instruction flat_step (Parts name number presence exponent mantissa) ∙ rw (outs-Parts name number presence exponent mantissa) refl
 
 pub is_items : {node : Node} (ns : Vec Node) → node ≡ nodes.Group ns → item_of node ≡ group_items (items_in ns.items)
 is_items ns is = ap item_of is ∙ item_of-group ns

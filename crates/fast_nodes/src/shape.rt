@@ -1,34 +1,14 @@
 //! Whether a message is of its template's shape, and not too large.
 
-ghost use Rattle.std.specs.Prelude.{◌≡◌, Some, map};
-ghost use Rattle.std.specs.Option.{option_copied};
+ghost use Rattle.std.specs.Prelude.{◌≡◌, map};
 ghost use Rattle.fast_template.specs.Resolved.{instruction_of, is_optional, list_of};
-ghost use Rattle.fast_value.specs.Scalar.{is_of};
-ghost use Rattle.fast_field.specs.Refusals.{has_characters};
 ghost use Rattle.fast_stream.specs.Nodes.{elements_of, item_of, items_in, items_of};
-ghost use Rattle.fast_nodes.specs.FirstRefusal.{elements_fit, item_fits, items_fit, value_fits};
+ghost use Rattle.fast_nodes.specs.FirstRefusal.{elements_fit, item_fits, items_fit};
 
+use fast_field::is_spellable;
 use fast_stream::Node;
-use fast_template::{FieldPart, Flat, Presence, Scalar};
+use fast_template::{Flat, Presence, Scalar};
 use fast_value::is_of_kind;
-
-// Whether a string of ASCII has its characters alone.
-#[tactic(auto, using(fast_field::proofs::RefusalSteps::characters_told))]
-fn is_spellable(value: &Scalar) -> bool
-    ensures { result ≡ has_characters value.now }
-{
-    match value {
-        Scalar::Ascii(text) => text.as_slice().is_ascii(),
-        _ => true,
-    }
-}
-
-// Whether a value is one of the part's type.
-fn value_is(part: &FieldPart, value: &Scalar) -> bool
-    ensures { result ≡ value_fits part.now (Some value.now) }
-{
-    is_of_kind(part.kind, value) && is_spellable(value)
-}
 
 /// Whether what has this presence may be left out.
 pub(crate) fn may_be_absent(presence: Presence) -> bool
@@ -48,7 +28,7 @@ fn fits(flat: &Flat, node: &Node) -> bool
     match flat {
         Flat::Field { whole, .. } => match node {
             Node::Absent => may_be_absent(whole.presence),
-            Node::Value(value) => value_is(whole, value),
+            Node::Value(value) => is_of_kind(whole.kind, value) && is_spellable(value),
             Node::Group(_) | Node::Sequence(_) => false,
         },
         Flat::Parts { exponent, .. } => match node {

@@ -1,27 +1,13 @@
 //! How many nodes a message has, and whether one is too large.
 
-ghost use Rattle.std.specs.Prelude.{◌≡◌, length};
-ghost use Rattle.fast_field.specs.Values.{units_of};
 ghost use Rattle.fast_stream.specs.Nodes.{item_of, items_in, nodes_in, nodes_of};
 ghost use Rattle.fast_nodes.specs.FirstRefusal.{IsLeft, has_large, item_is_large};
 
+use fast_field::units;
 use fast_stream::Node;
-use fast_template::Scalar;
 
 /// The most characters or bytes of a value, and the most elements of a sequence.
 const SIZE_LIMIT: usize = 65_535;
-
-// How many characters or bytes a value has; a number has none.
-fn units(value: &Scalar) -> usize
-    ensures { result ≡ length (units_of value.now) }
-{
-    match value {
-        Scalar::Ascii(text) => text.as_slice().len(),
-        Scalar::Unicode(text) => text.as_bytes().len(),
-        Scalar::Bytes(bytes) => bytes.as_slice().len(),
-        _ => 0,
-    }
-}
 
 // Of so many nodes that may still come, how many may come behind this one; none where it has more, or one too large.
 #[cycle(size)]
@@ -34,7 +20,7 @@ fn left_behind(node: &Node, left: usize) -> Option<usize>
     match node {
         Node::Absent => Some(left - 1),
         Node::Value(value) => {
-            if units(value) > SIZE_LIMIT {
+            if units(value).len() > SIZE_LIMIT {
                 None
             } else {
                 Some(left - 1)

@@ -1,5 +1,5 @@
 -- What is taken of a part is of its type, and of a mandatory one it is there.
-use Rattle.std.proofs.Common.{◌≡◌, ◌<◌, ℕ, Bool, true, List, Option, Some, None, drop, get_or, subst, ◌∙◌}
+use Rattle.std.proofs.Common.{◌≡◌, ◌<◌, ℕ, Bool, true, List, Option, Some, None, Result, Ok, Err, ap, drop, get_or, subst, ◌∙◌}
 use Rattle.std.specs.Prelude.{IfSome, IsTrue}
 use Rattle.fast_wire.specs.declared.level.Level.{Level}
 use Rattle.fast_value.specs.Scalar.{is_of}
@@ -8,18 +8,27 @@ use Rattle.fast_value.specs.declared.kind.Part.{Part}
 use Rattle.fast_value.specs.declared.kind.Presence.TheVariants.{Mandatory}
 use Rattle.fast_value.specs.declared.scalar.Scalar.{Scalar}
 use Rattle.fast_template.specs.declared.resolved.FieldPart.{FieldPart}
-use Rattle.fast_dictionary.specs.Dictionary.{Dictionary}
+use Rattle.fast_dictionary.specs.Dictionary.{Dictionary, entry_at, set_entry, set_entry-there}
 use Rattle.fast_dictionary.specs.declared.entry.Entry.{Entry}
 use Rattle.fast_field.specs.AsUsual.{ReadsAsUsual}
 use Rattle.fast_field.specs.Parts.{IsBitOf, IsKindOfPart}
-use Rattle.fast_relay.specs.Relayed.{Takes}
+use Rattle.fast_relay.specs.Relayed.{Takes as TakesAtOnce}
 use Rattle.fast_walk.specs.Received.{Took, TookFrom}
 use Rattle.fast_walk.specs.Told.{IsTold}
+use Rattle.fast_walk.proofs.Passings.{took_of}
+use Rattle.fast_field.specs.declared.fault.FieldFault.{FieldFault}
+use Rattle.fast_part.specs.Taking.{Takes, TakesFrom}
 use Rattle.fast_walk.proofs.Telling.{told_kind, told_there}
 
 -- what is taken at once where it is read as at the usual level
-pub took_as_usual : {level : Level} {p : FieldPart} {old new : Entry} {v : Scalar} {bytes rest : List ℕ} → ReadsAsUsual level p bytes → Takes p old new v bytes rest → TookFrom level p true old new (Some v) bytes rest
+pub took_as_usual : {level : Level} {p : FieldPart} {old new : Entry} {v : Scalar} {bytes rest : List ℕ} → ReadsAsUsual level p bytes → TakesAtOnce p old new v bytes rest → TookFrom level p true old new (Some v) bytes rest
 took_as_usual {old} usual h = record { value = λ more. usual old more ∙ h.read more; entry = h.entry }
+
+-- what is taken into the entry that is put under its key
+pub under_key : {A : Type 0} (value : A → Option Scalar) (level : Level) (p : FieldPart) (bit : Bool) (bytes : List ℕ) (at : ℕ) (old new : Entry) (d e : Dictionary) (r : Result (A × ℕ) FieldFault)
+    → old ≡ entry_at d p.key → e ≡ set_entry d p.key new → TakesFrom value level p bit bytes at old new r → Takes value level p bit bytes at d e r
+under_key value level p bit bytes at old new d e (Ok x) is put taken = (taken.0, took_of is put taken.1.entry taken.1.value)
+under_key value level p bit bytes at old new d e (Err f) is put stops = λ other. (rw is at (stops other).0, put ∙ ap (set_entry d p.key) ((stops other).1 ∙ is) ∙ set_entry-there d p.key)
 
 module _ (level : Level) (p : FieldPart) (bit : Bool) (d e : Dictionary) (bytes : List ℕ) (at next : ℕ) (fits : (k : ℕ) → get_or bytes k 0 < 256) (asked : IsBitOf p bit) (part : Part) (kind : Kind) (k : IsKindOfPart part kind) (told : IsTold part kind p) where
   pub kind_taken : (v : Option Scalar) → Took level p bit d e v (drop at bytes) (drop next bytes) → IfSome v (λ x. IsTrue (is_of kind x))

@@ -1,6 +1,6 @@
 //! Taking the value of a part from the bytes.
 
-ghost use Rattle.std.specs.Prelude.{◌≡◌, ◌≢◌, ◌≤◌, ℕ, List, false, true, IfOk, IfErr, IfNone, IfSome, IsTrue, Err, None, Some, length, drop};
+ghost use Rattle.std.specs.Prelude.{◌≡◌, ◌≢◌, ◌≤◌, ℕ, List, false, true, IfOk, IfNone, IfSome, IsTrue, None, Some, length};
 ghost use Rattle.std.specs.Option.{option_copied};
 ghost use Rattle.fast_wire.specs.declared.level.Level as level_type;
 ghost use Rattle.fast_value.specs.Scalar.{is_of};
@@ -9,11 +9,10 @@ ghost use Rattle.fast_value.specs.declared.kind.Part.TheVariants.{Exponent, Leng
 ghost use Rattle.fast_value.specs.declared.kind.Presence.TheVariants.{Mandatory};
 ghost use Rattle.fast_value.specs.declared.scalar.Scalar.TheVariants.{I64, U32};
 ghost use Rattle.fast_template.specs.Resolved.{part_needs_bit};
-ghost use Rattle.fast_dictionary.specs.Dictionary.{entry_at};
-ghost use Rattle.fast_field.specs.FieldReading.{field_at};
 ghost use Rattle.fast_field.specs.Found.{value_found};
 ghost use Rattle.fast_stream.specs.Streams.{identifier as identifier_part};
-ghost use Rattle.fast_walk.specs.Received.{Took, TookFrom, exponent_of, length_of};
+ghost use Rattle.fast_walk.specs.Received.{TookFrom, exponent_of, length_of};
+ghost use Rattle.fast_part.specs.Taking.{Takes, TakesFrom};
 ghost use Rattle.fast_walk.specs.Told.{IsTold};
 
 use fast_dictionary::{Entries, Entry};
@@ -69,12 +68,7 @@ fn take_generally(
     at: usize,
 ) -> Result<(Option<Scalar>, usize), FieldFault>
     requires { at ≤ length bytes.now }
-    ensures place { IfOk result (λ x. (at ≤ x.1) × (x.1 ≤ length bytes.now)) }
-    ensures taken { IfOk result (λ x. TookFrom level part.now bit entry.old entry.new x.0
-        (drop at bytes.now) (drop x.1 bytes.now)) }
-    ensures stops { IfErr result (λ f. f ≢ FieldFault.Memory
-        → (field_at level part.now entry.old bit (drop at bytes.now) ≡ Err f)
-        × (entry.new ≡ entry.old)) }
+    ensures { TakesFrom (λ value. value) level part.now bit bytes.now at entry.old entry.new result }
 {
     let (found, next) = read_in_place(alloc, part, entry, bit, level, bytes, at)?;
     let value = found.into_value(alloc, part, entry.view())?;
@@ -93,12 +87,7 @@ fn take_value(
     at: usize,
 ) -> Result<(Option<Scalar>, usize), FieldFault>
     requires { at ≤ length bytes.now }
-    ensures place { IfOk result (λ x. (at ≤ x.1) × (x.1 ≤ length bytes.now)) }
-    ensures taken { IfOk result (λ x. TookFrom level part.now bit entry.old entry.new x.0
-        (drop at bytes.now) (drop x.1 bytes.now)) }
-    ensures stops { IfErr result (λ f. f ≢ FieldFault.Memory
-        → (field_at level part.now entry.old bit (drop at bytes.now) ≡ Err f)
-        × (entry.new ≡ entry.old)) }
+    ensures { TakesFrom (λ value. value) level part.now bit bytes.now at entry.old entry.new result }
 {
     if let Some(found) = take_given(part, entry, bit) {
         let value = copied(alloc, found.value(part, entry.view()))?;
@@ -135,14 +124,8 @@ pub fn take_part<E: Entries>(
 ) -> Result<(Option<Scalar>, usize), FieldFault>
     requires place { at ≤ length bytes.now }
     requires served { IsTrue (E.serves entries.now part.now.key) }
-    ensures place { IfOk result (λ x. (at ≤ x.1) × (x.1 ≤ length bytes.now)) }
-    ensures took { IfOk result (λ x. Took level part.now bit (E.contents entries.old) (E.contents
-        entries.new) x.0
-        (drop at bytes.now) (drop x.1 bytes.now)) }
-    ensures stops { IfErr result (λ f. f ≢ FieldFault.Memory
-        → (field_at level part.now (entry_at (E.contents entries.old) part.now.key) bit (drop at
-        bytes.now) ≡ Err f)
-        × (E.contents entries.new ≡ E.contents entries.old)) }
+    ensures takes { Takes (λ value. value) level part.now bit bytes.now at (E.contents entries.old)
+        (E.contents entries.new) result }
     ensures same_keys { E.serves entries.new ≡ E.serves entries.old }
 {
     let entry = entries.entry_mut(&part.key)?;
@@ -207,13 +190,8 @@ pub fn take_identifier<E: Entries>(
     requires bit { part_needs_bit identifier.now ≡ false → bit ≡ true }
     requires served { IsTrue (E.serves entries.now identifier.now.key) }
     requires told { identifier.now ≡ identifier_part }
-    ensures place { IfOk result (λ x. (at ≤ x.1) × (x.1 ≤ length bytes.now)) }
-    ensures took { IfOk result (λ x. Took level identifier.now bit (E.contents entries.old) (E.contents
-        entries.new) (Some (U32 x.0)) (drop at bytes.now) (drop x.1 bytes.now)) }
-    ensures stops { IfErr result (λ f. f ≢ FieldFault.Memory
-        → (field_at level identifier.now (entry_at (E.contents entries.old) identifier.now.key) bit (drop at
-        bytes.now) ≡ Err f)
-        × (E.contents entries.new ≡ E.contents entries.old)) }
+    ensures takes { Takes (λ id. Some (U32 id)) level identifier.now bit bytes.now at (E.contents entries.old)
+        (E.contents entries.new) result }
     ensures same_keys { E.serves entries.new ≡ E.serves entries.old }
 {
     let (value, next) = take_part(alloc, entries, identifier, bit, level, bytes, at)?;
@@ -242,13 +220,8 @@ pub fn take_length<E: Entries>(
     requires bit { part_needs_bit part.now ≡ false → bit ≡ true }
     requires served { IsTrue (E.serves entries.now part.now.key) }
     requires told { IsTold Length UInt32 part.now }
-    ensures place { IfOk result (λ x. (at ≤ x.1) × (x.1 ≤ length bytes.now)) }
-    ensures took { IfOk result (λ x. Took level part.now bit (E.contents entries.old) (E.contents
-        entries.new) (length_of x.0) (drop at bytes.now) (drop x.1 bytes.now)) }
-    ensures stops { IfErr result (λ f. f ≢ FieldFault.Memory
-        → (field_at level part.now (entry_at (E.contents entries.old) part.now.key) bit (drop at
-        bytes.now) ≡ Err f)
-        × (E.contents entries.new ≡ E.contents entries.old)) }
+    ensures takes { Takes length_of level part.now bit bytes.now at (E.contents entries.old)
+        (E.contents entries.new) result }
     ensures same_keys { E.serves entries.new ≡ E.serves entries.old }
 {
     let (value, next) = take_part(alloc, entries, part, bit, level, bytes, at)?;
@@ -274,13 +247,8 @@ pub fn take_exponent<E: Entries>(
     requires bit { part_needs_bit part.now ≡ false → bit ≡ true }
     requires served { IsTrue (E.serves entries.now part.now.key) }
     requires told { IsTold Exponent Int32 part.now }
-    ensures place { IfOk result (λ x. (at ≤ x.1) × (x.1 ≤ length bytes.now)) }
-    ensures took { IfOk result (λ x. Took level part.now bit (E.contents entries.old) (E.contents
-        entries.new) (exponent_of x.0) (drop at bytes.now) (drop x.1 bytes.now)) }
-    ensures stops { IfErr result (λ f. f ≢ FieldFault.Memory
-        → (field_at level part.now (entry_at (E.contents entries.old) part.now.key) bit (drop at
-        bytes.now) ≡ Err f)
-        × (E.contents entries.new ≡ E.contents entries.old)) }
+    ensures takes { Takes exponent_of level part.now bit bytes.now at (E.contents entries.old)
+        (E.contents entries.new) result }
     ensures same_keys { E.serves entries.new ≡ E.serves entries.old }
 {
     let (value, next) = take_part(alloc, entries, part, bit, level, bytes, at)?;
@@ -307,13 +275,8 @@ pub fn take_mantissa<E: Entries>(
     requires served { IsTrue (E.serves entries.now part.now.key) }
     requires told { IsTold Mantissa Int64 part.now }
     requires mandatory { part.now.presence ≡ Mandatory }
-    ensures place { IfOk result (λ x. (at ≤ x.1) × (x.1 ≤ length bytes.now)) }
-    ensures took { IfOk result (λ x. Took level part.now bit (E.contents entries.old) (E.contents
-        entries.new) (Some (I64 x.0)) (drop at bytes.now) (drop x.1 bytes.now)) }
-    ensures stops { IfErr result (λ f. f ≢ FieldFault.Memory
-        → (field_at level part.now (entry_at (E.contents entries.old) part.now.key) bit (drop at
-        bytes.now) ≡ Err f)
-        × (E.contents entries.new ≡ E.contents entries.old)) }
+    ensures takes { Takes (λ mantissa. Some (I64 mantissa)) level part.now bit bytes.now at (E.contents entries.old)
+        (E.contents entries.new) result }
     ensures same_keys { E.serves entries.new ≡ E.serves entries.old }
 {
     let (value, next) = take_part(alloc, entries, part, bit, level, bytes, at)?;

@@ -1,19 +1,15 @@
 -- What is told stays so, piece by piece.
 use Rattle.std.proofs.Common.{◌≡◌, ℕ, Bool, true, false, List, [], ◌∷◌, ◌++◌, Option, Some, None, option_map, refl, sym, ap, subst, ◌∙◌, append_assoc, append-nil}
-use Rattle.std.specs.Prelude.{ℤ, codes}
-use Rattle.fast_value.specs.declared.scalar.Scalar.{Scalar}
-use Rattle.fast_value.specs.declared.scalar.Scalar.TheVariants.{Decimal}
+use Rattle.std.specs.Prelude.{codes}
 use Rattle.fast_value.specs.declared.kind.Presence.{Presence}
-use Rattle.fast_value.specs.declared.kind.Presence.TheVariants.{Optional}
-use Rattle.fast_template.specs.declared.resolved.FieldPart.{FieldPart}
-use Rattle.fast_template.specs.Resolved.{Instruction, Instructions, whole_field, field_in_parts, group_of, sequence_of, no_instructions, then_instruction, is_optional}
-use Rattle.fast_stream.specs.Nodes.{Item, single, group_items, sequence_elements, no_items, then_item, items_of, no_elements, then_element, elements_of}
-use Rattle.fast_walk.specs.OpenSegments.{items_before, Body, Sequel, in_group, in_sequence, Waiting, with_item, fewer}
-use Rattle.fast_walk.proofs.Steps.{items_before-more, items_before-end, elements_before-more, elements_before-end}
+use Rattle.fast_template.specs.Resolved.{Instruction, Instructions, group_of, no_instructions, then_instruction}
+use Rattle.fast_stream.specs.Nodes.{Item, group_items, sequence_elements, no_items, then_item, items_of, then_element}
+use Rattle.fast_walk.specs.OpenSegments.{items_before, Body, Sequel, in_group, in_sequence, Waiting, fewer}
+use Rattle.fast_walk.proofs.Steps.{items_before-more, items_before-end, elements_before-more}
 use Rattle.fast_lines.specs.declared.form.Form.{Form}
 use Rattle.fast_lines.specs.Signs.{between, label_text, lead}
-use Rattle.fast_lines.specs.Lines.{absent_text, braced, bracketed, decimal_text, elements_text, field_text, joined, label, labelled, members_text, node_text}
-use Rattle.fast_told.specs.Told.{Line, behind_text, Opening, whole_text, Tells, TellsMantissa, TellsElements, IsBehind, behind_brace, Waits, Within, Said}
+use Rattle.fast_lines.specs.Lines.{braced, bracketed, elements_text, joined, label, labelled, members_text, node_text}
+use Rattle.fast_told.specs.Told.{Line, behind_text, Opening, whole_text, Tells, TellsElements, IsBehind, behind_brace, Waits, Within}
 
 -- ---- texts
 
@@ -41,46 +37,8 @@ item_told form g l k i is done n text there told led t = record {
       ∙ rw (told, led) refl;
 }
 
-body_is : (form : Form) (g : Opening) (l : Line) (b : Body) (is : Instructions) → b.rest ≡ is → Tells form g l b → Tells form g l (record { rest = is; done = b.done })
+pub body_is : (form : Form) (g : Opening) (l : Line) (b : Body) (is : Instructions) → b.rest ≡ is → Tells form g l b → Tells form g l (record { rest = is; done = b.done })
 body_is form g l b is h t = rw (sym h) t
-
--- ---- fields
-
-pub field_told : (form : Form) (g : Opening) (l k : Line) (b : Body) (name : List ℕ) (number : ℕ) (presence : Presence) (p : FieldPart) (is : Instructions) (v : Option Scalar)
-    → b.rest ≡ then_instruction (whole_field name number presence p) is → Said form name (field_text form p.kind presence (single v)) l k
-    → Tells form g l b → Tells form g k (record { rest = is; done = b.done ++ single v ∷ [] })
-field_told form g l k b name number presence p is v first s t =
-    item_told form g l k (whole_field name number presence p) is b.done (single v) s.text s.there s.told s.led (body_is form g l b _ first t)
-
-pub no_decimal_told : (form : Form) (g : Opening) (l k : Line) (b : Body) (name : List ℕ) (number : ℕ) (presence : Presence) (p q : FieldPart) (is : Instructions)
-    → b.rest ≡ then_instruction (field_in_parts name number presence p q) is → Said form name (absent_text form presence) l k
-    → Tells form g l b → Tells form g k (record { rest = is; done = b.done ++ single None ∷ [] })
-no_decimal_told form g l k b name number presence p q is first s t =
-    item_told form g l k (field_in_parts name number presence p q) is b.done (single None) s.text s.there s.told s.led (body_is form g l b _ first t)
-
--- behind the label of a decimal
-pub exponent_told : (form : Form) (g : Opening) (l k : Line) (b : Body) (name : List ℕ) (number : ℕ) (presence : Presence) (p q : FieldPart) (is : Instructions) (e : ℤ)
-    → b.rest ≡ then_instruction (field_in_parts name number presence p q) is → k.text ≡ l.text ++ (lead form l.led ++ label_text form name) → k.led ≡ true
-    → Tells form g l b → TellsMantissa form g k (record { rest = is; done = b.done }) e
-exponent_told form g l k b name number presence p q is e first told led t = record {
-  led = led;
-  so_far = λ m ns.
-      let r = members_text form (between form) is ns in
-      let text = decimal_text m e in
-      (body_is form g l b _ first t).so_far (then_item (single (Some (Decimal e m))) ns)
-      ∙ joined_behind l.text ((lead form l.led ++ label_text form name) ++ text) r
-      ∙ ap (λ x. behind_text x r) (sym (append_assoc l.text (lead form l.led ++ label_text form name) text) ∙ ap (λ x. x ++ text) (sym told))
-      ∙ sym (joined_behind k.text text r);
-}
-
-pub mantissa_told : (form : Form) (g : Opening) (l k : Line) (b : Body) (e m : ℤ) → k.text ≡ l.text ++ decimal_text m e → k.led ≡ l.led
-    → TellsMantissa form g l b e → Tells form g k (with_item b (single (Some (Decimal e m))))
-mantissa_told form g l k b e m told led t = record {
-  so_far = λ ns.
-      let r = members_text form (between form) b.rest ns in
-      ap (whole_text form g) (items_before-more b.done (single (Some (Decimal e m))) ns) ∙ t.so_far m ns ∙ joined_behind l.text (decimal_text m e) r
-      ∙ rw (told, led, t.led) refl;
-}
 
 -- ---- the segments around
 
@@ -100,16 +58,6 @@ within_pop form g [] w J c = c
 within_pop form g (v ∷ ws) w J c = (c.0, c.1, within_pop form c.0 ws w J c.2)
 
 -- ---- groups
-
-pub left_out_told : (form : Form) (g : Opening) (l k : Line) (b : Body) (name : List ℕ) (number : ℕ) (presence : Presence) (members is : Instructions)
-    → b.rest ≡ then_instruction (group_of name number presence members) is → is_optional presence ≡ true → Said form name (absent_text form Optional) l k
-    → Tells form g l b → Tells form g k (record { rest = is; done = b.done ++ single None ∷ [] })
-left_out_told form g l k b name number presence members is first optional s t =
-    item_told form g l k (group_of name number presence members) is b.done (single None) s.text (absent presence optional s.there) s.told s.led (body_is form g l b _ first t)
-  where
-    absent : (p : Presence) → is_optional p ≡ true → absent_text form Optional ≡ Some s.text → absent_text form p ≡ Some s.text
-    absent Optional h e = e
-    absent p h e = absurd cc
 
 -- what is written of a segment that has just begun
 abbrev pub begun : Line → Instructions → Opening
@@ -166,14 +114,8 @@ segment_left form g us ws w l k b rest is told led c =
 
 -- ---- sequences
 
-pub no_sequence_told : (form : Form) (g : Opening) (l k : Line) (b : Body) (name : List ℕ) (number : ℕ) (presence : Presence) (p : FieldPart) (members is : Instructions)
-    → b.rest ≡ then_instruction (sequence_of name number presence p members) is → Said form name (absent_text form presence) l k
-    → Tells form g l b → Tells form g k (record { rest = is; done = b.done ++ single None ∷ [] })
-no_sequence_told form g l k b name number presence p members is first s t =
-    item_told form g l k (sequence_of name number presence p members) is b.done (single None) s.text s.there s.told s.led (body_is form g l b _ first t)
-
 -- a text behind a bracket, with the rest
-bracket_behind : (form : Form) (x a : List ℕ) (i : Instruction) (o r : Option (List ℕ))
+pub bracket_behind : (form : Form) (x a : List ℕ) (i : Instruction) (o r : Option (List ℕ))
     → behind_text x (joined (labelled form a i (bracketed o)) r) ≡ behind_text (x ++ ((a ++ label form i) ++ codes "[")) (joined (option_map (λ t. t ++ codes "]") o) r)
 bracket_behind form x a i None None = refl
 bracket_behind form x a i None (Some u) = refl
@@ -184,16 +126,6 @@ bracket_behind form x a i (Some t) (Some u) =
     ap Some
     (ap (λ y. x ++ y) (append_assoc l (codes "[" ++ t ++ codes "]") u)
     ∙ sym (append_assoc x (l ++ codes "[") v ∙ ap (λ y. x ++ y) (append_assoc l (codes "[") v)))
-
-pub length_told : (form : Form) (g : Opening) (l k : Line) (b : Body) (name : List ℕ) (number : ℕ) (presence : Presence) (p : FieldPart) (members is : Instructions) (own_map : Bool) (n : ℕ)
-    → b.rest ≡ then_instruction (sequence_of name number presence p members) is → k.text ≡ l.text ++ ((lead form l.led ++ label_text form name) ++ codes "[") → k.led ≡ false
-    → Tells form g l b → TellsElements form g k (record { rest = is; done = b.done }) (record { number = number; own_map = own_map; members = members; left = n; done = [] })
-length_told form g l k b name number presence p members is own_map n first told led t = record {
-  so_far = λ es ns.
-      (body_is form g l b _ first t).so_far (then_item (sequence_elements es) ns)
-      ∙ bracket_behind form l.text (lead form l.led) (sequence_of name number presence p members) (elements_text form (λ ns. members_text form [] members ns) [] es) (members_text form (between form) is ns)
-      ∙ rw (told, led) refl;
-}
 
 -- the text of one element, and of those behind it
 element_behind : (x a t : List ℕ) (o r : Option (List ℕ))
@@ -229,14 +161,3 @@ element_entered form g ws l k b s bits told led c =
     let w : Waiting = record { bits = bits; number = s.number; body = b; inside = in_sequence (fewer s) } in
     let J : Opening → Type 0 = λ h. Tells form h k (record { rest = s.members; done = [] }) in
     within_push form g ws w J (within_on form g ws (λ h. TellsElements form h l b s) (Inner form w J) (λ h t. (begun k s.members, element_waits form h l k b s bits told t, new_segment form k s.members led)) c)
-
--- behind the last element
-pub elements_told : (form : Form) (g : Opening) (l k : Line) (b : Body) (s : Sequel) → k.text ≡ l.text ++ codes "]" → k.led ≡ true
-    → TellsElements form g l b s → Tells form g k (with_item b (sequence_elements (elements_of s.done)))
-elements_told form g l k b s told led t = record {
-  so_far = λ ns.
-      let r = members_text form (between form) b.rest ns in
-      ap (whole_text form g) (items_before-more b.done (sequence_elements (elements_of s.done)) ns)
-      ∙ ap (λ x. whole_text form g (items_before b.done (then_item (sequence_elements x) ns))) (sym (elements_before-end s.done))
-      ∙ t.so_far no_elements ns ∙ joined_behind l.text (codes "]") r ∙ rw (told, led) refl;
-}

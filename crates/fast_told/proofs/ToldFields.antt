@@ -1,47 +1,32 @@
 -- What was read of a field of a set is told: a value of its type, or that it is left out where it may be.
-use Rattle.std.proofs.Common.{◌≡◌, ◌<◌, ◌≤◌, ℕ, Bool, true, List, [], ◌∷◌, Option, Some, None, Ok, refl, length, drop, get_or, arith, Fits, w8}
-use Rattle.std.specs.Prelude.{nat_lt}
-use Rattle.std.specs.List.{AllByRecursion}
-use Rattle.std.proofs.lemmas.Bool.Decides.{nat_tests}
+use Rattle.std.proofs.Common.{◌≡◌, ◌<◌, ◌≤◌, ℕ, Bool, List, Option, Some, None, Ok, refl, length, drop, get_or, arith, Fits, w8}
 use Rattle.fast_wire.specs.declared.level.Level.{Level}
-use Rattle.fast_value.specs.Scalar.{IsScalar}
 use Rattle.fast_value.specs.declared.kind.Presence.{Presence}
 use Rattle.fast_value.specs.declared.kind.Presence.TheVariants.{Mandatory, Optional}
 use Rattle.fast_value.specs.declared.scalar.Scalar.{Scalar}
-use Rattle.fast_value.specs.declared.scalar.Scalar.TheVariants.{U32, I32, U64, I64, Decimal, Ascii, Unicode, Bytes}
 use Rattle.fast_template.specs.declared.resolved.FieldPart.{FieldPart}
 use Rattle.fast_dictionary.specs.declared.entry.Entry.{Entry}
-use Rattle.fast_field.specs.Parts.{IsBitOf}
-use Rattle.fast_field.specs.Refusals.{are_characters, has_characters}
+use Rattle.fast_field.specs.Parts.{IsBitOf, IsKindOfPart}
 use Rattle.fast_field.specs.Within.{IsOfField}
 use Rattle.fast_field.proofs.FieldsWithin.{values_within}
+use Rattle.fast_field.proofs.Refused.{characters_there}
 use Rattle.fast_field.proofs.ReadFields.{bytes_from}
 use Rattle.fast_stream.specs.Nodes.{single}
-use Rattle.fast_walk.specs.Received.{TookFrom}
-use Rattle.fast_walk.proofs.Telling.{form_taken}
+use Rattle.fast_walk.specs.Received.{TookFrom, Took}
+use Rattle.fast_walk.proofs.Telling.{form_taken, told_there}
 use Rattle.fast_lines.specs.declared.form.Form.{Form}
-use Rattle.fast_lines.specs.Lines.{field_text, said_text}
+use Rattle.fast_lines.specs.Lines.{field_text, said_text, absent_text}
 use Rattle.fast_told.specs.Taking.{CanTake, TellsNext}
-use Rattle.fast_told.specs.Told.{Says}
+use Rattle.fast_told.specs.Told.{Says, Line, Said}
 use Rattle.fast_told.specs.declared.line.Line.{Line as LineNow}
-
-characters : (s : List ℕ) → AllByRecursion (λ c. c < 128) s → are_characters s ≡ true
-characters [] all = refl
-characters (c ∷ s) all = let low = all.0 in let t : nat_lt c 128 ≡ true = grind (arith, nat_tests) in rw (t) (characters s all.1)
-
-of_characters : (v : Scalar) → IsScalar v → has_characters v ≡ true
-of_characters (U32 n) h = refl
-of_characters (I32 z) h = refl
-of_characters (U64 n) h = refl
-of_characters (I64 z) h = refl
-of_characters (Decimal exponent mantissa) h = refl
-of_characters (Ascii s) h = characters s h.1
-of_characters (Unicode s) h = refl
-of_characters (Bytes s) h = refl
+use Rattle.fast_dictionary.specs.Dictionary.{Dictionary}
+use Rattle.fast_walk.specs.Told.{IsTold}
+use Rattle.fast_value.specs.declared.kind.Kind.{Kind}
+use Rattle.fast_value.specs.declared.kind.Part.{Part}
 
 told : (form : Form) (p : FieldPart) (v : Option Scalar) → IsOfField p v → field_text form p.kind p.presence (single v) ≡ Some (said_text form v)
 told form p None of_field = rw (of_field) refl
-told form p (Some v) of_field = rw (of_field.0, of_characters v of_field.1) refl
+told form p (Some v) of_field = rw (of_field.0, characters_there v of_field.1) refl
 
 -- of a part of a set whose entry is within its type
 pub tells : {form : Form} {level : Level} {p : FieldPart} {bit : Bool} {old new : Entry} {v o : Option Scalar} {name : List ℕ} (bytes : List ℕ) (at next : ℕ) (l k : LineNow)
@@ -54,6 +39,8 @@ tells {form} {level} {p} {bit} {old} {new} {v} {o} {name} bytes at next l k fits
     (place.0, place.1, (v, took, rw (text) (rw (same) at said)))
 
 -- a part that has no value may be left out
-pub may_be_absent : (p : FieldPart) (presence : Presence) → p.presence ≡ presence → (p.presence ≡ Mandatory → ⊥) → presence ≡ Optional
-may_be_absent p Mandatory same there = absurd (there same)
-may_be_absent p Optional same there = refl
+pub absent_said : {form : Form} {name : List ℕ} {l k : Line} (level : Level) (p : FieldPart) (presence : Presence) (bit : Bool) (d e : Dictionary) (bytes : List ℕ) (at next : ℕ) (part : Part) (kind : Kind)
+    → ((k : ℕ) → get_or bytes k 0 < 256) → IsBitOf p bit → IsKindOfPart part kind → IsTold part kind p → p.presence ≡ presence → Took level p bit d e None (drop at bytes) (drop next bytes)
+    → Said form name (absent_text form Optional) l k → Said form name (absent_text form presence) l k
+absent_said level p Optional bit d e bytes at next part kind fits asked of told same took said = said
+absent_said level p Mandatory bit d e bytes at next part kind fits asked of told same took said = absurd (told_there level p bit d e bytes at next fits asked part kind of told same took)

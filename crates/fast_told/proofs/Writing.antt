@@ -1,22 +1,22 @@
 -- What has been received of a message is told, call by call.
 use Rattle.std.proofs.Common.{◌≡◌, ℕ, Bool, true, false, List, [], ◌∷◌, ◌++◌, Option, Some, None, option_map, refl, sym, ap, ap₂, subst, ◌∙◌, append_assoc, append-nil}
 use Rattle.std.specs.Prelude.{ℤ, codes, find}
-use Rattle.fast_value.specs.declared.scalar.Scalar.{Scalar}
 use Rattle.fast_value.specs.declared.scalar.Scalar.TheVariants.{I32, Decimal}
 use Rattle.fast_value.specs.declared.kind.Presence.{Presence}
 use Rattle.fast_value.specs.declared.kind.Presence.TheVariants.{Optional}
 use Rattle.fast_template.specs.declared.resolved.FieldPart.{FieldPart}
-use Rattle.fast_template.specs.Resolved.{Instructions, Resolved, whole_field, field_in_parts, group_of, sequence_of, no_instructions, then_instruction, is_optional}
+use Rattle.fast_template.specs.Resolved.{Instructions, Resolved, field_in_parts, group_of, sequence_of, no_instructions, then_instruction, is_optional, Instruction}
 use Rattle.fast_template.specs.TemplateSets.{has_id}
-use Rattle.fast_stream.specs.Nodes.{single, Items, items_of, Content}
+use Rattle.fast_stream.specs.Nodes.{single, Items, items_of, Content, Item, elements_of, no_elements, sequence_elements, then_item}
 use Rattle.fast_stream.specs.Streams.{members_of}
-use Rattle.fast_walk.specs.OpenSegments.{Sequel, Inside, in_group, in_sequence, Waiting, Next, at_instruction, at_mantissa, at_element}
-use Rattle.fast_walk.specs.Received.{Received, passed, entered, after_exponent, after_length, in_element, after_sequence, ended_in, content_received, bytes_in}
+use Rattle.fast_walk.specs.OpenSegments.{Sequel, Inside, in_group, in_sequence, Waiting, Next, at_instruction, at_mantissa, at_element, Body, items_before, with_item}
+use Rattle.fast_walk.specs.Received.{Received, passed, entered, after_exponent, after_length, in_element, after_sequence, ended_in, content_received, bytes_in, moved}
 use Rattle.fast_lines.specs.declared.form.Form.{Form}
-use Rattle.fast_lines.specs.Signs.{ending, head_text, is_led, label_text, lead}
-use Rattle.fast_lines.specs.Lines.{absent_text, decimal_text, field_text, joined, members_text}
-use Rattle.fast_told.specs.Told.{IsTold, line_as, line_of_set, lines_of_set, Line, Opening, Tells, IsTop, IsBehind, Within, IsOpened, head_in, message_opening, name_if, Said}
-use Rattle.fast_told.proofs.Telling.{field_told, no_decimal_told, exponent_told, mantissa_told, within_on, left_out_told, group_entered, ended, segment_left, no_sequence_told, length_told, element_entered, elements_told}
+use Rattle.fast_lines.specs.Signs.{ending, head_text, is_led, label_text, lead, between}
+use Rattle.fast_lines.specs.Lines.{absent_text, decimal_text, joined, members_text, elements_text, label, node_text}
+use Rattle.fast_told.specs.Told.{IsTold, line_as, line_of_set, lines_of_set, Line, Opening, Tells, IsTop, IsBehind, Within, IsOpened, head_in, message_opening, name_if, Puts, Said, behind_text, whole_text}
+use Rattle.fast_told.proofs.Telling.{body_is, bracket_behind, item_told, joined_behind, within_on, group_entered, ended, segment_left, element_entered}
+use Rattle.fast_walk.proofs.Steps.{elements_before-end, items_before-more}
 
 abbrev message_of : Form → Received → Opening
 message_of form o = message_opening form o.set o.template o.members
@@ -24,90 +24,104 @@ message_of form o = message_opening form o.set o.template o.members
 at_next : (form : Form) (z : ℤ) (l : Line) (o : Received) (next : Next) → o.next ≡ next → IsOpened form z l o → Within form (message_of form o) o.around (λ g. IsTop form z next g l o.body)
 at_next form z l o next is c = subst (λ (n : Next). Within form (message_of form o) o.around (λ g. IsTop form z n g l o.body)) is c
 
+-- what is innermost goes on, whatever is open around it
+on_top : (form : Form) (z y : ℤ) (l k : Line) (o : Received) (next after : Next) (b : Body) → o.next ≡ next → ((g : Opening) → IsTop form z next g l o.body → IsTop form y after g k b)
+    → IsOpened form z l o → IsOpened form y k (moved o after b o.around)
+on_top form z y l k o next after b is f c = within_on form (message_of form o) o.around (λ g. IsTop form z next g l o.body) (λ g. IsTop form y after g k b) f (at_next form z l o next is c)
+
 -- ---- fields
 
-pub has_field : (form : Form) (z : ℤ) (l k : Line) (o : Received) (name : List ℕ) (number : ℕ) (presence : Presence) (p : FieldPart) (is : Instructions) (v : Option Scalar)
-    → o.next ≡ at_instruction → o.body.rest ≡ then_instruction (whole_field name number presence p) is → Said form name (field_text form p.kind presence (single v)) l k
-    → IsOpened form z l o → IsOpened form z k (passed o is (single v))
-has_field form z l k o name number presence p is v next first s c =
-    within_on form (message_of form o) o.around (λ g. Tells form g l o.body) (λ g. Tells form g k (record { rest = is; done = o.body.done ++ single v ∷ [] }))
-    (λ g t. field_told form g l k o.body name number presence p is v first s t) (at_next form z l o at_instruction next c)
+-- an item behind its label
+pub has_said : {form : Form} {l k : Line} {name : List ℕ} (z : ℤ) (o : Received) (i : Instruction) (is : Instructions) (n : Item) → o.next ≡ at_instruction → o.body.rest ≡ then_instruction i is
+    → label form i ≡ label_text form name → Said form name (node_text form i n) l k → IsOpened form z l o → IsOpened form z k (passed o is n)
+has_said {form} {l} {k} z o i is n next first named s = on_top form z z l k o at_instruction at_instruction (record { rest = is; done = o.body.done ++ n ∷ [] }) next
+    (λ g t. item_told form g l k i is o.body.done n s.text s.there (rw named s.told) s.led (body_is form g l o.body _ first t))
 
-pub has_no_decimal : (form : Form) (z : ℤ) (l k : Line) (o : Received) (name : List ℕ) (number : ℕ) (presence : Presence) (p q : FieldPart) (is : Instructions)
-    → o.next ≡ at_instruction → o.body.rest ≡ then_instruction (field_in_parts name number presence p q) is → Said form name (absent_text form presence) l k
-    → IsOpened form z l o → IsOpened form z k (passed o is (single None))
-has_no_decimal form z l k o name number presence p q is next first s c =
-    within_on form (message_of form o) o.around (λ g. Tells form g l o.body) (λ g. Tells form g k (record { rest = is; done = o.body.done ++ single None ∷ [] }))
-    (λ g t. no_decimal_told form g l k o.body name number presence p q is first s t) (at_next form z l o at_instruction next c)
-
-pub has_exponent : (form : Form) (z y e : ℤ) (l k : Line) (o : Received) (name : List ℕ) (number : ℕ) (presence : Presence) (p q : FieldPart) (is : Instructions)
+-- behind the label of a decimal
+pub has_exponent : {l k : Line} (form : Form) (z y e : ℤ) (o : Received) (name : List ℕ) (number : ℕ) (presence : Presence) (p q : FieldPart) (is : Instructions)
     → o.next ≡ at_instruction → o.body.rest ≡ then_instruction (field_in_parts name number presence p q) is
-    → k.text ≡ l.text ++ (lead form l.led ++ label_text form name) → k.led ≡ true → y ≡ e
+    → Puts (lead form l.led ++ label_text form name) true l k → y ≡ e
     → IsOpened form z l o → IsOpened form y k (after_exponent o is q (Some (I32 e)))
-has_exponent form z y e l k o name number presence p q is next first told led same c =
-    within_on form (message_of form o) o.around (λ g. Tells form g l o.body) (λ g. IsTop form y (at_mantissa e q) g k (record { rest = is; done = o.body.done }))
-    (λ g t. (same, exponent_told form g l k o.body name number presence p q is e first told led t)) (at_next form z l o at_instruction next c)
+has_exponent {l} {k} form z y e o name number presence p q is next first put same =
+    on_top form z y l k o at_instruction (at_mantissa e q) (record { rest = is; done = o.body.done }) next (λ g t. (
+      same,
+      record {
+        led = put.led_is;
+        so_far = λ m ns.
+            let r = members_text form (between form) is ns in
+            let text = decimal_text m e in
+            (body_is form g l o.body _ first t).so_far (then_item (single (Some (Decimal e m))) ns)
+            ∙ joined_behind l.text ((lead form l.led ++ label_text form name) ++ text) r
+            ∙ ap (λ x. behind_text x r) (sym (append_assoc l.text (lead form l.led ++ label_text form name) text) ∙ ap (λ x. x ++ text) (sym put.told))
+            ∙ sym (joined_behind k.text text r);
+      },
+    ))
 
 pub has_mantissa : (form : Form) (z e m : ℤ) (l k : Line) (o : Received) (q : FieldPart) → o.next ≡ at_mantissa e q → k.text ≡ l.text ++ decimal_text m z → k.led ≡ l.led
     → IsOpened form z l o → IsOpened form z k (passed o o.body.rest (single (Some (Decimal e m))))
-has_mantissa form z e m l k o q next told led c =
-    within_on form (message_of form o) o.around (λ g. IsTop form z (at_mantissa e q) g l o.body) (λ g. Tells form g k (record { rest = o.body.rest; done = o.body.done ++ single (Some (Decimal e m)) ∷ [] }))
-    (λ g t. mantissa_told form g l k o.body e m (told ∙ ap (λ x. l.text ++ decimal_text m x) t.0) led t.1) (at_next form z l o (at_mantissa e q) next c)
+has_mantissa form z e m l k o q next told led =
+    on_top form z z l k o (at_mantissa e q) at_instruction (with_item o.body (single (Some (Decimal e m)))) next (λ g t. record {
+      so_far = λ ns.
+          let r = members_text form (between form) o.body.rest ns in
+          ap (whole_text form g) (items_before-more o.body.done (single (Some (Decimal e m))) ns) ∙ t.1.so_far m ns ∙ joined_behind l.text (decimal_text m e) r
+          ∙ rw (told, t.0, led, t.1.led) refl;
+    })
 
-pub has_no_length : (form : Form) (z : ℤ) (l k : Line) (o : Received) (name : List ℕ) (number : ℕ) (presence : Presence) (p : FieldPart) (members is : Instructions)
-    → o.next ≡ at_instruction → o.body.rest ≡ then_instruction (sequence_of name number presence p members) is → Said form name (absent_text form presence) l k
-    → IsOpened form z l o → IsOpened form z k (after_length o number members is None)
-has_no_length form z l k o name number presence p members is next first s c =
-    within_on form (message_of form o) o.around (λ g. Tells form g l o.body) (λ g. Tells form g k (record { rest = is; done = o.body.done ++ single None ∷ [] }))
-    (λ g t. no_sequence_told form g l k o.body name number presence p members is first s t) (at_next form z l o at_instruction next c)
-
-pub has_length : (form : Form) (z : ℤ) (n : ℕ) (l k : Line) (o : Received) (name : List ℕ) (number : ℕ) (presence : Presence) (p : FieldPart) (members is : Instructions)
+pub has_length : {l k : Line} (form : Form) (z : ℤ) (n : ℕ) (o : Received) (name : List ℕ) (number : ℕ) (presence : Presence) (p : FieldPart) (members is : Instructions)
     → o.next ≡ at_instruction → o.body.rest ≡ then_instruction (sequence_of name number presence p members) is
-    → k.text ≡ l.text ++ ((lead form l.led ++ label_text form name) ++ codes "[") → k.led ≡ false
+    → Puts ((lead form l.led ++ label_text form name) ++ codes "[") false l k
     → IsOpened form z l o → IsOpened form z k (after_length o number members is (Some n))
-has_length form z n l k o name number presence p members is next first told led c =
-    within_on form (message_of form o) o.around (λ g. Tells form g l o.body) (λ g. IsTop form z (after_length o number members is (Some n)).next g k (record { rest = is; done = o.body.done }))
-    (λ g t. length_told form g l k o.body name number presence p members is _ n first told led t) (at_next form z l o at_instruction next c)
+has_length {l} {k} form z n o name number presence p members is next first put =
+    on_top form z z l k o at_instruction (after_length o number members is (Some n)).next (record { rest = is; done = o.body.done }) next (λ g t. record {
+      so_far = λ es ns.
+          (body_is form g l o.body _ first t).so_far (then_item (sequence_elements es) ns)
+          ∙ bracket_behind form l.text (lead form l.led) (sequence_of name number presence p members) (elements_text form (λ ns. members_text form [] members ns) [] es) (members_text form (between form) is ns)
+          ∙ rw (put.told, put.led_is) refl;
+    })
 
 -- ---- segments
 
 pub has_left_out : (form : Form) (z : ℤ) (l k : Line) (o : Received) (name : List ℕ) (number : ℕ) (presence : Presence) (members is : Instructions)
     → o.next ≡ at_instruction → o.body.rest ≡ then_instruction (group_of name number presence members) is → is_optional presence ≡ true → Said form name (absent_text form Optional) l k
     → IsOpened form z l o → IsOpened form z k (passed o is (single None))
-has_left_out form z l k o name number presence members is next first optional s c =
-    within_on form (message_of form o) o.around (λ g. Tells form g l o.body) (λ g. Tells form g k (record { rest = is; done = o.body.done ++ single None ∷ [] }))
-    (λ g t. left_out_told form g l k o.body name number presence members is first optional s t) (at_next form z l o at_instruction next c)
+has_left_out form z l k o name number Optional members is next first optional s = has_said z o (group_of name number Optional members) is (single None) next first refl s
+has_left_out form z l k o name number presence members is next first optional s = absurd cc
 
-pub has_entered : (form : Form) (z : ℤ) (l k : Line) (o : Received) (name : List ℕ) (number : ℕ) (presence : Presence) (members is : Instructions) (bits : List Bool)
+pub has_entered : {l k : Line} (form : Form) (z : ℤ) (o : Received) (name : List ℕ) (number : ℕ) (presence : Presence) (members is : Instructions) (bits : List Bool)
     → o.next ≡ at_instruction → o.body.rest ≡ then_instruction (group_of name number presence members) is
-    → k.text ≡ l.text ++ ((lead form l.led ++ label_text form name) ++ codes "{") → k.led ≡ false
+    → Puts ((lead form l.led ++ label_text form name) ++ codes "{") false l k
     → IsOpened form z l o → IsOpened form z k (entered o number bits members is)
-has_entered form z l k o name number presence members is bits next first told led c =
-    group_entered form (message_of form o) o.around l k o.body name number presence members is bits first told led (at_next form z l o at_instruction next c)
+has_entered {l} {k} form z o name number presence members is bits next first put c =
+    group_entered form (message_of form o) o.around l k o.body name number presence members is bits first put.told put.led_is (at_next form z l o at_instruction next c)
 
-pub has_element : (form : Form) (z : ℤ) (l k : Line) (o : Received) (s : Sequel) (bits : List Bool)
-    → o.next ≡ at_element s → k.text ≡ l.text ++ (lead form l.led ++ codes "{") → k.led ≡ false
+pub has_element : {l k : Line} (form : Form) (z : ℤ) (o : Received) (s : Sequel) (bits : List Bool)
+    → o.next ≡ at_element s → Puts (lead form l.led ++ codes "{") false l k
     → IsOpened form z l o → IsOpened form z k (in_element o bits s)
-has_element form z l k o s bits next told led c = element_entered form (message_of form o) o.around l k o.body s bits told led (at_next form z l o (at_element s) next c)
+has_element {l} {k} form z o s bits next put c = element_entered form (message_of form o) o.around l k o.body s bits put.told put.led_is (at_next form z l o (at_element s) next c)
 
 ends_in : (form : Form) (inside : Inside) (z : ℤ) (k : Line) (o : Received) (ws : List Waiting) (w : Waiting)
     → Within form (message_of form o) ws (λ h. IsBehind form inside h k w.body (items_of o.body.done)) → IsOpened form z k (ended_in o ws w.body inside)
 ends_in form in_group z k o ws w c = c
 ends_in form (in_sequence s) z k o ws w c = c
 
-pub has_ended : (form : Form) (inside : Inside) (z : ℤ) (l k : Line) (o : Received) (ws : List Waiting) (w : Waiting)
-    → o.next ≡ at_instruction → o.body.rest ≡ no_instructions → o.around ≡ ws ++ w ∷ [] → w.inside ≡ inside → k.text ≡ l.text ++ codes "}" → k.led ≡ true
+pub has_ended : {l k : Line} (form : Form) (inside : Inside) (z : ℤ) (o : Received) (ws : List Waiting) (w : Waiting)
+    → o.next ≡ at_instruction → o.body.rest ≡ no_instructions → o.around ≡ ws ++ w ∷ [] → w.inside ≡ inside → Puts (codes "}") true l k
     → IsOpened form z l o → IsOpened form z k (ended_in o ws w.body inside)
-has_ended form inside z l k o ws w next rest is inside_is told led c =
+has_ended {l} {k} form inside z o ws w next rest is inside_is put c =
     ends_in form inside z k o ws w
     (subst (λ (n : Inside). Within form (message_of form o) ws (λ h. IsBehind form n h k w.body (items_of o.body.done))) inside_is
-    (segment_left form (message_of form o) o.around ws w l k o.body rest is told led (at_next form z l o at_instruction next c)))
+    (segment_left form (message_of form o) o.around ws w l k o.body rest is put.told put.led_is (at_next form z l o at_instruction next c)))
 
-pub has_elements : (form : Form) (z : ℤ) (l k : Line) (o : Received) (s : Sequel) → o.next ≡ at_element s → k.text ≡ l.text ++ codes "]" → k.led ≡ true
+pub has_elements : {l k : Line} (form : Form) (z : ℤ) (o : Received) (s : Sequel) → o.next ≡ at_element s → Puts (codes "]") true l k
     → IsOpened form z l o → IsOpened form z k (after_sequence o s)
-has_elements form z l k o s next told led c =
-    within_on form (message_of form o) o.around (λ g. IsTop form z (at_element s) g l o.body) (λ g. Tells form g k (after_sequence o s).body)
-    (λ g t. elements_told form g l k o.body s told led t) (at_next form z l o (at_element s) next c)
+has_elements {l} {k} form z o s next put =
+    on_top form z z l k o (at_element s) at_instruction (after_sequence o s).body next (λ g t. record {
+      so_far = λ ns.
+          let r = members_text form (between form) o.body.rest ns in
+          ap (whole_text form g) (items_before-more o.body.done (sequence_elements (elements_of s.done)) ns)
+          ∙ ap (λ x. whole_text form g (items_before o.body.done (then_item (sequence_elements x) ns))) (sym (elements_before-end s.done))
+          ∙ t.so_far no_elements ns ∙ joined_behind l.text (codes "]") r ∙ rw (put.told, put.led_is) refl;
+    })
 
 -- ---- messages
 

@@ -141,6 +141,14 @@ pub record Said (form : Form) (name : List ℕ) (value : Option (List ℕ)) (l k
   pub told : k.text ≡ l.text ++ ((lead form l.led ++ label_text form name) ++ text)
   pub led : k.led ≡ true
 
+-- a text stands behind what was there, and whether what stands between two is due behind it
+pub record Puts (text : List ℕ) (led : Bool) (l k : Line) : Type 0 where
+  pub told : k.text ≡ l.text ++ text
+  pub led_is : k.led ≡ led
+
+abbrev pub PutsIn : Form → List ℕ → Bool → LineNow → LineNow → Type 0
+PutsIn form text led l k = Puts text led (line_now form l) (line_now form k)
+
 -- a text stands behind what was written
 abbrev pub Appends : Form → LineNow → List ℕ → LineNow → Type 0
 Appends form l text k = written_of form k ≡ written_of form l ++ text

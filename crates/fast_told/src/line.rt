@@ -35,7 +35,7 @@ impl Line {
     ghost use Rattle.std.specs.Prelude.{◌≡◌, ◌<◌, ◌≤◌, Some, None, ◌++◌, ◌∷◌, [], true, false, codes, length, IfOk, OnOk};
     ghost use Rattle.std.specs.Option.{option_copied};
     ghost use Rattle.fast_gaps.specs.Filled.{left_of};
-    ghost use Rattle.fast_told.specs.Told.{Appends, Says, line_now, written_of};
+    ghost use Rattle.fast_told.specs.Told.{Appends, PutsIn, Says, line_now, written_of};
     ghost use Rattle.fast_lines.specs.Lines.{decimal_text, scalar_text};
     ghost use Rattle.fast_lines.specs.Pieces.{laid};
     ghost use Rattle.std.specs.List.{flat_map};
@@ -185,8 +185,7 @@ impl Line {
     /// Appends what stands in front of a value, behind what stands between two where it is due.
     #[inline(always)]
     pub fn label<S: Signs>(&mut self, signs: S, name: &Name) -> Result<(), AllocError>
-        ensures text { OnOk result (Appends S.form self.old (lead S.form self.old.led ++ label_text S.form name.now) self.new) }
-        ensures led { OnOk result (self.new.led ≡ true) }
+        ensures { OnOk result (PutsIn S.form (lead S.form self.old.led ++ label_text S.form name.now) true self.old self.new) }
     {
         match signs.lay_label(name.as_str(), &mut self.piece, Piece::END) {
             None => self.label_long(signs, name),
@@ -197,8 +196,7 @@ impl Line {
     // The same of any length, one after the other; in a line that is long a long name is left out.
     #[inline(never)]
     fn label_long<S: Signs>(&mut self, signs: S, name: &Name) -> Result<(), AllocError>
-        ensures text { OnOk result (Appends S.form self.old (lead S.form self.old.led ++ label_text S.form name.now) self.new) }
-        ensures led { OnOk result (self.new.led ≡ true) }
+        ensures { OnOk result (PutsIn S.form (lead S.form self.old.led ++ label_text S.form name.now) true self.old self.new) }
     {
         self.lead(signs)?;
         self.led = true;
@@ -341,8 +339,7 @@ impl Line {
     #[inline(always)]
     fn append<S: Signs>(&mut self, signs: S, start: usize) -> Result<(), AllocError>
         requires { (0 < start) × (start ≤ 64) }
-        ensures text { OnOk result (Appends S.form self.old (lead S.form self.old.led ++ laid self.old.piece.bytes start) self.new) }
-        ensures led { OnOk result (self.new.led ≡ true) }
+        ensures { OnOk result (PutsIn S.form (lead S.form self.old.led ++ laid self.old.piece.bytes start) true self.old self.new) }
     {
         if !self.led {
             self.led = true;
@@ -373,8 +370,7 @@ impl Line {
     /// Appends a brace, behind what stands between two where it is due; behind the brace it is not.
     #[inline(always)]
     pub fn open_brace<S: Signs>(&mut self, signs: S) -> Result<(), AllocError>
-        ensures text { OnOk result (Appends S.form self.old (lead S.form self.old.led ++ codes "{") self.new) }
-        ensures led { OnOk result (self.new.led ≡ false) }
+        ensures { OnOk result (PutsIn S.form (lead S.form self.old.led ++ codes "{") false self.old self.new) }
     {
         self.lead(signs)?;
         self.open(b'{')
@@ -388,9 +384,8 @@ impl Line {
         name: &Name,
         bracket: u8,
     ) -> Result<(), AllocError>
-        ensures text { OnOk result (Appends S.form self.old
-            ((lead S.form self.old.led ++ label_text S.form name.now) ++ bracket ∷ []) self.new) }
-        ensures led { OnOk result (self.new.led ≡ false) }
+        ensures { OnOk result (PutsIn S.form ((lead S.form self.old.led ++ label_text S.form name.now) ++ bracket ∷ [])
+            false self.old self.new) }
     {
         self.label(signs, name)?;
         self.open(bracket)
@@ -399,8 +394,7 @@ impl Line {
     // Appends a bracket or a brace, behind which nothing is due.
     #[inline(always)]
     fn open(&mut self, bracket: u8) -> Result<(), AllocError>
-        ensures text { OnOk result ((form : Form) → Appends form self.old (bracket ∷ []) self.new) }
-        ensures led { OnOk result (self.new.led ≡ false) }
+        ensures { OnOk result ((form : Form) → PutsIn form (bracket ∷ []) false self.old self.new) }
     {
         self.put(&[bracket])?;
         self.led = false;
@@ -410,8 +404,7 @@ impl Line {
     /// Appends the bracket or the brace at the end, behind which what stands between two is due.
     #[inline(always)]
     pub fn close(&mut self, bracket: u8) -> Result<(), AllocError>
-        ensures text { OnOk result ((form : Form) → Appends form self.old (bracket ∷ []) self.new) }
-        ensures led { OnOk result (self.new.led ≡ true) }
+        ensures { OnOk result ((form : Form) → PutsIn form (bracket ∷ []) true self.old self.new) }
     {
         self.put(&[bracket])?;
         self.led = true;

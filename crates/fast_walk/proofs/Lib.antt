@@ -1,6 +1,7 @@
 mod SetBits
 pub mod ShortWalks
 pub mod Steps
+pub mod Passings
 pub mod Walking
 pub mod Views
 pub mod Putting

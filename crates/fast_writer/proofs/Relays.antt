@@ -1,5 +1,5 @@
 -- A part that was read and written at once.
-use Rattle.std.proofs.Common.{◌≡◌, ◌<◌, ℕ, ◌+◌, Bool, List, ◌++◌, ◌∷◌, Option, Some, None, Ok, true, false, [], drop, length, refl, sym, ap, subst, ◌∙◌, append-nil, arith}
+use Rattle.std.proofs.Common.{◌≡◌, ◌<◌, ℕ, ◌+◌, Bool, List, ◌++◌, ◌∷◌, Option, Some, None, true, false, [], drop, length, refl, sym, ap, subst, ◌∙◌, append-nil, arith}
 use Rattle.std.specs.Prelude.{MatchOption, slice_index}
 use Rattle.fast_template.specs.declared.resolved.FieldPart.{FieldPart}
 use Rattle.fast_value.specs.declared.scalar.Scalar.{Scalar}
@@ -8,19 +8,18 @@ use Rattle.fast_dictionary.specs.declared.entry.Entry.{Entry}
 use Rattle.fast_dictionary.specs.Dictionary.{Dictionary, entry_at, set_entry, set_entry-there}
 use Rattle.fast_wire.specs.declared.level.Level.{Level}
 use Rattle.fast_field.specs.Bases.{next}
-use Rattle.fast_field.specs.FieldReading.{field_at}
 use Rattle.fast_field.specs.AsUsual.{ReadsAsUsual}
 use Rattle.fast_relay.specs.Relayed.{Judges}
 use Rattle.fast_relay.specs.OneByte.{RelaysByte}
 use Rattle.fast_writer.specs.Runs.{written}
 use Rattle.fast_writer.specs.declared.run.Run.{Run}
 use Rattle.fast_writer.proofs.Runs.{settled}
-use Rattle.fast_walk.specs.Received.{Took, length_of}
-use Rattle.fast_walk.proofs.Putting.{set_written}
+use Rattle.fast_walk.specs.Received.{length_of}
 use Rattle.fast_stream.specs.Bits.{bit_for}
 use Rattle.fast_field.specs.Passed.{Passes as FieldPasses}
 use Rattle.fast_writer.specs.Quick.{Relayed, RelaysEntry, RelaysPart, StopsEntry, StopsPart}
 use Rattle.fast_writer.specs.Takings.{TookEntry}
+use Rattle.fast_walk.proofs.Passings.{took_of}
 use Rattle.fast_writer.proofs.MapRoom.{asked_room}
 use Rattle.fast_field.specs.declared.fault.FieldFault.{FieldFault}
 use Rattle.fast_writer.specs.Written.{Segment, AppendsForm, Asked, Spelt}
@@ -31,13 +30,6 @@ use Rattle.fast_wire.specs.declared.level.Level.TheVariants.{Usual}
 use Rattle.fast_field.specs.Best.{IsBest}
 use Rattle.fast_field.specs.Deltas.{Cut}
 use Rattle.fast_field.specs.Fields.{FormOf}
-
-pub took_of : {level : Level} {p : FieldPart} {bit : Bool} {d e : Dictionary} {old new : Entry} {v : Option Scalar} {bytes rest : List ℕ} → old ≡ entry_at d p.key → e ≡ set_entry d p.key new → new ≡ next p old v
-    → ((more : List ℕ) → field_at level p old bit (bytes ++ more) ≡ Ok (v, rest ++ more)) → Took level p bit d e v bytes rest
-took_of {p = p} {d = d} {v = v} is put after goes = record {
-  value = λ more. rw (is) at (goes more);
-  entry = put ∙ ap (set_entry d p.key) (after ∙ ap (λ (x : Entry). next p x v) is) ∙ set_written p d v;
-}
 
 spelt_entry : {p : FieldPart} {old : Entry} {v : Option Scalar} {bit needed : Bool} {l k : Segment} {bytes : List ℕ} → needed ≡ part_needs_bit p → AppendsForm p old v bit l.bytes bytes
     → Asked needed bit (record { bits = l.bits; own = l.own; bytes = bytes }) k → Spelt p old v l k

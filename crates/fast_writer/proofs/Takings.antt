@@ -15,14 +15,15 @@ use Rattle.fast_dictionary.specs.declared.entry.Entry.{Entry}
 use Rattle.fast_wire.specs.declared.level.Level.{Level}
 use Rattle.fast_stream.specs.Nodes.{single}
 use Rattle.fast_stream.specs.Bits.{bit_for, after_bit}
-use Rattle.fast_walk.specs.OpenSegments.{Body, Next, at_instruction, at_mantissa, cursor, top_on, with_item}
-use Rattle.fast_walk.specs.Received.{Received, Took, moved, exponent_of}
+use Rattle.fast_walk.specs.OpenSegments.{at_instruction, at_mantissa, cursor, with_item}
+use Rattle.fast_walk.specs.Received.{Took, exponent_of}
 use Rattle.fast_walk.specs.Passing.{next_behind}
-use Rattle.fast_walk.specs.Walks.{AreServed, IsNextServed, IsServed, bare_next}
+use Rattle.fast_walk.specs.Walks.{AreServed, IsNextServed, IsServed}
 use Rattle.fast_value.specs.declared.key.Key.{Key}
+use Rattle.fast_walk.proofs.Passings.{passes_field, passes_on, passes_one, took_of}
 use Rattle.fast_walk.proofs.Steps.{count_goes, part_goes}
-use Rattle.fast_walk.proofs.Walking.{field_on, exponent_on, no_exponent_on, mantissa_on_goes, is_instruction, is_mantissa}
-use Rattle.fast_writer.specs.Written.{IsOpened, Segment, Spelt}
+use Rattle.fast_walk.proofs.Walking.{exponent_on, no_exponent_on, mantissa_on_goes, is_instruction, is_mantissa}
+use Rattle.fast_writer.specs.Written.{Segment, Spelt}
 use Rattle.fast_writer.specs.Takings.{BeginsWith, EndsPart, Front, MatchTaken, Takes, TakesPart, TakesUnder, TookEntry, TookFields, TookUnder, behind}
 use Rattle.fast_writer.specs.Levels.{level_in, level_of}
 use Rattle.fast_writer.specs.Quick.{Relayed}
@@ -35,7 +36,7 @@ use Rattle.fast_writer.specs.declared.run.Run.{Run}
 use Rattle.fast_field.specs.Parts.{IsFieldPart}
 use Rattle.fast_walk.specs.Told.{KeepScalars}
 use Rattle.fast_writer.proofs.MapRoom.{asked_room}
-use Rattle.fast_writer.proofs.Relays.{took_entry, took_of}
+use Rattle.fast_writer.proofs.Relays.{took_entry}
 use Rattle.fast_writer.proofs.SpeltParts.{exponent_there, mantissa_taken, spelt_keeps}
 use Rattle.fast_writer.proofs.Writers.{has_field, has_exponent, has_mantissa}
 
@@ -138,111 +139,55 @@ taken_under level p d e old new bits later bytes at l k Refused part kept is put
 -- ---- fields
 
 module _ {level : Level} {bytes : List ℕ} where
-  -- a piece, from what is next and its body to others
-  takes_one : {l k : Segment} {d e : Dictionary} {bits later : List Bool} {f g : Front}
-      → ((out : List ℕ) (outer : List Segment) (o : Received) → bare_next o.next ≡ next_behind f.mantissa → o.body.rest ≡ f.rest
-      → (next : Next) × (body : Body) × (IsOpened out outer l o d → IsOpened out outer k (moved o next body o.around) e) × (bare_next next ≡ next_behind g.mantissa) × (body.rest ≡ g.rest)
-      × ((more : List ℕ) → top_on level o.next o.body (cursor d bits f.spare (drop f.place bytes ++ more)) ≡ top_on level next body (cursor e later g.spare (drop g.place bytes ++ more))))
-      → Takes level bytes l d bits f k e later g
-  takes_one goes = record {
-    passes = λ out outer o at left opened.
-        let r = goes out outer o at left in
-        record {
-          received = moved o r.0 r.1 o.around;
-          has = r.2 opened;
-          same = record { set = refl; before = refl; template = refl; members = refl; start = refl };
-          around = refl;
-          next_is = r.3;
-          left_is = r.4;
-          reads = r.5;
-        };
-  }
-
   -- one behind the other
   takes_on : {l k j : Segment} {d e c : Dictionary} {bits later last : List Bool} {f g h : Front} → Takes level bytes l d bits f k e later g → Takes level bytes k e later g j c last h → Takes level bytes l d bits f j c last h
   takes_on one two = record {
     passes = λ out outer o next first opened.
         let p = one.passes out outer o next first opened in
-        let q = two.passes out outer p.received p.next_is p.left_is p.has in
-        record {
-          received = q.received;
-          has = q.has;
-          same = record {
-            set = q.same.set ∙ p.same.set;
-            before = q.same.before ∙ p.same.before;
-            template = q.same.template ∙ p.same.template;
-            members = q.same.members ∙ p.same.members;
-            start = q.same.start ∙ p.same.start;
-          };
-          around = q.around ∙ p.around;
-          next_is = q.next_is;
-          left_is = q.left_is;
-          reads = λ more. p.reads more ∙ q.reads more;
-        };
+        passes_on p (two.passes out outer p.received p.next_is p.left_is p.has);
   }
 
   -- a field
   takes_field : {l k : Segment} {d e : Dictionary} {bits later : List Bool} {p : FieldPart} {v : Option Scalar} (name : List ℕ) (number : ℕ) (presence : Presence) (is : Instructions) (spare place next : ℕ) → 0 < spare
       → Took level p (bit_for (part_needs_bit p) bits) d e v (drop place bytes) (drop next bytes) → Spelt p (entry_at d p.key) v l k → later ≡ after_bit (part_needs_bit p) bits
       → Takes level bytes l d bits (record { mantissa = None; rest = then_instruction (whole_field name number presence p) is; spare = spare; place = place }) k e later (record { mantissa = None; rest = is; spare = spare - 1; place = next })
-  takes_field {l} {k} {d} {e} {bits} {later} {p} {v} name number presence is spare place next some took spelt map = takes_one (λ out outer o at left.
-      let here = is_instruction o.next at in (
-        at_instruction,
-        record { rest = is; done = o.body.done ++ single v ∷ [] },
-        has_field out outer l k o name number presence p is d e v here left took.entry spelt,
-        refl,
-        refl,
-        λ more. rw (map, took.entry)
-            (field_on level [] o.next o.body name number presence p is (cursor d bits spare (drop place bytes ++ more)) (cursor d bits (spare - 1) (drop place bytes ++ more)) _ v here left
-            (count_goes number spare d bits (drop place bytes ++ more) some)
-            (part_goes level p d bits (spare - 1) (drop place bytes ++ more) (drop next bytes ++ more) v (took.value more))),
-      ))
+  takes_field {l} {k} {d} {e} {p = p} {v} name number presence is spare place next some took spelt map = record {
+    passes = λ out outer o at left opened. passes_field o name number presence is at left some took map (has_field out outer l k o name number presence p is d e v (is_instruction o.next at) left took.entry spelt opened);
+  }
 
   -- the exponent of a decimal in parts
   takes_exponent : {l k : Segment} {d e : Dictionary} {bits later : List Bool} {p : FieldPart} (z : Option ℤ) (name : List ℕ) (number : ℕ) (presence : Presence) (q : Bor FieldPart) (is : Instructions) (spare place next : ℕ) → 0 < spare
       → Took level p (bit_for (part_needs_bit p) bits) d e (exponent_of z) (drop place bytes) (drop next bytes) → Spelt p (entry_at d p.key) (exponent_of z) l k → later ≡ after_bit (part_needs_bit p) bits
       → Takes level bytes l d bits (record { mantissa = None; rest = then_instruction (field_in_parts name number presence p q.now) is; spare = spare; place = place })
       k e later (record { mantissa = behind (is_some z) (Some q); rest = is; spare = spare - 1; place = next })
-  takes_exponent {l} {k} {d} {e} {bits} {later} {p} None name number presence q is spare place next some took spelt map = takes_one (λ out outer o at left.
-      let here = is_instruction o.next at in (
-        at_instruction,
-        record { rest = is; done = o.body.done ++ single None ∷ [] },
-        has_exponent None out outer l k o name number presence p q.now is d e here left took.entry spelt,
-        refl,
-        refl,
-        λ more. rw (map, took.entry)
-            (no_exponent_on level [] o.next o.body name number presence p q.now is (cursor d bits spare (drop place bytes ++ more)) (cursor d bits (spare - 1) (drop place bytes ++ more)) _ None here left refl
-            (count_goes number spare d bits (drop place bytes ++ more) some)
-            (part_goes level p d bits (spare - 1) (drop place bytes ++ more) (drop next bytes ++ more) None (took.value more))),
-      ))
-  takes_exponent {l} {k} {d} {e} {bits} {later} {p} (Some z) name number presence q is spare place next some took spelt map = takes_one (λ out outer o at left.
-      let here = is_instruction o.next at in (
-        at_mantissa z q.now,
-        record { rest = is; done = o.body.done },
-        has_exponent (Some z) out outer l k o name number presence p q.now is d e here left took.entry spelt,
-        refl,
-        refl,
-        λ more. rw (map, took.entry)
-            (exponent_on level [] o.next o.body name number presence p q.now is (cursor d bits spare (drop place bytes ++ more)) (cursor d bits (spare - 1) (drop place bytes ++ more)) _ (exponent_of (Some z)) z here left refl
-            (count_goes number spare d bits (drop place bytes ++ more) some)
-            (part_goes level p d bits (spare - 1) (drop place bytes ++ more) (drop next bytes ++ more) (exponent_of (Some z)) (took.value more))),
-      ))
+  takes_exponent {l} {k} {d} {e} {bits} {later} {p} None name number presence q is spare place next some took spelt map = record {
+    passes = λ out outer o at left opened.
+        let here = is_instruction o.next at in
+        passes_one o at_instruction (record { rest = is; done = o.body.done ++ single None ∷ [] }) refl refl (has_exponent None out outer l k o name number presence p q.now is d e here left took.entry spelt opened) (λ more. rw (map, took.entry)
+        (no_exponent_on level [] o.next o.body name number presence p q.now is (cursor d bits spare (drop place bytes ++ more)) (cursor d bits (spare - 1) (drop place bytes ++ more)) _ None here left refl
+        (count_goes number spare d bits (drop place bytes ++ more) some)
+        (part_goes level p d bits (spare - 1) (drop place bytes ++ more) (drop next bytes ++ more) None (took.value more))));
+  }
+  takes_exponent {l} {k} {d} {e} {bits} {later} {p} (Some z) name number presence q is spare place next some took spelt map = record {
+    passes = λ out outer o at left opened.
+        let here = is_instruction o.next at in
+        passes_one o (at_mantissa z q.now) (record { rest = is; done = o.body.done }) refl refl (has_exponent (Some z) out outer l k o name number presence p q.now is d e here left took.entry spelt opened) (λ more. rw (map, took.entry)
+        (exponent_on level [] o.next o.body name number presence p q.now is (cursor d bits spare (drop place bytes ++ more)) (cursor d bits (spare - 1) (drop place bytes ++ more)) _ (exponent_of (Some z)) z here left refl
+        (count_goes number spare d bits (drop place bytes ++ more) some)
+        (part_goes level p d bits (spare - 1) (drop place bytes ++ more) (drop next bytes ++ more) (exponent_of (Some z)) (took.value more))));
+  }
 
   -- the mantissa of a decimal whose exponent is there
   takes_mantissa : {l k : Segment} {d e : Dictionary} {bits later : List Bool} (q : Bor FieldPart) (m : ℤ) (is : Instructions) (spare place next : ℕ)
       → Took level q.now (bit_for (part_needs_bit q.now) bits) d e (Some (I64 m)) (drop place bytes) (drop next bytes) → Spelt q.now (entry_at d q.now.key) (Some (I64 m)) l k → later ≡ after_bit (part_needs_bit q.now) bits
       → Takes level bytes l d bits (record { mantissa = Some q; rest = is; spare = spare; place = place }) k e later (record { mantissa = None; rest = is; spare = spare; place = next })
-  takes_mantissa {l} {k} {d} {e} {bits} {later} q m is spare place next took spelt map = takes_one (λ out outer o at left.
-      let here = is_mantissa o.next (pos 0) q.now at in (
-        at_instruction,
-        with_item o.body (single (Some (Decimal here.exponent m))),
-        has_mantissa out outer l k o here.exponent m q.now d e here.is took.entry spelt,
-        refl,
-        left,
-        λ more. rw (map, took.entry)
-            (mantissa_on_goes level [] o.next here.exponent m q.now o.body (cursor d bits spare (drop place bytes ++ more)) _ here.is
-            (part_goes level q.now d bits spare (drop place bytes ++ more) (drop next bytes ++ more) (Some (I64 m)) (took.value more))),
-      ))
+  takes_mantissa {l} {k} {d} {e} {bits} {later} q m is spare place next took spelt map = record {
+    passes = λ out outer o at left opened.
+        let here = is_mantissa o.next (pos 0) q.now at in
+        passes_one o at_instruction (with_item o.body (single (Some (Decimal here.exponent m)))) refl left (has_mantissa out outer l k o here.exponent m q.now d e here.is took.entry spelt opened) (λ more. rw (map, took.entry)
+        (mantissa_on_goes level [] o.next here.exponent m q.now o.body (cursor d bits spare (drop place bytes ++ more)) _ here.is
+        (part_goes level q.now d bits spare (drop place bytes ++ more) (drop next bytes ++ more) (Some (I64 m)) (took.value more))));
+  }
 
   -- an instruction that is a field, or begins with the exponent of a decimal in parts
   takes_first : (i : Instruction) {there : Bool} {p : FieldPart} {d e : Dictionary} {bits later : List Bool} {k j : LevelNow} (m : Option (Bor FieldPart)) (is : Instructions) (spare : ℕ)
@@ -269,7 +214,7 @@ module _ {level : Level} {bytes : List ℕ} where
     next_served = tt;
     takes = λ spare few.
         let whole : spare - 0 ≡ spare = omega arith in
-        rw whole (takes_one (λ out outer o at left. (o.next, o.body, (λ h. h), at, left, λ more. refl)));
+        rw whole (record { passes = λ out outer o at left opened. passes_one o o.next o.body at left opened (λ more. refl) });
     room = λ around room. room;
     kept = kept;
   }

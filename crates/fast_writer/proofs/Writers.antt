@@ -6,7 +6,7 @@ use Rattle.std.specs.Option.{is_some}
 use Rattle.std.proofs.lemmas.Bool.{or_parts}
 use Rattle.std.proofs.lemmas.List.{append_assoc}
 use Rattle.fast_value.specs.declared.scalar.Scalar.{Scalar}
-use Rattle.fast_value.specs.declared.scalar.Scalar.TheVariants.{U32, I64, Decimal}
+use Rattle.fast_value.specs.declared.scalar.Scalar.TheVariants.{U32, I64, Decimal, I32}
 use Rattle.fast_value.specs.declared.kind.Presence.{Presence}
 use Rattle.fast_template.specs.declared.resolved.FieldPart.{FieldPart}
 use Rattle.fast_template.specs.Resolved.{Instruction, Instructions, Resolved, takes_bit, whole_field, field_in_parts, group_of, sequence_of, no_instructions, then_instruction, is_optional, has_map, part_needs_bit}
@@ -14,15 +14,16 @@ use Rattle.fast_dictionary.specs.Dictionary.{Dictionary, entry_at}
 use Rattle.fast_wire.specs.PresenceMap.{IsMap}
 use Rattle.fast_wire.specs.Writing.{IsShortest}
 use Rattle.fast_field.specs.Best.{IsBest}
-use Rattle.fast_stream.specs.Nodes.{Item, single, items_of, Content, nodes_in, node_limit}
+use Rattle.fast_stream.specs.Nodes.{Item, single, items_of, Content, nodes_in, node_limit, group_items, no_elements, sequence_elements}
 use Rattle.fast_stream.specs.Bodies.{State, PartBy, PieceBy, written}
 use Rattle.fast_stream.specs.Streams.{identifier, members_of}
-use Rattle.fast_walk.specs.OpenSegments.{Body, with_item, Sequel, Inside, in_group, in_sequence, Waiting, Next, at_instruction, at_mantissa, at_element}
+use Rattle.fast_walk.specs.OpenSegments.{Body, with_item, Sequel, Inside, in_group, in_sequence, Waiting, Next, at_instruction, at_mantissa, at_element, fewer}
 use Rattle.fast_walk.specs.Received.{Received, IsExponent, moved, opened, passed, entered, after_exponent, after_length, in_element, after_sequence, ended_in, content_received, exponent_of, length_of, bytes_in}
 use Rattle.fast_writer.specs.Canonical.{CanonFrom, CanonMessage, IsShortestMap}
-use Rattle.fast_writer.specs.Written.{Segment, IsEmpty, state, Opening, of_message, IsWritten, with_bytes, IsTop, IsBehind, Chain, IsOpened, IsFinished, Spelt, Asked, Ended, Closes}
-use Rattle.fast_writer.proofs.Leavings.{closed}
-use Rattle.fast_writer.proofs.Writings.{part_by, chain_on, spelt_item, exponent_waits, mantissa_written, left_out_written, group_entered, ended, segment_left, length_waits, element_entered, elements_written}
+use Rattle.fast_writer.specs.Written.{Segment, IsEmpty, state, Opening, of_message, IsWritten, with_bytes, IsTop, IsBehind, Chain, Waits, IsOpened, IsFinished, Spelt, Asked, Ended, Closes, bits_for, more_of}
+use Rattle.fast_walk.proofs.Steps.{elements_before-end}
+use Rattle.fast_writer.proofs.Leavings.{closed, no_bits}
+use Rattle.fast_writer.proofs.Writings.{Inner, body_is, chain_on, chain_pop, chain_push, element_waits, ended, front_written, group_waits, level_is, new_segment, part_by, piece_written, with_map}
 
 abbrev message_of : Received → Opening
 message_of o = of_message o.template o.members o.start
@@ -44,8 +45,11 @@ on_top out outer l k o d e next after b is f has = (
 pub has_spelt : (i : Instruction) (out : List ℕ) (outer : List Segment) (l k : Segment) (o : Received) (p : FieldPart) (is : Instructions) (d e : Dictionary) (v : Option Scalar) (n : Item)
     → o.next ≡ at_instruction → o.body.rest ≡ then_instruction i is → ((s t : State) (x : List ℕ) → PartBy IsBest p s x v t → PieceBy IsBest IsShortestMap i s x n t)
     → (takes_bit i ≡ false → part_needs_bit p ≡ false) → e ≡ written p d v → Spelt p (entry_at d p.key) v l k → IsOpened out outer l o d → IsOpened out outer k (passed o is n) e
-has_spelt i out outer l k o p is d e v n next first piece takes entry s =
-    on_top out outer l k o d e at_instruction at_instruction (record { rest = is; done = o.body.done ++ n ∷ [] }) next (λ g w. spelt_item g l k o.body i p is d e v n first piece takes entry s w)
+has_spelt i out outer l k o p is d e v n next first piece takes entry s = on_top out outer l k o d e at_instruction at_instruction (record { rest = is; done = o.body.done ++ n ∷ [] }) next (λ g w.
+    let used = bits_for (part_needs_bit p) s.bit in
+    let now = piece_written g l i is o.body.done d (written p d v) used s.form n (body_is g l o.body (then_instruction i is) d first w)
+    (λ mid later leaves. piece (state d mid) (state (written p d v) later) s.form (part_by p d v s.bit s.form mid later s.needs s.best leaves)) (λ h. no_bits (part_needs_bit p) s.bit (takes h)) in
+    rw entry (level_is g (more_of l used s.form) k (record { rest = is; done = o.body.done ++ n ∷ [] }) (written p d v) (sym s.bits) (sym s.own) (sym s.bytes) now))
 
 pub has_field : (out : List ℕ) (outer : List Segment) (l k : Segment) (o : Received) (name : List ℕ) (number : ℕ) (presence : Presence) (p : FieldPart) (is : Instructions) (d e : Dictionary) (v : Option Scalar)
     → o.next ≡ at_instruction → o.body.rest ≡ then_instruction (whole_field name number presence p) is → e ≡ written p d v → Spelt p (entry_at d p.key) v l k
@@ -63,14 +67,21 @@ pub has_exponent : (z : Option ℤ) (out : List ℕ) (outer : List Segment) (l k
     → IsOpened out outer l o d → IsOpened out outer k (after_exponent o is q (exponent_of z)) e
 has_exponent None out outer l k o name number presence p q is d e next first entry s =
     has_spelt (field_in_parts name number presence p q) out outer l k o p is d e None (single None) next first (λ s t x h. h) (λ h. (or_parts (part_needs_bit p) (part_needs_bit q) h).0) entry s
-has_exponent (Some z) out outer l k o name number presence p q is d e next first entry s =
-    on_top out outer l k o d e at_instruction (at_mantissa z q) (record { rest = is; done = o.body.done }) next (λ g w. exponent_waits g l k o.body name number presence p q is d e z first entry s w)
+has_exponent (Some z) out outer l k o name number presence p q is d e next first entry s = on_top out outer l k o d e at_instruction (at_mantissa z q) (record { rest = is; done = o.body.done }) next (λ g w. rw entry (record {
+  then = λ bit x m needs best.
+      let f = written p d (Some (I32 z)) in
+      front_written g l k o.body (field_in_parts name number presence p q) p is d (Some (I32 z)) s (bits_for (part_needs_bit q) bit) x (single (Some (Decimal z m))) (written q f (Some (I64 m))) first
+      (λ mid t later part leaves. record { between = state f t; front = s.form; back = x; parts = refl; first = part; second = part_by q f (Some (I64 m)) bit x t later needs best leaves })
+      (λ h. let t = or_parts (part_needs_bit p) (part_needs_bit q) h in (t.0, no_bits (part_needs_bit q) bit t.1)) w;
+}))
 
 pub has_mantissa : (out : List ℕ) (outer : List Segment) (l k : Segment) (o : Received) (z m : ℤ) (q : FieldPart) (d e : Dictionary)
     → o.next ≡ at_mantissa z q → e ≡ written q d (Some (I64 m)) → Spelt q (entry_at d q.key) (Some (I64 m)) l k
     → IsOpened out outer l o d → IsOpened out outer k (passed o o.body.rest (single (Some (Decimal z m)))) e
 has_mantissa out outer l k o z m q d e next entry s =
-    on_top out outer l k o d e (at_mantissa z q) at_instruction (with_item o.body (single (Some (Decimal z m)))) next (λ g w. mantissa_written g l k o.body z m q d e entry s w)
+    let b = with_item o.body (single (Some (Decimal z m))) in
+    on_top out outer l k o d e (at_mantissa z q) at_instruction b next (λ g w. rw entry
+    (level_is g (more_of l (bits_for (part_needs_bit q) s.bit) s.form) k b (written q d (Some (I64 m))) (sym s.bits) (sym s.own) (sym s.bytes) (w.then s.bit s.form m s.needs s.best)))
 
 pub has_length : (n : Option ℕ) (out : List ℕ) (outer : List Segment) (l k : Segment) (o : Received) (name : List ℕ) (number : ℕ) (presence : Presence) (p : FieldPart) (members is : Instructions) (d e : Dictionary)
     → o.next ≡ at_instruction → o.body.rest ≡ then_instruction (sequence_of name number presence p members) is → e ≡ written p d (length_of n) → Spelt p (entry_at d p.key) (length_of n) l k
@@ -78,8 +89,13 @@ pub has_length : (n : Option ℕ) (out : List ℕ) (outer : List Segment) (l k :
 has_length None out outer l k o name number presence p members is d e next first entry s =
     has_spelt (sequence_of name number presence p members) out outer l k o p is d e None (single None) next first (λ s t x h. h) (λ h. h) entry s
 has_length (Some n) out outer l k o name number presence p members is d e next first entry s =
-    on_top out outer l k o d e at_instruction (at_element (record { number = number; own_map = has_map members; members = members; left = n; done = [] })) (record { rest = is; done = o.body.done }) next
-    (λ g w. length_waits g l k o.body name number presence p members is d e n first entry s w)
+    on_top out outer l k o d e at_instruction (at_element (record { number = number; own_map = has_map members; members = members; left = n; done = [] })) (record { rest = is; done = o.body.done }) next (λ g w. rw entry (record {
+      own = refl;
+      then = λ y es h count each.
+          rw (append-nil k.bits) at (front_written g l k o.body (sequence_of name number presence p members) p is d (Some (U32 n)) s [] y (sequence_elements es) h first
+          (λ mid t later part leaves. record { between = state (written p d (Some (U32 n))) t; front = s.form; back = y; parts = refl; first = rw count part; second = (sym leaves, each) })
+          (λ q. (q, refl)) w);
+    }))
 
 -- ---- segments
 
@@ -87,22 +103,42 @@ pub has_left_out : (out : List ℕ) (outer : List Segment) (l k : Segment) (o : 
     → o.next ≡ at_instruction → o.body.rest ≡ then_instruction (group_of name number presence members) is → is_optional presence ≡ true → Asked true false l k
     → IsOpened out outer l o d → IsOpened out outer k (passed o is (single None)) d
 has_left_out out outer l k o name number presence members is d next first optional asked =
-    on_top out outer l k o d d at_instruction at_instruction (record { rest = is; done = o.body.done ++ single None ∷ [] }) next (λ g w. left_out_written g l k o.body name number presence members is d first optional asked w)
+    let b : Body = record { rest = is; done = o.body.done ++ single None ∷ [] } in
+    on_top out outer l k o d d at_instruction at_instruction b next (λ g w. level_is g (more_of l (false ∷ []) []) k b d (sym asked.bits) (sym asked.own) (append-nil l.bytes ∙ sym asked.bytes)
+    (piece_written g l (group_of name number presence members) is o.body.done d d (false ∷ []) [] (single None) (body_is g l o.body (then_instruction (group_of name number presence members) is) d first w)
+    (λ mid later leaves. rw optional (leaves.0, refl, ap (state d) (sym leaves.1))) (λ h. absurd (true≢false (sym optional ∙ h)))))
+
+-- in a segment that has just begun
+has_inner : (out : List ℕ) (outer later : List Segment) (l k j : Segment) (o : Received) (w : Waiting) (members : Instructions) (d : Dictionary) (next : Next)
+    → o.next ≡ next → later ≡ outer ++ k ∷ [] → ((g : Opening) → IsTop next l o.body d g → IsEmpty (has_map members) j × Waits g k w members d)
+    → IsOpened out outer l o d → IsOpened out later j (moved o at_instruction (record { rest = members; done = [] }) (o.around ++ w ∷ [])) d
+has_inner out outer later l k j o w members d next at pushed waits has = rw pushed (
+  has.0,
+  chain_push (message_of o) o.around outer w k (IsTop at_instruction j (record { rest = members; done = [] }) d)
+      (chain_on (message_of o) o.around outer (IsTop next l o.body d) (Inner k w (IsTop at_instruction j (record { rest = members; done = [] }) d))
+      (λ g top. (members, d, (waits g top).1, new_segment members d j (waits g top).0)) (at_next out outer l o d next at has)),
+)
 
 pub has_entered : (out : List ℕ) (outer later : List Segment) (l k j : Segment) (o : Received) (name : List ℕ) (number : ℕ) (presence : Presence) (members is : Instructions) (bits : List Bool) (d : Dictionary) (optional : Bool)
     → o.next ≡ at_instruction → o.body.rest ≡ then_instruction (group_of name number presence members) is → optional ≡ is_optional presence → Asked optional true l k
     → later ≡ outer ++ k ∷ [] → IsEmpty (has_map members) j
     → IsOpened out outer l o d → IsOpened out later j (entered o number bits members is) d
-has_entered out outer later l k j o name number presence members is bits d optional next first is_it asked pushed empty has = rw (pushed) (
-  has.0,
-  group_entered (message_of o) o.around outer l k j o.body name number presence members is bits d first (rw (is_it) at asked) empty (at_next out outer l o d at_instruction next has),
-)
+has_entered out outer later l k j o name number presence members is bits d optional next first is_it asked pushed empty =
+    let w : Waiting = record { bits = bits; number = number; body = record { rest = is; done = o.body.done }; inside = in_group } in
+    let bit = rw is_it at asked in
+    has_inner out outer later l k j o w members d at_instruction next pushed (λ g top. (
+      empty,
+      λ y ns e segment.
+          level_is g (with_bytes (more_of l (bits_for (is_optional presence) true) []) y) (with_bytes k y) (with_item w.body (group_items ns)) e
+          (sym bit.bits) (sym bit.own) (ap (λ (t : List ℕ). t ++ y) (append-nil l.bytes ∙ sym bit.bytes))
+          (group_waits g l name number presence members is o.body.done bits d (body_is g l o.body (then_instruction (group_of name number presence members) is) d first top) y ns e segment),
+    ))
 
 pub has_element : (out : List ℕ) (outer later : List Segment) (l j : Segment) (o : Received) (s : Sequel) (bits : List Bool) (d : Dictionary) (own : Bool)
     → o.next ≡ at_element s → own ≡ s.own_map → 0 < s.left → later ≡ outer ++ l ∷ [] → IsEmpty own j
     → IsOpened out outer l o d → IsOpened out later j (in_element o bits s) d
 has_element out outer later l j o s bits d own next is some pushed empty has =
-    rw (pushed) (has.0, element_entered (message_of o) o.around outer l j o.body s bits d some (rw (is) at empty) (at_next out outer l o d (at_element s) next has))
+    has_inner out outer later l l j o (record { bits = bits; number = s.number; body = o.body; inside = in_sequence (fewer s) }) s.members d (at_element s) next pushed (λ g top. (rw (is, top.own) at empty, element_waits g l o.body s d bits some top)) has
 
 -- the segment around has what ended
 ends_in : (inside : Inside) (out : List ℕ) (later : List Segment) (next : Segment) (o : Received) (ws : List Waiting) (w : Waiting) (d : Dictionary)
@@ -114,14 +150,19 @@ pub has_ended : (inside : Inside) (out : List ℕ) (outer later : List Segment) 
     → o.next ≡ at_instruction → o.body.rest ≡ no_instructions → o.around ≡ ws ++ w ∷ [] → w.inside ≡ inside → Closes outer l later k
     → IsOpened out outer l o d → IsOpened out later k (ended_in o ws w.body inside) d
 has_ended inside out outer later l k o ws w d next rest is inside_is closes has =
-    let behind = segment_left (message_of o) o.around ws w later l closes.around o.body d closes.ended.map rest is closes.ended.shortest closes.ended.none
-    (subst (λ (ls : List Segment). Chain (message_of o) o.around ls (IsTop at_instruction l o.body d)) closes.outer_is (at_next out outer l o d at_instruction next has)) in
+    let x = closes.ended.map in
+    let m = with_bytes closes.around (x ++ l.bytes) in
+    let Left : Inside → Opening → Type 0 = λ n h. IsBehind n h m w.body (items_of o.body.done) d in
+    let still = subst (λ (ls : List Segment). Chain (message_of o) o.around ls (IsTop at_instruction l o.body d)) closes.outer_is (at_next out outer l o d at_instruction next has) in
+    let left = chain_on (message_of o) ws later (Inner closes.around w (IsTop at_instruction l o.body d)) (Left w.inside) (λ h t. t.2 (x ++ l.bytes) (items_of o.body.done) d
+    (with_map (has_map t.0) t.0 t.1 d l o.body x refl rest (λ own. closes.ended.shortest (t.3.own ∙ own)) (λ own. closes.ended.none (t.3.own ∙ own)) t.3))
+    (chain_pop (message_of o) ws later w closes.around (IsTop at_instruction l o.body d) (rw is at still)) in
     rw (closes.next_is, closes.ended.bytes)
-    (ends_in inside out later (with_bytes closes.around (closes.ended.map ++ l.bytes)) o ws w d has.0
-    (subst (λ (n : Inside). Chain (message_of o) ws later (λ h. IsBehind n h (with_bytes closes.around (closes.ended.map ++ l.bytes)) w.body (items_of o.body.done) d)) inside_is behind))
+    (ends_in inside out later m o ws w d has.0 (subst (λ (n : Inside). Chain (message_of o) ws later (Left n)) inside_is left))
 
 pub has_elements : (out : List ℕ) (outer : List Segment) (l : Segment) (o : Received) (d : Dictionary) (s : Sequel) → o.next ≡ at_element s → s.left ≡ 0 → IsOpened out outer l o d → IsOpened out outer l (after_sequence o s) d
-has_elements out outer l o d s next none = on_top out outer l l o d d (at_element s) at_instruction (after_sequence o s).body next (λ g w. elements_written g l o.body s d none w)
+has_elements out outer l o d s next none = on_top out outer l l o d d (at_element s) at_instruction (after_sequence o s).body next (λ g w.
+    rw (append-nil l.bytes, elements_before-end s.done) at (w.then [] no_elements d (sym none) (refl, refl)))
 
 -- ---- messages
 

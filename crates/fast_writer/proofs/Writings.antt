@@ -1,23 +1,21 @@
 -- What is written stays so, piece by piece.
-use Rattle.std.proofs.Common.{◌≡◌, ◌<◌, ℕ, Bool, true, false, List, [], ◌∷◌, ◌++◌, Option, Some, None, refl, sym, ap, subst, ◌∙◌, append-nil, arith, true≢false}
+use Rattle.std.proofs.Common.{◌≡◌, ◌<◌, ℕ, Bool, true, false, List, [], ◌∷◌, ◌++◌, Option, refl, sym, ap, subst, ◌∙◌, append-nil, arith}
 use Rattle.std.proofs.lemmas.Bool.{or_parts}
-use Rattle.std.specs.Prelude.{ℤ}
 use Rattle.std.proofs.lemmas.List.{append_assoc}
 use Rattle.fast_value.specs.declared.scalar.Scalar.{Scalar}
-use Rattle.fast_value.specs.declared.scalar.Scalar.TheVariants.{U32, I32, I64, Decimal}
 use Rattle.fast_value.specs.declared.kind.Presence.{Presence}
 use Rattle.fast_template.specs.declared.resolved.FieldPart.{FieldPart}
-use Rattle.fast_template.specs.Resolved.{Instruction, Instructions, field_in_parts, group_of, sequence_of, no_instructions, then_instruction, part_needs_bit, is_optional, takes_bit, has_map}
+use Rattle.fast_template.specs.Resolved.{Instruction, Instructions, group_of, no_instructions, then_instruction, part_needs_bit, is_optional, takes_bit, has_map}
 use Rattle.fast_dictionary.specs.Dictionary.{Dictionary, entry_at}
 use Rattle.fast_wire.specs.PresenceMap.{IsMap}
 use Rattle.fast_wire.specs.Writing.{IsShortest}
 use Rattle.fast_field.specs.Best.{IsBest}
-use Rattle.fast_stream.specs.Nodes.{Item, single, group_items, sequence_elements, no_items, then_item, items_of, no_elements, then_element, elements_of}
-use Rattle.fast_stream.specs.Bodies.{State, SegmentBy, PartBy, PieceBy, written}
-use Rattle.fast_walk.specs.OpenSegments.{Body, Sequel, in_group, in_sequence, Waiting, at_instruction, at_element, with_item, fewer}
-use Rattle.fast_walk.proofs.Steps.{items_before-more, items_before-end, elements_before-more, elements_before-end}
+use Rattle.fast_stream.specs.Nodes.{Item, group_items, no_items, then_item, items_of, then_element}
+use Rattle.fast_stream.specs.Bodies.{SegmentBy, PartBy, PieceBy, written}
+use Rattle.fast_walk.specs.OpenSegments.{Body, Sequel, in_group, in_sequence, Waiting, fewer}
+use Rattle.fast_walk.proofs.Steps.{items_before-more, items_before-end, elements_before-more}
 use Rattle.fast_writer.specs.Canonical.{CanonBody, IsShortestMap}
-use Rattle.fast_writer.specs.Written.{Segment, IsEmpty, state, bits_for, Leaves, Opening, of_segment, Whole, IsWritten, with_bytes, more_of, WaitsMantissa, WaitsElements, IsTop, IsBehind, Waits, Chain, Spelt, Asked}
+use Rattle.fast_writer.specs.Written.{Segment, IsEmpty, state, bits_for, Leaves, Opening, of_segment, Whole, IsWritten, more_of, WaitsElements, Waits, Chain, Spelt}
 use Rattle.fast_writer.proofs.Leavings.{leaves_split, bit_of, behind_of, no_bits, closed}
 
 -- ---- one item more
@@ -49,7 +47,7 @@ made b c o p x y bits own bytes = rw (bits, own, bytes) refl
 pub level_is : (g : Opening) (l k : Segment) (b : Body) (d : Dictionary) → l.bits ≡ k.bits → l.own ≡ k.own → l.bytes ≡ k.bytes → IsWritten g l b d → IsWritten g k b d
 level_is g l k b d bits own bytes w = subst (λ (m : Segment). IsWritten g m b d) (made l.bits k.bits l.own k.own l.bytes k.bytes bits own bytes) w
 
-body_is : (g : Opening) (l : Segment) (b : Body) (is : Instructions) (d : Dictionary) → b.rest ≡ is → IsWritten g l b d → IsWritten g l (record { rest = is; done = b.done }) d
+pub body_is : (g : Opening) (l : Segment) (b : Body) (is : Instructions) (d : Dictionary) → b.rest ≡ is → IsWritten g l b d → IsWritten g l (record { rest = is; done = b.done }) d
 body_is g l b is d h w = rw (sym h) w
 
 -- ---- the segments around
@@ -58,8 +56,7 @@ pub chain_on : (g : Opening) (ws : List Waiting) (ls : List Segment) (I J : Open
     → ((h : Opening) → I h → J h) → Chain g ws ls I → Chain g ws ls J
 chain_on g [] [] I J f c = f g c
 chain_on g (w ∷ ws) (l ∷ ls) I J f c = (c.0, c.1, c.2, chain_on (of_segment c.0 c.1) ws ls I J f c.3)
-chain_on g [] (l ∷ ls) I J f c = c
-chain_on g (w ∷ ws) [] I J f c = c
+chain_on g ws ls I J f c = absurd c
 
 abbrev pub Inner : Segment → Waiting → (Opening → Type 0) → Opening → Type 0
 Inner l w J g = (members : Instructions) × (d : Dictionary) × Waits g l w members d × J (of_segment members d)
@@ -68,8 +65,7 @@ pub chain_push : (g : Opening) (ws : List Waiting) (ls : List Segment) (w : Wait
     → Chain g ws ls (Inner l w J) → Chain g (ws ++ w ∷ []) (ls ++ l ∷ []) J
 chain_push g [] [] w l J c = c
 chain_push g (v ∷ ws) (k ∷ ls) w l J c = (c.0, c.1, c.2, chain_push (of_segment c.0 c.1) ws ls w l J c.3)
-chain_push g [] (k ∷ ls) w l J c = absurd c
-chain_push g (v ∷ ws) [] w l J c = absurd c
+chain_push g ws ls w l J c = absurd c
 
 pub chain_pop : (g : Opening) (ws : List Waiting) (ls : List Segment) (w : Waiting) (l : Segment) (J : Opening → Type 0)
     → Chain g (ws ++ w ∷ []) (ls ++ l ∷ []) J → Chain g ws ls (Inner l w J)
@@ -82,20 +78,8 @@ chain_pop g (v ∷ u ∷ ws) [] w l J c = absurd c.3
 
 -- ---- fields
 
--- a value that is an item of its own
-pub spelt_item : (g : Opening) (l k : Segment) (b : Body) (i : Instruction) (p : FieldPart) (is : Instructions) (d e : Dictionary) (v : Option Scalar) (n : Item)
-    → b.rest ≡ then_instruction i is
-    → ((s t : State) (x : List ℕ) → PartBy IsBest p s x v t → PieceBy IsBest IsShortestMap i s x n t)
-    → (takes_bit i ≡ false → part_needs_bit p ≡ false)
-    → e ≡ written p d v → Spelt p (entry_at d p.key) v l k → IsWritten g l b d → IsWritten g k (record { rest = is; done = b.done ++ n ∷ [] }) e
-spelt_item g l k b i p is d e v n first piece takes entry s w =
-    let used = bits_for (part_needs_bit p) s.bit in
-    let now = piece_written g l i is b.done d (written p d v) used s.form n (body_is g l b (then_instruction i is) d first w)
-    (λ mid later leaves. piece (state d mid) (state (written p d v) later) s.form (part_by p d v s.bit s.form mid later s.needs s.best leaves)) (λ h. no_bits (part_needs_bit p) s.bit (takes h)) in
-    rw (sym entry) at (level_is g (more_of l used s.form) k (record { rest = is; done = b.done ++ n ∷ [] }) (written p d v) (sym s.bits) (sym s.own) (sym s.bytes) now)
-
 -- a part in front of the rest of its piece
-front_written : (g : Opening) (l k : Segment) (b : Body) (i : Instruction) (p : FieldPart) (is : Instructions) (d : Dictionary) (v : Option Scalar) (s : Spelt p (entry_at d p.key) v l k) (more : List Bool) (y : List ℕ) (n : Item) (h : Dictionary)
+pub front_written : (g : Opening) (l k : Segment) (b : Body) (i : Instruction) (p : FieldPart) (is : Instructions) (d : Dictionary) (v : Option Scalar) (s : Spelt p (entry_at d p.key) v l k) (more : List Bool) (y : List ℕ) (n : Item) (h : Dictionary)
     → b.rest ≡ then_instruction i is
     → ((mid t later : List Bool) → PartBy IsBest p (state d mid) s.form v (state (written p d v) t) → Leaves more t later → PieceBy IsBest IsShortestMap i (state d mid) (s.form ++ y) n (state h later))
     → (takes_bit i ≡ false → (part_needs_bit p ≡ false) × (more ≡ [])) → IsWritten g l b d → IsWritten g (more_of k more y) (record { rest = is; done = b.done ++ n ∷ [] }) h
@@ -109,28 +93,9 @@ front_written g l k b i p is d v s more y n h first piece none w =
     piece mid t.0 later (part_by p d v s.bit s.form mid t.0 s.needs s.best t.1) t.2)
     (λ q. let t = none q in rw (no_bits (part_needs_bit p) s.bit t.0, t.1) refl))
 
--- ---- decimals in parts
-
-pub exponent_waits : (g : Opening) (l k : Segment) (b : Body) (name : List ℕ) (number : ℕ) (presence : Presence) (p q : FieldPart) (is : Instructions) (d e : Dictionary) (z : ℤ)
-    → b.rest ≡ then_instruction (field_in_parts name number presence p q) is → e ≡ written p d (Some (I32 z)) → Spelt p (entry_at d p.key) (Some (I32 z)) l k
-    → IsWritten g l b d → WaitsMantissa g k (record { rest = is; done = b.done }) z q e
-exponent_waits g l k b name number presence p q is d e z first entry s w = rw entry (record {
-  then = λ bit x m needs best.
-      let f = written p d (Some (I32 z)) in
-      front_written g l k b (field_in_parts name number presence p q) p is d (Some (I32 z)) s (bits_for (part_needs_bit q) bit) x (single (Some (Decimal z m))) (written q f (Some (I64 m))) first
-      (λ mid t later part leaves. record { between = state f t; front = s.form; back = x; parts = refl; first = part; second = part_by q f (Some (I64 m)) bit x t later needs best leaves })
-      (λ h. let t = or_parts (part_needs_bit p) (part_needs_bit q) h in (t.0, no_bits (part_needs_bit q) bit t.1)) w;
-})
-
-pub mantissa_written : (g : Opening) (l k : Segment) (b : Body) (z m : ℤ) (q : FieldPart) (d e : Dictionary) → e ≡ written q d (Some (I64 m)) → Spelt q (entry_at d q.key) (Some (I64 m)) l k
-    → WaitsMantissa g l b z q d → IsWritten g k (with_item b (single (Some (Decimal z m)))) e
-mantissa_written g l k b z m q d e entry s w =
-    rw entry (level_is g (more_of l (bits_for (part_needs_bit q) s.bit) s.form) k (with_item b (single (Some (Decimal z m)))) (written q d (Some (I64 m))) (sym s.bits) (sym s.own) (sym s.bytes)
-    (w.then s.bit s.form m s.needs s.best))
-
 -- ---- groups
 
-group_waits : (g : Opening) (l : Segment) (name : List ℕ) (number : ℕ) (presence : Presence) (inner is : Instructions) (done : List Item) (bits : List Bool) (d : Dictionary)
+pub group_waits : (g : Opening) (l : Segment) (name : List ℕ) (number : ℕ) (presence : Presence) (inner is : Instructions) (done : List Item) (bits : List Bool) (d : Dictionary)
     → IsWritten g l (record { rest = then_instruction (group_of name number presence inner) is; done = done }) d
     → Waits g (more_of l (bits_for (is_optional presence) true) []) (record { bits = bits; number = number; body = record { rest = is; done = done }; inside = in_group }) inner d
 group_waits g l name number presence inner is done bits d w y ns e segment =
@@ -139,15 +104,7 @@ group_waits g l name number presence inner is done bits d w y ns e segment =
     (λ mid later leaves. (bit_of (is_optional presence) true mid later (λ h. refl) leaves, sym (behind_of (is_optional presence) true mid later leaves), segment))
     (no_bits (is_optional presence) true))
 
-pub left_out_written : (g : Opening) (l k : Segment) (b : Body) (name : List ℕ) (number : ℕ) (presence : Presence) (inner is : Instructions) (d : Dictionary)
-    → b.rest ≡ then_instruction (group_of name number presence inner) is → is_optional presence ≡ true → Asked true false l k
-    → IsWritten g l b d → IsWritten g k (record { rest = is; done = b.done ++ single None ∷ [] }) d
-left_out_written g l k b name number presence inner is d first optional asked w =
-    level_is g (more_of l (false ∷ []) []) k (record { rest = is; done = b.done ++ single None ∷ [] }) d (sym asked.bits) (sym asked.own) (append-nil l.bytes ∙ sym asked.bytes)
-    (piece_written g l (group_of name number presence inner) is b.done d d (false ∷ []) [] (single None) (body_is g l b (then_instruction (group_of name number presence inner) is) d first w)
-    (λ mid later leaves. rw optional (leaves.0, refl, ap (state d) (sym leaves.1))) (λ h. absurd (true≢false (sym optional ∙ h))))
-
-new_segment : (inner : Instructions) (d : Dictionary) (l : Segment) → IsEmpty (has_map inner) l → IsWritten (of_segment inner d) l (record { rest = inner; done = [] }) d
+pub new_segment : (inner : Instructions) (d : Dictionary) (l : Segment) → IsEmpty (has_map inner) l → IsWritten (of_segment inner d) l (record { rest = inner; done = [] }) d
 new_segment inner d l empty = record {
   so_far = λ all later more ns after leaves body.
       let same : all ≡ later = rw (empty.bits) at leaves in
@@ -156,23 +113,6 @@ new_segment inner d l empty = record {
   asked = λ h. h;
   none = λ h. empty.bits;
 }
-
--- in a group
-pub group_entered : (g : Opening) (ws : List Waiting) (ls : List Segment) (l k j : Segment) (b : Body) (name : List ℕ) (number : ℕ) (presence : Presence) (inner is : Instructions) (bits : List Bool) (d : Dictionary)
-    → b.rest ≡ then_instruction (group_of name number presence inner) is → Asked (is_optional presence) true l k → IsEmpty (has_map inner) j
-    → Chain g ws ls (IsTop at_instruction l b d)
-    → Chain g (ws ++ record { bits = bits; number = number; body = record { rest = is; done = b.done }; inside = in_group } ∷ []) (ls ++ k ∷ []) (IsTop at_instruction j (record { rest = inner; done = [] }) d)
-group_entered g ws ls l k j b name number presence inner is bits d first asked empty c =
-    let w : Waiting = record { bits = bits; number = number; body = record { rest = is; done = b.done }; inside = in_group } in
-    chain_push g ws ls w k (IsTop at_instruction j (record { rest = inner; done = [] }) d)
-    (chain_on g ws ls (IsTop at_instruction l b d) (Inner k w (IsTop at_instruction j (record { rest = inner; done = [] }) d)) (λ h top. (
-      inner,
-      d,
-      (λ y ns e segment. level_is h (with_bytes (more_of l (bits_for (is_optional presence) true) []) y) (with_bytes k y) (with_item w.body (group_items ns)) e
-          (sym asked.bits) (sym asked.own) (ap (λ (t : List ℕ). t ++ y) (append-nil l.bytes ∙ sym asked.bytes))
-          (group_waits h l name number presence inner is b.done bits d (body_is h l b (then_instruction (group_of name number presence inner) is) d first top) y ns e segment)),
-      new_segment inner d j empty,
-    )) c)
 
 -- ---- the end of a segment
 
@@ -183,7 +123,7 @@ ended g l b d all left rest leaves w =
     let whole = (body_is g l b no_instructions d rest w).so_far all left [] no_items (state d left) leaves (refl, refl) in
     rw (append-nil l.bytes, items_before-end b.done) at whole
 
-with_map : (has : Bool) (inner : Instructions) (s d : Dictionary) (l : Segment) (b : Body) (x : List ℕ) → has ≡ has_map inner → b.rest ≡ no_instructions
+pub with_map : (has : Bool) (inner : Instructions) (s d : Dictionary) (l : Segment) (b : Body) (x : List ℕ) → has ≡ has_map inner → b.rest ≡ no_instructions
     → (has ≡ true → IsShortest IsMap x l.bits) → (has ≡ false → x ≡ []) → IsWritten (of_segment inner s) l b d
     → SegmentBy IsShortestMap has (λ t z u. CanonBody inner t z (items_of b.done) u) s (x ++ l.bytes) d
 with_map true inner s d l b x is rest shortest none w =
@@ -192,31 +132,10 @@ with_map true inner s d l b x is rest shortest none w =
 with_map false inner s d l b x is rest shortest none w =
     rw (none refl) (ended (of_segment inner s) l b d [] [] rest (rw (w.none (sym is)) refl) w)
 
--- behind a segment, in the one that waited for it
-pub segment_left : (g : Opening) (us ws : List Waiting) (w : Waiting) (ls : List Segment) (l k : Segment) (b : Body) (d : Dictionary) (x : List ℕ)
-    → b.rest ≡ no_instructions → us ≡ ws ++ w ∷ [] → (l.own ≡ true → IsShortest IsMap x l.bits) → (l.own ≡ false → x ≡ [])
-    → Chain g us (ls ++ k ∷ []) (IsTop at_instruction l b d) → Chain g ws ls (λ h. IsBehind w.inside h (with_bytes k (x ++ l.bytes)) w.body (items_of b.done) d)
-segment_left g us ws w ls l k b d x rest is shortest none c =
-    chain_on g ws ls (Inner k w (IsTop at_instruction l b d)) (λ h. IsBehind w.inside h (with_bytes k (x ++ l.bytes)) w.body (items_of b.done) d) (λ h t.
-    t.2 (x ++ l.bytes) (items_of b.done) d (with_map (has_map t.0) t.0 t.1 d l b x refl rest (λ own. shortest (t.3.own ∙ own)) (λ own. none (t.3.own ∙ own)) t.3))
-    (chain_pop g ws ls w k (IsTop at_instruction l b d) (rw is at c))
-
 -- ---- sequences
 
-pub length_waits : (g : Opening) (l k : Segment) (b : Body) (name : List ℕ) (number : ℕ) (presence : Presence) (p : FieldPart) (inner is : Instructions) (d e : Dictionary) (n : ℕ)
-    → b.rest ≡ then_instruction (sequence_of name number presence p inner) is → e ≡ written p d (Some (U32 n)) → Spelt p (entry_at d p.key) (Some (U32 n)) l k
-    → IsWritten g l b d
-    → WaitsElements g k (record { rest = is; done = b.done }) (record { number = number; own_map = has_map inner; members = inner; left = n; done = [] }) e
-length_waits g l k b name number presence p inner is d e n first entry s w = rw entry (record {
-  own = refl;
-  then = λ y es h count each.
-      rw (append-nil k.bits) at (front_written g l k b (sequence_of name number presence p inner) p is d (Some (U32 n)) s [] y (sequence_elements es) h first
-      (λ mid t later part leaves. record { between = state (written p d (Some (U32 n))) t; front = s.form; back = y; parts = refl; first = rw count part; second = (sym leaves, each) })
-      (λ q. (q, refl)) w);
-})
-
 -- in an element
-element_waits : (g : Opening) (l : Segment) (b : Body) (s : Sequel) (d : Dictionary) (bits : List Bool) → 0 < s.left → WaitsElements g l b s d
+pub element_waits : (g : Opening) (l : Segment) (b : Body) (s : Sequel) (d : Dictionary) (bits : List Bool) → 0 < s.left → WaitsElements g l b s d
     → Waits g l (record { bits = bits; number = s.number; body = b; inside = in_sequence (fewer s) }) s.members d
 element_waits g l b s d bits some h y ns e one = record {
   own = h.own;
@@ -224,20 +143,3 @@ element_waits g l b s d bits some h y ns e one = record {
       rw (append_assoc l.bytes y z, elements_before-more s.done ns es)
       (h.then (y ++ z) (then_element ns es) f (omega (arith, count, some)) (record { between = e; front = y; back = z; parts = refl; first = one; second = each }));
 }
-
-pub element_entered : (g : Opening) (ws : List Waiting) (ls : List Segment) (l j : Segment) (b : Body) (s : Sequel) (bits : List Bool) (d : Dictionary)
-    → 0 < s.left → IsEmpty s.own_map j
-    → Chain g ws ls (IsTop (at_element s) l b d)
-    → Chain g (ws ++ record { bits = bits; number = s.number; body = b; inside = in_sequence (fewer s) } ∷ []) (ls ++ l ∷ []) (IsTop at_instruction j (record { rest = s.members; done = [] }) d)
-element_entered g ws ls l j b s bits d some empty c =
-    let w : Waiting = record { bits = bits; number = s.number; body = b; inside = in_sequence (fewer s) } in
-    chain_push g ws ls w l (IsTop at_instruction j (record { rest = s.members; done = [] }) d)
-    (chain_on g ws ls (IsTop (at_element s) l b d) (Inner l w (IsTop at_instruction j (record { rest = s.members; done = [] }) d)) (λ h top.
-    (s.members, d, element_waits h l b s d bits some top, new_segment s.members d j (rw (top.own) at empty))) c)
-
--- behind the last element
-pub elements_written : (g : Opening) (l : Segment) (b : Body) (s : Sequel) (d : Dictionary) → s.left ≡ 0
-    → WaitsElements g l b s d → IsWritten g l (with_item b (sequence_elements (elements_of s.done))) d
-elements_written g l b s d none h =
-    let w = h.then [] no_elements d (sym none) (refl, refl) in
-    rw (append-nil l.bytes, elements_before-end s.done) at w

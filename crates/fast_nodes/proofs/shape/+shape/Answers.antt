@@ -1,4 +1,5 @@
-use Rattle.fast_nodes.proofs.Views.{is_elements, is_sequence}
+use Rattle.fast_walk.proofs.Pieces.{is_sequence}
+use Rattle.fast_nodes.proofs.Views.{is_elements}
 use Rattle.fast_nodes.proofs.shape.+shape.Goals as goal
 
 pub fits-returns-in-Sequence-node : goal.fits-returns-in-Sequence-node

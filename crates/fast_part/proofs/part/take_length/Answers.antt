@@ -7,4 +7,4 @@ use Rattle.fast_part.proofs.part.take_length.Goals as goal
 pub unsigned_in-requires : goal.unsigned_in-requires
 unsigned_in-requires g c =
     kind_taken c.args.level c.args.part.now c.args.bit (g.E.Entries.contents c.args.entries.now) (g.E.Entries.contents c.take_part.new.entries) c.args.bytes.now c.args.at c.in_ok-value.next
-    (λ k. omega (arith, c.type_inv.bytes k)) c.requires.bit part.Length kind.UInt32 refl c.requires.told c.in_ok-value.value c.in_ok-value.ensures.took
+    (λ k. omega (arith, c.type_inv.bytes k)) c.requires.bit part.Length kind.UInt32 refl c.requires.told c.in_ok-value.value c.in_ok-value.ensures.takes.1

@@ -1,19 +1,18 @@
-use Rattle.std.proofs.Common.{Option, drop, sym, ap, subst, ◌∙◌}
+use Rattle.std.proofs.Common.{Option, drop, arith, ap, ◌∙◌}
 use Rattle.fast_value.specs.declared.scalar.Scalar.{Scalar}
 use Rattle.fast_dictionary.specs.declared.entry.Entry.{Entry}
 use Rattle.fast_field.specs.Found.{value_found}
-use Rattle.fast_walk.specs.Received.{TookFrom}
 use Rattle.fast_part.proofs.TakenKinds.{took_as_usual}
 use Rattle.fast_part.proofs.part.take_value.Goals as goal
 
-pub returns-in-Some-clause-taken : goal.returns-in-Some-clause-taken
-returns-in-Some-clause-taken c =
+pub returns-in-Some : goal.returns-in-Some
+returns-in-Some c =
     let i = c.args.part.now in
     let rest = drop c.args.at c.args.bytes.now in
     let value = c.in_ok-value.ensures ∙ c.value.ensures ∙ ap (λ (e : Entry). value_found i e c.in-Some.found) c.view.ensures in
-    subst (λ (v : Option Scalar). TookFrom c.args.level i c.args.bit c.args.entry.now c.take_given.new.entry v rest rest) (sym value) (c.in-Some.ensures.taken c.args.level rest)
+    ((omega arith, c.requires), rw value (c.in-Some.ensures.taken c.args.level rest))
 
-pub returns-in-Some-take_number-clause-taken : goal.returns-in-Some-take_number-clause-taken
-returns-in-Some-take_number-clause-taken c =
-    rw (c.if-bit.true, c.in_default.ensures.entry)
-    (took_as_usual (c.reads_as_usual.ensures c.if-reads_as_usual.true) (c.in-Some-take_number.ensures.2 c.args.entry.now))
+pub returns-in-Some-take_number : goal.returns-in-Some-take_number
+returns-in-Some-take_number c =
+    let taken = c.in-Some-take_number.ensures in
+    ((taken.0, taken.1), rw (c.if-bit.true, c.in_default.ensures.entry) (took_as_usual (c.reads_as_usual.ensures c.if-reads_as_usual.true) (taken.2 c.args.entry.now)))

@@ -1,10 +1,8 @@
 use Rattle.std.proofs.Common.{ap, subst, ◌∙◌}
 use Rattle.std.specs.Result.{is_ok}
 use Rattle.std.proofs.lemmas.Result.{err_from_is_err_and}
-use Rattle.fast_dictionary.specs.declared.entry.Entry.{Entry}
 use Rattle.fast_dictionary.specs.Dictionary.{set_entry, set_entry-there}
-use Rattle.fast_field.specs.Bases.{next}
-use Rattle.fast_walk.proofs.Putting.{set_written}
+use Rattle.fast_walk.proofs.Passings.{took_of}
 use Rattle.fast_value.specs.declared.kind.Part.TheVariants as part
 use Rattle.fast_value.specs.declared.kind.Presence.{Presence}
 use Rattle.fast_stream.specs.Nodes.{single}
@@ -28,20 +26,12 @@ returns-in_err-next-clause-stops g c =
 
 pub returns-clause-told : goal.returns-clause-told
 returns-clause-told g c =
-    let d = g.E.Entries.contents c.args.entries.now in
-    let k = c.args.part.now.key in
-    let i = c.args.part.now in
     let form = g.S.Escape.form in
     let told = c.in_ok-next.ensures.2 in
-    let took = told.1 in (
+    let put = (c.entry_mut.follows.holds c.take.new.entry (ap is_ok c.in_ok-entry.was)).0 in (
       told.0,
-      record {
-        value = λ more. rw (c.in_ok-entry.ensures.value) at took.value more;
-        entry = (c.entry_mut.follows.holds c.take.new.entry (ap is_ok c.in_ok-entry.was)).0
-            ∙ ap (set_entry d k) (took.entry ∙ ap (λ (e : Entry). next i e told.0) c.in_ok-entry.ensures.value)
-            ∙ set_written i d told.0;
-      },
-      subst (λ (q : Presence). Said form c.args.name.now (field_text form i.kind q (single told.0)) (line_now form c.args.line.now) (line_now form c.take.new.line)) c.requires.presence told.2,
+      took_of c.in_ok-entry.ensures.value put told.1.entry told.1.value,
+      subst (λ (q : Presence). Said form c.args.name.now (field_text form c.args.part.now.kind q (single told.0)) (line_now form c.args.line.now) (line_now form c.take.new.line)) c.requires.presence told.2,
     )
 
 pub take-requires-clause-next : goal.take-requires-clause-next

@@ -1,36 +1,24 @@
-use Rattle.std.proofs.Common.{◌≡◌, subst, sym, arith, refl}
-use Rattle.fast_value.specs.declared.kind.Kind.TheVariants as kind
-use Rattle.fast_value.specs.declared.kind.Part.TheVariants as part
-use Rattle.fast_value.specs.declared.kind.Presence.TheVariants.{Optional}
-use Rattle.fast_walk.proofs.Telling.{told_there}
-use Rattle.fast_told.proofs.ToldFields.{may_be_absent}
-use Rattle.fast_value.specs.declared.kind.Presence.{Presence}
-use Rattle.fast_lines.specs.Lines.{absent_text}
-use Rattle.fast_told.specs.Told.{Said, line_now}
-use Rattle.fast_told.proofs.Writing.{has_length, has_no_length}
+use Rattle.std.proofs.Common.{None, arith, refl}
+use Rattle.fast_value.specs.declared.kind.Kind.TheVariants.{UInt32}
+use Rattle.fast_value.specs.declared.kind.Part.TheVariants.{Length}
+use Rattle.fast_template.specs.Resolved.{sequence_of}
+use Rattle.fast_stream.specs.Nodes.{single}
+use Rattle.fast_told.proofs.Writing.{has_length, has_said}
+use Rattle.fast_told.proofs.ToldFields.{absent_said}
 use Rattle.fast_show.proofs.writer.LineWriterReceiver.begin_sequence.Goals as goal
 
 pub returns-in_ok-tell_absent-in-None-default-clause-goes : goal.returns-in_ok-tell_absent-in-None-default-clause-goes
 returns-in_ok-tell_absent-in-None-default-clause-goes g c =
-    let old = c.args.self.now in
-    let took = rw (c.in-None-default.is-0) at c.in_ok-next.ensures.took in
-    let optional : c.args.presence ≡ Optional = may_be_absent c.args.part.now c.args.presence c.requires.presence (λ mandatory.
-    told_there c.args.level c.args.part.now c.args.bit (g.E.Entries.contents c.args.entries.now) (g.E.Entries.contents c.take_length.new.entries) c.args.bytes.now c.args.at c.in_ok-next.field-0.1
-    (λ k. omega (arith, c.type_inv.bytes k)) c.requires.bit part.Length kind.UInt32 refl c.requires.told mandatory took) in (
-      rw (c.in-None-default.is-0) at c.in_ok-next.ensures.took,
-      λ number members is o next first has. (
-        has.0,
-        has_no_length g.S.Escape.form old.exponent (line_now g.S.Escape.form old.line) (line_now g.S.Escape.form c.tell_absent.new.self) o c.args.name.now number c.args.presence c.args.part.now members is next first (subst (λ (p : Presence). Said g.S.Escape.form c.args.name.now (absent_text g.S.Escape.form p) (line_now g.S.Escape.form old.line) (line_now g.S.Escape.form c.tell_absent.new.self)) (sym optional) c.in_ok-tell_absent-in-None-default.ensures) has.1,
-      ),
-    )
+    let took = rw (c.in-None-default.is-0) at c.in_ok-next.ensures.takes.1 in
+    let said = absent_said c.args.level c.args.part.now c.args.presence c.args.bit (g.E.Entries.contents c.args.entries.now) (g.E.Entries.contents c.take_length.new.entries) c.args.bytes.now c.args.at c.in_ok-next.field-0.1 Length UInt32
+    (λ k. omega (arith, c.type_inv.bytes k)) c.requires.bit refl c.requires.told c.requires.presence took c.in_ok-tell_absent-in-None-default.ensures in
+    (took, λ number members is o next first has. (has.0, has_said c.args.self.now.exponent o (sequence_of c.args.name.now number c.args.presence c.args.part.now members) is (single None) next first refl said has.1))
 
 pub returns-in_ok-open_under-in-Some-default-clause-goes : goal.returns-in_ok-open_under-in-Some-default-clause-goes
-returns-in_ok-open_under-in-Some-default-clause-goes g c =
-    let old = c.args.self.now in
-    let n = c.in-Some-default.length in (
-      rw (c.in-Some-default.is-0) at c.in_ok-next.ensures.took,
-      λ number members is o next first has. (
-        has.0,
-        has_length g.S.Escape.form old.exponent n (line_now g.S.Escape.form old.line) (line_now g.S.Escape.form c.open_under.new.self) o c.args.name.now number c.args.presence c.args.part.now members is next first c.in_ok-open_under-in-Some-default.ensures.text c.in_ok-open_under-in-Some-default.ensures.led has.1,
-      ),
-    )
+returns-in_ok-open_under-in-Some-default-clause-goes g c = (
+  rw (c.in-Some-default.is-0) at c.in_ok-next.ensures.takes.1,
+  λ number members is o next first has. (
+    has.0,
+    has_length g.S.Escape.form c.args.self.now.exponent c.in-Some-default.length o c.args.name.now number c.args.presence c.args.part.now members is next first c.in_ok-open_under-in-Some-default.ensures has.1,
+  ),
+)

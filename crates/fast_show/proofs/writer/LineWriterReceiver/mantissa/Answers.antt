@@ -12,7 +12,7 @@ returns-clause-goes g c =
     let here = c.in_ok-push_decimal.ensures.text form in
     let told : written_of form c.push_decimal.new.self ≡ written_of form old.line ++ decimal_text m old.exponent = search rules in (
       m,
-      c.in_ok-mantissa.ensures.took,
+      c.in_ok-mantissa.ensures.takes.1,
       λ e o next has. (
         has.0,
         has_mantissa g.S.Escape.form old.exponent e m (line_now g.S.Escape.form old.line) (line_now g.S.Escape.form c.push_decimal.new.self) o c.args.part.now next told c.push_decimal.ensures.led has.1,
