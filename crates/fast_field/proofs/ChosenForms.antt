@@ -1,7 +1,8 @@
 -- What is chosen for a value is spelled as its best form.
-use Rattle.std.proofs.Common.{◌≡◌, ℕ, ◌-◌, ◌<◌, Bool, true, false, List, [], ◌∷◌, ◌++◌, length, take, drop, refl, subst, arith, Ok, Err, Result, length-append}
+use Rattle.std.proofs.Common.{◌≡◌, ℕ, ◌-◌, ◌<◌, Bool, true, false, List, [], ◌∷◌, ◌++◌, length, take, drop, refl, ap, subst, ◌∙◌, arith, Ok, Err, Result, length-append}
 use Rattle.std.specs.Prelude.{ℤ, pos, negsuc, ◌-ℤ◌, Option, Some, None, IsTrue}
 use Rattle.std.specs.List.{AllByRecursion}
+use Rattle.std.proofs.lemmas.List.{drop_at, take_at}
 use Rattle.fast_wire.specs.declared.level.Level.TheVariants.{Usual}
 use Rattle.fast_wire.specs.Nullable.{IsUnsignedNullable, IsSignedNullable}
 use Rattle.fast_wire.specs.Writing.{IsShortest}
@@ -39,7 +40,7 @@ use Rattle.fast_field.specs.Removals.{length_of}
 use Rattle.fast_field.specs.Chosen.{Both, ShortestSigned, ShortestPart, ShortestPair, ShortestWhole, ShortestPieces, CanBeUnits, CanBeWhole, CanBePieces, IsBestCut, IsWhole, IsNothing, IsDelta, IsTail, OnBase, IsMadeOf}
 use Rattle.fast_field.proofs.BestForms.{bit_zero_is_best}
 use Rattle.fast_field.proofs.BestDeltas.{IsFirst, difference_fits, differences_fit, number_delta_is_first, decimal_delta_is_first}
-use Rattle.fast_field.proofs.BestCuts.{cut_is_first, removal_small}
+use Rattle.fast_field.proofs.BestCuts.{cut_is_first, removal_small, drop_fits, take_fits}
 use Rattle.fast_field.proofs.BestTails.{tail_is_first}
 use Rattle.fast_field.proofs.BestValues.{left_out, whole_is_first, delta_is_first, delta_null_is_first, tail_form_is_first, tail_null_is_first, constant_is_first, constant_is, absent_optional, best_under_one, field_value, operator_allows}
 use Rattle.fast_field.proofs.FieldsWithin.{delta_base_within, unit_kind}
@@ -198,25 +199,11 @@ value_fits kind.Unicode v h = units_fit kind.Unicode (units_of v) (units_of_stri
 value_fits kind.Bytes v h = units_fit kind.Bytes (units_of v) (units_of_string kind.Bytes v tt h)
 value_fits k v h = few_units v h.1
 
-all_front : (P : ℕ → Type 0) (s t : List ℕ) → AllByRecursion P (s ++ t) → AllByRecursion P s
-all_front P [] t h = tt
-all_front P (c ∷ s) t h = (h.0, all_front P s t h.1)
-
-all_back : (P : ℕ → Type 0) (s t : List ℕ) → AllByRecursion P (s ++ t) → AllByRecursion P t
-all_back P [] t h = h
-all_back P (c ∷ s) t h = all_back P s t h.1
-
 front_is_string : (k : Kind) (v s t : List ℕ) → IsString k v → v ≡ s ++ t → IsString k s
-front_is_string k v s t h e =
-    let w = subst (IsString k) e h in
-    let few = w.0 in
-    (omega (arith, length-append s t), all_front (λ c. c < unit_limit k) s t w.1)
+front_is_string k v s t h e = subst (IsString k) (ap (take (length s)) e ∙ take_at s t (length s) refl) (take_fits k (length s) v h)
 
 pub back_is_string : (k : Kind) (v s t : List ℕ) → IsString k v → v ≡ s ++ t → IsString k t
-back_is_string k v s t h e =
-    let w = subst (IsString k) e h in
-    let few = w.0 in
-    (omega (arith, length-append s t), all_back (λ c. c < unit_limit k) s t w.1)
+back_is_string k v s t h e = subst (IsString k) (ap (drop (length s)) e ∙ drop_at s t (length s) refl) (drop_fits k (length s) v h)
 
 pub part_is_string : (k : Kind) (z : ℤ) (base part v : List ℕ) → IsString k v → v ≡ put_together z base part → IsString k part
 part_is_string k (pos n) base part v h e = back_is_string k v (take (length base - n) base) part h e

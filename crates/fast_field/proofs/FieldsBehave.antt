@@ -207,9 +207,8 @@ usual_units k Optional = usual_form 65545 vector_nullable_at vector_nullable_goe
 pub integer_starts : (u : Bool) (p : Presence) (bytes : List ℕ) (w : WireFault) → entity_at 10 bytes ≡ Err w → integer_usually_at u p bytes ≡ Err (field_fault w)
 unfolding unsigned_at signed_at unsigned_nullable_at signed_nullable_at
 integer_starts true Mandatory bytes w h = rw h refl
-integer_starts true Optional bytes w h = rw h refl
 integer_starts false Mandatory bytes w h = rw h refl
-integer_starts false Optional bytes w h = rw h refl
+integer_starts u p bytes w h = rw h refl
 
 pub mantissa_starts : (bytes : List ℕ) (w : WireFault) → entity_at 10 bytes ≡ Err w → in_field (signed_at bytes) ≡ Err (field_fault w)
 unfolding signed_at
