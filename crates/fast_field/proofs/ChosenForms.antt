@@ -1,7 +1,8 @@
 -- What is chosen for a value is spelled as its best form.
-use Rattle.std.proofs.Common.{◌≡◌, ℕ, ◌-◌, ◌<◌, Bool, true, false, List, [], ◌∷◌, ◌++◌, length, take, drop, refl, subst, arith, Ok, Err, Result, length-append}
+use Rattle.std.proofs.Common.{◌≡◌, ℕ, ◌-◌, ◌<◌, Bool, true, false, List, [], ◌∷◌, ◌++◌, length, take, drop, refl, ap, subst, ◌∙◌, arith, Ok, Err, Result, length-append}
 use Rattle.std.specs.Prelude.{ℤ, pos, negsuc, ◌-ℤ◌, Option, Some, None, IsTrue}
 use Rattle.std.specs.List.{AllByRecursion}
+use Rattle.std.proofs.lemmas.List.{drop_at, take_at}
 use Rattle.fast_wire.specs.declared.level.Level.TheVariants.{Usual}
 use Rattle.fast_wire.specs.Nullable.{IsUnsignedNullable, IsSignedNullable}
 use Rattle.fast_wire.specs.Writing.{IsShortest}
@@ -39,7 +40,7 @@ use Rattle.fast_field.specs.Removals.{length_of}
 use Rattle.fast_field.specs.Chosen.{Both, ShortestSigned, ShortestPart, ShortestPair, ShortestWhole, ShortestPieces, CanBeUnits, CanBeWhole, CanBePieces, IsBestCut, IsWhole, IsNothing, IsDelta, IsTail, OnBase, IsMadeOf}
 use Rattle.fast_field.proofs.BestForms.{bit_zero_is_best}
 use Rattle.fast_field.proofs.BestDeltas.{IsFirst, difference_fits, differences_fit, number_delta_is_first, decimal_delta_is_first}
-use Rattle.fast_field.proofs.BestCuts.{cut_is_first, removal_small}
+use Rattle.fast_field.proofs.BestCuts.{cut_is_first, removal_small, drop_fits, take_fits}
 use Rattle.fast_field.proofs.BestTails.{tail_is_first}
 use Rattle.fast_field.proofs.BestValues.{left_out, whole_is_first, delta_is_first, delta_null_is_first, tail_form_is_first, tail_null_is_first, constant_is_first, constant_is, absent_optional, best_under_one, field_value, operator_allows}
 use Rattle.fast_field.proofs.FieldsWithin.{delta_base_within, unit_kind}
@@ -167,14 +168,16 @@ chosen_first operator.Tail i e v x b a is h l none made s = tail_first i e v x b
 chosen_first o i e v x b a is h l none made s = whole_first i v x b l made s
 
 -- the shortest bytes of what was chosen are the best form
-pub chosen_best : (i : FieldPart) (e : Entry) (v : Scalar) (x : Pieces) → IsFieldPart i → HoldsScalar e → HasRange v → refusal_of i e (Some v) ≡ None → left_out_of i.operator i e (Some v) ≡ false → IsMadeOf i.operator i e v x
-    → (b : List ℕ) → ShortestPieces i x b → IsBest i e true b (Some v)
-chosen_best i e v x is h r none out made b s =
-    let l = field_value i e (Some v) is r none in
-    best_under_one i e (Some v) b l.within (chosen_first i.operator i e v x b is.typed.operator_applies is h l.of_field (operator_allows i e (Some v) none v refl) made s) out
+pub chosen_best : (i : FieldPart) (e : Entry) (o : Option Scalar) (v : Scalar) (x : Pieces) → o ≡ Some v → IsFieldPart i → HoldsScalar e → HasRangeOr o → refusal_of i e o ≡ None → left_out_of i.operator i e o ≡ false → IsMadeOf i.operator i e v x
+    → (b : List ℕ) → ShortestPieces i x b → IsBest i e true b o
+chosen_best i e o v x of_some is h r none out made b s =
+    let l = field_value i e o is r none in
+    best_under_one i e o b l.within (rw of_some (chosen_first i.operator i e v x b is.typed.operator_applies is h (rw of_some at l.of_field) (operator_allows i e o none v of_some) made s)) out
 
-pub null_best : (i : FieldPart) (e : Entry) → refusal_of i e None ≡ None → left_out_of i.operator i e None ≡ false → (b : List ℕ) → IsShortest IsUnsignedNullable b Null → IsBest i e true b None
-null_best i e none out b s = best_under_one i e None b tt (rw (null_is_byte b s) (null_first i.operator i e (absent_optional i.presence none) out)) out
+pub null_best : (i : FieldPart) (e : Entry) (o : Option Scalar) → o ≡ None → refusal_of i e o ≡ None → left_out_of i.operator i e o ≡ false → (b : List ℕ) → IsShortest IsUnsignedNullable b Null → IsBest i e true b o
+null_best i e o of_none none out b s =
+    let absent : left_out_of i.operator i e None ≡ false = rw of_none at out in
+    rw of_none (best_under_one i e None b tt (rw (null_is_byte b s) (null_first i.operator i e (absent_optional i.presence (rw of_none at none)) absent)) absent)
 
 pub left_out_best : (i : FieldPart) (e : Entry) (v : Option Scalar) → IsFieldPart i → HasRangeOr v → refusal_of i e v ≡ None → left_out_of i.operator i e v ≡ true → (b : List ℕ) → b ≡ [] → IsBest i e false b v
 left_out_best i e v is r none out b s = rw s (bit_zero_is_best i e v (record { row = left_out i.operator i e v out; within = (field_value i e v is r none).within }))
@@ -198,25 +201,11 @@ value_fits kind.Unicode v h = units_fit kind.Unicode (units_of v) (units_of_stri
 value_fits kind.Bytes v h = units_fit kind.Bytes (units_of v) (units_of_string kind.Bytes v tt h)
 value_fits k v h = few_units v h.1
 
-all_front : (P : ℕ → Type 0) (s t : List ℕ) → AllByRecursion P (s ++ t) → AllByRecursion P s
-all_front P [] t h = tt
-all_front P (c ∷ s) t h = (h.0, all_front P s t h.1)
-
-all_back : (P : ℕ → Type 0) (s t : List ℕ) → AllByRecursion P (s ++ t) → AllByRecursion P t
-all_back P [] t h = h
-all_back P (c ∷ s) t h = all_back P s t h.1
-
 front_is_string : (k : Kind) (v s t : List ℕ) → IsString k v → v ≡ s ++ t → IsString k s
-front_is_string k v s t h e =
-    let w = subst (IsString k) e h in
-    let few = w.0 in
-    (omega (arith, length-append s t), all_front (λ c. c < unit_limit k) s t w.1)
+front_is_string k v s t h e = subst (IsString k) (ap (take (length s)) e ∙ take_at s t (length s) refl) (take_fits k (length s) v h)
 
 pub back_is_string : (k : Kind) (v s t : List ℕ) → IsString k v → v ≡ s ++ t → IsString k t
-back_is_string k v s t h e =
-    let w = subst (IsString k) e h in
-    let few = w.0 in
-    (omega (arith, length-append s t), all_back (λ c. c < unit_limit k) s t w.1)
+back_is_string k v s t h e = subst (IsString k) (ap (drop (length s)) e ∙ drop_at s t (length s) refl) (drop_fits k (length s) v h)
 
 pub part_is_string : (k : Kind) (z : ℤ) (base part v : List ℕ) → IsString k v → v ≡ put_together z base part → IsString k part
 part_is_string k (pos n) base part v h e = back_is_string k v (take (length base - n) base) part h e
@@ -257,13 +246,10 @@ chosen_fits operator.Tail i e v x a is h l made =
     tail_fits i base.0 v x (unit_kind i.kind a) l base.2
 chosen_fits o i e v x a is h l made = wholes_fit i v x l.1 made
 
-pub chosen_can : (i : FieldPart) (e : Entry) (v : Scalar) (x : Pieces) → IsFieldPart i → HoldsScalar e → HasRange v → refusal_of i e (Some v) ≡ None → IsMadeOf i.operator i e v x → CanBePieces i x
-chosen_can i e v x is h r none made = chosen_fits i.operator i e v x is.typed.operator_applies is h (field_value i e (Some v) is r none).of_field made
+pub chosen_can : (i : FieldPart) (e : Entry) (o : Option Scalar) (v : Scalar) (x : Pieces) → o ≡ Some v → IsFieldPart i → HoldsScalar e → HasRangeOr o → refusal_of i e o ≡ None → IsMadeOf i.operator i e v x → CanBePieces i x
+chosen_can i e o v x of_some is h r none made = chosen_fits i.operator i e v x is.typed.operator_applies is h (rw of_some at (field_value i e o is r none).of_field) made
 
 -- ---- what choosing asks for
 
-pub value_can : (i : FieldPart) (e : Entry) (v : Scalar) → IsFieldPart i → HasRange v → refusal_of i e (Some v) ≡ None → CanBeUnits i.kind (units_of v)
-value_can i e v is r none = value_fits i.kind v (field_value i e (Some v) is r none).of_field
-
-pub operator_can : (i : FieldPart) (e : Entry) (v : Scalar) → refusal_of i e (Some v) ≡ None → operator_refusal i.operator i e v ≡ None
-operator_can i e v none = operator_allows i e (Some v) none v refl
+pub value_can : (i : FieldPart) (e : Entry) (o : Option Scalar) (v : Scalar) → o ≡ Some v → IsFieldPart i → HasRangeOr o → refusal_of i e o ≡ None → CanBeUnits i.kind (units_of v)
+value_can i e o v of_some is r none = value_fits i.kind v (rw of_some at (field_value i e o is r none).of_field)

@@ -207,9 +207,8 @@ usual_units k Optional = usual_form 65545 vector_nullable_at vector_nullable_goe
 pub integer_starts : (u : Bool) (p : Presence) (bytes : List ℕ) (w : WireFault) → entity_at 10 bytes ≡ Err w → integer_usually_at u p bytes ≡ Err (field_fault w)
 unfolding unsigned_at signed_at unsigned_nullable_at signed_nullable_at
 integer_starts true Mandatory bytes w h = rw h refl
-integer_starts true Optional bytes w h = rw h refl
 integer_starts false Mandatory bytes w h = rw h refl
-integer_starts false Optional bytes w h = rw h refl
+integer_starts u p bytes w h = rw h refl
 
 pub mantissa_starts : (bytes : List ℕ) (w : WireFault) → entity_at 10 bytes ≡ Err w → in_field (signed_at bytes) ≡ Err (field_fault w)
 unfolding signed_at
@@ -519,14 +518,6 @@ field i e bit = then_free (λ level bytes. row_at level i.operator i e bit bytes
 pub field_goes : (level : Level) → (i : FieldPart) (e : Entry) (bit : Bool) → GoesOn (field_at level i e bit)
 field_goes level i e bit = (field i e bit).goes level
 
-pub field_no_memory : (i : FieldPart) (e : Entry) (bit : Bool) (bytes : List ℕ) → IsFieldFault Usual i e bit bytes fault.Memory → ⊥
-field_no_memory i e bit bytes h = subst (λ (r : Result (Option Scalar × List ℕ) FieldFault). Bounded (λ f. f) 65555 bytes r) h ((field i e bit).bounded bytes)
-
-pub field_waits : (i : FieldPart) (e : Entry) (bit : Bool) (bytes : List ℕ) → IsFieldFault Usual i e bit bytes fault.NeedMore → length bytes ≤ 65554
-field_waits i e bit bytes h =
-    let short = subst (λ (r : Result (Option Scalar × List ℕ) FieldFault). Bounded (λ f. f) 65555 bytes r) h ((field i e bit).bounded bytes) in
-    omega (arith, short)
-
 levels_agree : (level : Level) (i : FieldPart) (e : Entry) (bit : Bool) (bytes : List ℕ) → Agrees (field_at level i e bit bytes) (field_at Usual i e bit bytes)
 levels_agree Usual i e bit bytes = same (field_at Usual i e bit bytes)
 levels_agree Strict i e bit bytes = (field i e bit).agrees bytes
@@ -543,6 +534,15 @@ of_value (Err d) s x h e = absurd cc
 -- a fault that is not the level's own is one at the usual level
 pub fault_usually : (level : Level) (i : FieldPart) (e : Entry) (bit : Bool) (bytes : List ℕ) (f : FieldFault) → field_at level i e bit bytes ≡ Err f → (IsOfLevel f → ⊥) → field_at Usual i e bit bytes ≡ Err f
 fault_usually level i e bit bytes f = of_error (field_at level i e bit bytes) (field_at Usual i e bit bytes) f (levels_agree level i e bit bytes)
+
+pub field_no_memory : (level : Level) (i : FieldPart) (e : Entry) (bit : Bool) (bytes : List ℕ) → IsFieldFault level i e bit bytes fault.Memory → ⊥
+field_no_memory level i e bit bytes h =
+    subst (λ (r : Result (Option Scalar × List ℕ) FieldFault). Bounded (λ f. f) 65555 bytes r) (fault_usually level i e bit bytes fault.Memory h (λ o. o)) ((field i e bit).bounded bytes)
+
+pub field_waits : (level : Level) (i : FieldPart) (e : Entry) (bit : Bool) (bytes : List ℕ) → IsFieldFault level i e bit bytes fault.NeedMore → length bytes ≤ 65554
+field_waits level i e bit bytes h =
+    let short = subst (λ (r : Result (Option Scalar × List ℕ) FieldFault). Bounded (λ f. f) 65555 bytes r) (fault_usually level i e bit bytes fault.NeedMore h (λ o. o)) ((field i e bit).bounded bytes) in
+    omega (arith, short)
 
 -- what is read is read at the usual level
 pub read_usually : (level : Level) (i : FieldPart) (e : Entry) (bit : Bool) (bytes : List ℕ) (x : Option Scalar × List ℕ) → field_at level i e bit bytes ≡ Ok x → field_at Usual i e bit bytes ≡ Ok x

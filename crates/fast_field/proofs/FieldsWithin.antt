@@ -90,8 +90,6 @@ next_in_range kind.UInt32 (pos n) i h l = and_true _ _ (le-leb 0 (n + 1) (omega 
 next_in_range kind.UInt64 (pos n) i h l = and_true _ _ (le-leb 0 (n + 1) (omega arith)) (le-leb (n + 1) 18446744073709551615 (is_lt n 18446744073709551615 l))
 next_in_range kind.Int32 (pos n) i h l = le-leb (n + 1) 2147483647 (is_lt n 2147483647 l)
 next_in_range kind.Int64 (pos n) i h l = le-leb (n + 1) 9223372036854775807 (is_lt n 9223372036854775807 l)
-next_in_range kind.UInt32 (negsuc n) i h l = absurd cc
-next_in_range kind.UInt64 (negsuc n) i h l = absurd cc
 next_in_range kind.Int32 (negsuc zero) i h l = refl
 next_in_range kind.Int64 (negsuc zero) i h l = refl
 next_in_range kind.Int32 (negsuc (suc n)) i h l = let w = both (nat_le (suc n) 2147483647) true h in rw (one_up n) (and_true _ _ (le-leb n 2147483647 (omega (arith, leb-true (suc n) 2147483647 w.0))) refl)

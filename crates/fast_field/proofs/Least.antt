@@ -75,28 +75,18 @@ front_is_least lc pc base v p n k lengths parts is there e =
 
 -- ---- what the forms of new parts take
 
-ascii_size-positive : (s : List ℕ) → 1 ≤ ascii_size s
-ascii_size-positive [] = omega arith
-ascii_size-positive (zero ∷ s) = omega arith
-ascii_size-positive (suc c ∷ s) = omega arith
-
-ascii_size-high : (s : List ℕ) → ascii_size s ≤ 1 + length s
-ascii_size-high [] = omega arith
-ascii_size-high (zero ∷ s) = omega arith
-ascii_size-high (suc c ∷ s) = omega arith
-
-ascii_size-low : (s : List ℕ) → length s ≤ ascii_size s
-ascii_size-low [] = omega arith
-ascii_size-low (zero ∷ s) = omega arith
-ascii_size-low (suc c ∷ s) = omega arith
+ascii_size-bounds : (s : List ℕ) → (1 ≤ ascii_size s) × (ascii_size s ≤ 1 + length s) × (length s ≤ ascii_size s)
+ascii_size-bounds [] = (omega arith, omega arith, omega arith)
+ascii_size-bounds (zero ∷ s) = (omega arith, omega arith, omega arith)
+ascii_size-bounds (suc c ∷ s) = (omega arith, omega arith, omega arith)
 
 ascii_on_drop : (m : ℕ) (s : List ℕ) → ascii_size (drop m s) ≤ ascii_size s
 ascii_on_drop zero s = omega arith
 ascii_on_drop (suc m) [] = omega arith
-ascii_on_drop (suc m) (c ∷ s) = omega (arith, ascii_size-high (drop m s), length-drop m s, ascii_size-low (c ∷ s))
+ascii_on_drop (suc m) (c ∷ s) = omega (arith, (ascii_size-bounds (drop m s)).1, length-drop m s, (ascii_size-bounds (c ∷ s)).2)
 
 ascii_on_take : (m : ℕ) (s : List ℕ) → ascii_size (take m s) ≤ ascii_size s
-ascii_on_take zero s = ascii_size-positive s
+ascii_on_take zero s = (ascii_size-bounds s).0
 ascii_on_take (suc m) [] = omega arith
 ascii_on_take (suc m) (zero ∷ s) = omega (arith, length-take m s)
 ascii_on_take (suc m) (suc c ∷ s) = omega (arith, length-take m s)

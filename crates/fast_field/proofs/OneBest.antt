@@ -38,10 +38,7 @@ one_integer true Optional (Value (pos n)) b c h l e = unsigned_nullable_sizes.on
 one_integer true Optional Null b c h l e = unsigned_nullable_sizes.one b c Null h l e
 one_integer false Mandatory (Value z) b c h l e = signed_sizes.one b c z h l e
 one_integer false Optional z b c h l e = signed_nullable_sizes.one b c z h l e
-one_integer true Mandatory Null b c h l e = absurd h
-one_integer true Mandatory (Value (negsuc n)) b c h l e = absurd h
-one_integer true Optional (Value (negsuc n)) b c h l e = absurd h
-one_integer false Mandatory Null b c h l e = absurd h
+one_integer u p z b c h l e = absurd h
 
 one_part : (k : Kind) (s b c : List ℕ) → SpellsPart Usual k b s → SpellsPart Usual k c s → length b ≡ length c → b ≡ c
 one_part kind.Ascii s b c h l e = ascii_sizes.one b c s h l e

@@ -3,6 +3,7 @@ use Rattle.std.proofs.Common.{◌≡◌, ℕ, ◌-◌, ◌<◌, ◌≤◌, Bool,
 use Rattle.std.specs.Prelude.{ℤ, pos, negsuc, int_lt, int_le, nat_lt, Option, Some, None, IsTrue, unwrap_or}
 use Rattle.std.specs.List.{AllByRecursion}
 use Rattle.std.proofs.lemmas.Bool.Decides.{nat_tests}
+use Rattle.fast_wire.specs.declared.level.Level.{Level}
 use Rattle.fast_wire.specs.declared.level.Level.TheVariants.{Usual}
 use Rattle.fast_wire.proofs.Readers.{ok_is}
 use Rattle.fast_value.specs.Scalar.{is_of, scalar_eq-same, IsScalar}
@@ -33,6 +34,7 @@ use Rattle.fast_field.specs.Within.{HoldsScalar, IsFieldValue}
 use Rattle.fast_field.specs.Refusals.{are_characters, has_characters, has_too_many, is_far, constant_refusal, tail_refusal, operator_refusal, value_refusal, refusal_of}
 use Rattle.fast_field.proofs.SpelledForms.{if_ok}
 use Rattle.fast_field.proofs.FieldsWithin.{values_within}
+use Rattle.fast_field.proofs.StrictForms.{form_usually}
 
 -- ---- values
 
@@ -137,5 +139,5 @@ not_refused i e bit b None is h f = let w = values_within i e bit b None is h f 
 not_refused i e bit b (Some v) is h f = value_not_refused i e v (values_within i e bit b (Some v) is h f) (form_not_refused i.operator i e bit f.0 b v refl f.1.row)
 
 -- what is refused has no form
-pub refused_has_none : (i : FieldPart) (e : Entry) (v : Option Scalar) (r : FieldRefusal) → IsFieldPart i → HoldsScalar e → refusal_of i e v ≡ Some r → (bit : Bool) (b : List ℕ) → Form Usual i e bit b v → ⊥
-refused_has_none i e v r is h e' bit b f = let w = not_refused i e bit b v is h f in absurd cc
+pub refused_has_none : (level : Level) (i : FieldPart) (e : Entry) (v : Option Scalar) (r : FieldRefusal) → IsFieldPart i → HoldsScalar e → refusal_of i e v ≡ Some r → (bit : Bool) (b : List ℕ) → Form level i e bit b v → ⊥
+refused_has_none level i e v r is h refused bit b f = let w = not_refused i e bit b v is h (form_usually level i e bit b v f) in absurd cc

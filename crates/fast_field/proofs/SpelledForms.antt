@@ -102,15 +102,12 @@ unfolding units_at
 units_forms level k p = judged_reader fault.NeedMore (entity_limit k) (overlong_units k p) field_fault (overlong_fault k) (units_usually_at k p) (SpellsUnitsUsually k p) refl (units_begin k p) (usual_units k p) level
 
 integer_begins : (u : Bool) (p : Presence) (b : List ℕ) (z : Nullable ℤ) → SpellsIntegerUsually u p b z → BeginsWithin 10 b
-integer_begins true Mandatory b Null h = absurd h
 integer_begins true Mandatory b (Value (pos n)) h = unsigned_begins b n h
-integer_begins true Mandatory b (Value (negsuc n)) h = absurd h
 integer_begins true Optional b Null h = unsigned_nullable_begins b Null h
 integer_begins true Optional b (Value (pos n)) h = unsigned_nullable_begins b (Value n) h
-integer_begins true Optional b (Value (negsuc n)) h = absurd h
-integer_begins false Mandatory b Null h = absurd h
 integer_begins false Mandatory b (Value z) h = signed_begins b z h
 integer_begins false Optional b z h = signed_nullable_begins b z h
+integer_begins u p b z h = absurd h
 
 pub integer_forms : (level : Level) (u : Bool) (p : Presence) → IsReader fault.NeedMore (integer_at level u p) (SpellsInteger level u p)
 unfolding integer_at

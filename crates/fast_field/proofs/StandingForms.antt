@@ -92,8 +92,6 @@ pair_stands p e m small_e small_m =
 pub number_of : (k : Kind) (z : ℤ) → IsTrue (is_integer k) → IsTrue (in_range k z) → integer_of (of_integer k z) ≡ z
 number_of kind.UInt32 (pos n) i h = refl
 number_of kind.UInt64 (pos n) i h = refl
-number_of kind.UInt32 (negsuc n) i h = absurd cc
-number_of kind.UInt64 (negsuc n) i h = absurd cc
 number_of kind.Int32 z i h = refl
 number_of kind.Int64 z i h = refl
 number_of k z i h = absurd cc
@@ -107,11 +105,7 @@ number_is kind.UInt32 (U32 n) i h = record { made = refl; range = uint_in_range 
 number_is kind.UInt64 (U64 n) i h = record { made = refl; range = uint_in_range n 18446744073709551615 h.1 }
 number_is kind.Int32 (I32 z) i h = record { made = refl; range = h.1 }
 number_is kind.Int64 (I64 z) i h = record { made = refl; range = h.1 }
-number_is kind.UInt32 v i h = let e = h.0 in absurd cc
-number_is kind.UInt64 v i h = let e = h.0 in absurd cc
-number_is kind.Int32 v i h = let e = h.0 in absurd cc
-number_is kind.Int64 v i h = let e = h.0 in absurd cc
-number_is k v i h = absurd cc
+number_is k v i h = let e = h.0 in absurd cc
 
 signed_small : (z : ℤ) (m n : ℕ) → (int_le (negsuc m) z && int_le z (pos n)) ≡ true → m < 2 ^ 64 → n < 2 ^ 64 → magnitude z < 2 ^ 64
 signed_small (pos a) m n h low high = let w = both true (nat_le a n) h in omega (arith, leb-true a n w.1)
@@ -133,8 +127,6 @@ range_small k z i h = absurd cc
 number_stands : (k : Kind) (p : Presence) (z : ℤ) → IsTrue (is_integer k) → IsTrue (in_range k z) → Stands (SpellsInteger Usual (is_unsigned k) p) (Value z)
 number_stands kind.UInt32 p (pos n) i h = unsigned_stands p n (omega (arith, range_small kind.UInt32 (pos n) i h))
 number_stands kind.UInt64 p (pos n) i h = unsigned_stands p n (omega (arith, range_small kind.UInt64 (pos n) i h))
-number_stands kind.UInt32 p (negsuc n) i h = absurd cc
-number_stands kind.UInt64 p (negsuc n) i h = absurd cc
 number_stands kind.Int32 p z i h = signed_stands p z (omega (arith, range_small kind.Int32 z i h))
 number_stands kind.Int64 p z i h = signed_stands p z (omega (arith, range_small kind.Int64 z i h))
 number_stands k p z i h = absurd cc
@@ -153,10 +145,7 @@ pub of_units_is : (k : Kind) (v : Scalar) → IsUnitKind k → IsOfType k v → 
 of_units_is kind.Ascii (Ascii s) u h = refl
 of_units_is kind.Unicode (Unicode s) u h = (h.1.2, refl)
 of_units_is kind.Bytes (Bytes s) u h = refl
-of_units_is kind.Ascii v u h = let e = h.0 in absurd cc
-of_units_is kind.Unicode v u h = let e = h.0 in absurd cc
-of_units_is kind.Bytes v u h = let e = h.0 in absurd cc
-of_units_is k v u h = absurd u
+of_units_is k v u h = let e = h.0 in absurd (first_of (cc, assumption))
 
 string_shortest : (k : Kind) (p : Presence) (v : Scalar) (b : List ℕ) → IsUnitKind k → IsOfType k v → IsShortest (SpellsUnits Usual k p) b (Value (units_of v)) → IsShortest (SpelledString Usual k p) b (Some v)
 string_shortest k p v b u h s = record {

@@ -28,15 +28,12 @@ use Rattle.fast_field.specs.Best.{NoLater, IsBest}
 -- ---- the shortest entities
 
 integer_begins : (u : Bool) (p : Presence) (b : List ℕ) (z : Nullable ℤ) → IsShortest (SpellsIntegerUsually u p) b z → BeginsShort (overlong_number u) b
-integer_begins true Mandatory b Null h = absurd h.form
 integer_begins true Mandatory b (Value (pos n)) h = shortest_unsigned_begins b n (record { form = h.form; least = h.least })
-integer_begins true Mandatory b (Value (negsuc n)) h = absurd h.form
 integer_begins true Optional b Null h = shortest_unsigned_nullable_begins b Null (record { form = h.form; least = h.least })
 integer_begins true Optional b (Value (pos n)) h = shortest_unsigned_nullable_begins b (Value n) (record { form = h.form; least = h.least })
-integer_begins true Optional b (Value (negsuc n)) h = absurd h.form
-integer_begins false Mandatory b Null h = absurd h.form
 integer_begins false Mandatory b (Value z) h = shortest_signed_begins b z (record { form = h.form; least = h.least })
 integer_begins false Optional b z h = shortest_signed_nullable_begins b z (record { form = h.form; least = h.least })
+integer_begins u p b z h = absurd h.form
 
 part_begins : (k : Kind) (b s : List ℕ) → IsShortest (SpellsPartUsually k) b s → BeginsShort (overlong_units k Mandatory) b
 part_begins kind.Ascii b s h = shortest_ascii_begins b s (record { form = h.form; least = h.least })

@@ -1,4 +1,5 @@
 -- Two pieces, one behind the other.
+use Rattle.std.proofs.lemmas.Int.{to_z-of_z}
 use Rattle.std.proofs.Common.{◌≡◌, ℕ, ◌+◌, List, ◌++◌, refl, ap, ◌∙◌, arith, SFits, length-append}
 use Rattle.std.proofs.lemmas.List.{append_assoc}
 use Rattle.std.proofs.lemmas.Int.{ints}
@@ -24,3 +25,5 @@ both_appended First Second old mid new a b =
 pub small_fits : (z : ℤ) → IsSmall z → SFits w128 z
 small_fits (pos n) h = omega (arith, ints)
 small_fits (negsuc n) h = omega (arith, ints)
+
+pub ruleset pieces = (both_size, both_appended, small_fits, to_z-of_z)

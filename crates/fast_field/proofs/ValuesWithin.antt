@@ -89,10 +89,7 @@ pub units_of_string : (k : Kind) (v : Scalar) → IsUnitKind k → IsOfType k v 
 units_of_string kind.Ascii (Ascii s) u h = (h.1.0, h.1.1)
 units_of_string kind.Unicode (Unicode s) u h = (h.1.0, h.1.1)
 units_of_string kind.Bytes (Bytes s) u h = (h.1.0, h.1.1)
-units_of_string kind.Ascii v u h = let e = h.0 in absurd cc
-units_of_string kind.Unicode v u h = let e = h.0 in absurd cc
-units_of_string kind.Bytes v u h = let e = h.0 in absurd cc
-units_of_string k v u h = absurd u
+units_of_string k v u h = let e = h.0 in absurd (first_of (cc, assumption))
 
 -- ---- what stands whole
 
@@ -123,11 +120,8 @@ decimals_within p b None h = null_optional false p b h
 decimals_within p b (Some v) h = rw h.value.2 (refl, (h.value.0, h.value.1))
 
 pub spelled_within : (k : Kind) (p : Presence) (b : List ℕ) (v : Option Scalar) → Spelled Usual k p b v → IsOfTypeOr k p v
-spelled_within kind.UInt32 p b v h = numbers_within kind.UInt32 p b v refl h
-spelled_within kind.Int32 p b v h = numbers_within kind.Int32 p b v refl h
-spelled_within kind.UInt64 p b v h = numbers_within kind.UInt64 p b v refl h
-spelled_within kind.Int64 p b v h = numbers_within kind.Int64 p b v refl h
 spelled_within kind.Decimal p b v h = decimals_within p b v h
 spelled_within kind.Ascii p b v h = strings_within kind.Ascii p b v tt h
 spelled_within kind.Unicode p b v h = strings_within kind.Unicode p b v tt h
 spelled_within kind.Bytes p b v h = strings_within kind.Bytes p b v tt h
+spelled_within k p b v h = numbers_within k p b v refl h

@@ -100,16 +100,16 @@ tail_part k p applies = record {
 
 other_than_constant : (bit : Bool) (b : List ℕ) → Form Usual const_k Undefined bit b (Some (U32 8)) → ⊥
 unfolding value_refusal
-other_than_constant = refused_has_none const_k Undefined (Some (U32 8)) refusal.NotConstant whole_constant tt refl
+other_than_constant = refused_has_none Usual const_k Undefined (Some (U32 8)) refusal.NotConstant whole_constant tt refl
 
 other_than_constant_exponent : (bit : Bool) (b : List ℕ) → Form Usual fixed_px_exponent Undefined bit b (Some (I32 (negsuc 0))) → ⊥
 unfolding value_refusal
-other_than_constant_exponent = refused_has_none fixed_px_exponent Undefined (Some (I32 (negsuc 0))) refusal.D3 constant_exponent tt refl
+other_than_constant_exponent = refused_has_none Usual fixed_px_exponent Undefined (Some (I32 (negsuc 0))) refusal.D3 constant_exponent tt refl
 
 shorter_than_base : (bit : Bool) (b : List ℕ) → Form Usual tail_s (text (codes "xab")) bit b (Some (Ascii (codes "x"))) → ⊥
 unfolding value_refusal
-shorter_than_base = refused_has_none tail_s (text (codes "xab")) (Some (Ascii (codes "x"))) refusal.TooShort (tail_part kind.Ascii Optional refl) (text_is (codes "xab") refl).1 refl
+shorter_than_base = refused_has_none Usual tail_s (text (codes "xab")) (Some (Ascii (codes "x"))) refusal.TooShort (tail_part kind.Ascii Optional refl) (text_is (codes "xab") refl).1 refl
 
 base_of_another_type : (bit : Bool) (b : List ℕ) → Form Usual uni_s (text (codes "xab")) bit b (Some (Unicode (0xC3 ∷ 0xA9 ∷ []))) → ⊥
 unfolding value_refusal
-base_of_another_type = refused_has_none uni_s (text (codes "xab")) (Some (Unicode (0xC3 ∷ 0xA9 ∷ []))) refusal.D4 (tail_part kind.Unicode Mandatory refl) (text_is (codes "xab") refl).1 refl
+base_of_another_type = refused_has_none Usual uni_s (text (codes "xab")) (Some (Unicode (0xC3 ∷ 0xA9 ∷ []))) refusal.D4 (tail_part kind.Unicode Mandatory refl) (text_is (codes "xab") refl).1 refl

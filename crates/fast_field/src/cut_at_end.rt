@@ -8,6 +8,7 @@ ghost use Rattle.fast_field.specs.CommonParts.{IsLongestPrefix, IsLongestSuffix,
 // ---- Characters of an entity
 
 /// Whether the first of the characters that are put behind so many of a text is not the one that is there.
+#[tactic(auto, using(crate::proofs::CutsAtEnd::prefix_found, crate::proofs::CutsAtEnd::no_equal))]
 #[inline(always)]
 pub fn begins_otherwise(base: &[u8], kept: usize, form: &[u8]) -> bool
     requires kept { kept < length base.now }
@@ -35,6 +36,7 @@ pub fn agrees_no_further(base: &[u8], kept: usize, form: &[u8]) -> bool
 }
 
 /// Whether it ends otherwise than these do.
+#[tactic(auto, using(crate::proofs::CutsAtEnd::suffix_found, crate::proofs::CutsAtEnd::no_equal))]
 #[inline(always)]
 fn ends_otherwise(base: &[u8], kept: usize, form: &[u8]) -> bool
     requires kept { kept ≤ length base.now }
@@ -69,6 +71,7 @@ pub fn is_cut_at_end(base: &[u8], kept: usize, form: &[u8]) -> bool
 // ---- Units as they are
 
 /// Whether bytes put behind so many units of a base have some, and the base does not go on as they do.
+#[tactic(auto, using(crate::proofs::CutsAtEnd::prefix_stays, crate::proofs::CutsAtEnd::prefix_whole, crate::proofs::CutsAtEnd::no_equal))]
 #[inline(always)]
 pub fn goes_on_otherwise(base: &[u8], kept: usize, part: &[u8]) -> bool
     requires { kept ≤ length base.now }
@@ -87,6 +90,7 @@ pub fn goes_on_otherwise(base: &[u8], kept: usize, part: &[u8]) -> bool
 }
 
 /// Whether a base ends otherwise than bytes put behind so many units of it.
+#[tactic(auto, using(crate::proofs::CutsAtEnd::suffix_stays, crate::proofs::CutsAtEnd::no_equal))]
 #[inline(always)]
 fn vector_ends_otherwise(base: &[u8], kept: usize, part: &[u8]) -> bool
     requires kept { kept ≤ length base.now }

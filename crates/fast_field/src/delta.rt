@@ -275,6 +275,7 @@ pub(crate) fn removal_length(removal: Removal) -> i128
 }
 
 /// The bytes of a subtraction length and of a new part.
+#[tactic(auto, using(crate::proofs::TwoPieces::pieces))]
 pub(crate) fn size_cut(kind: Kind, presence: Presence, removal: Removal, part: &[u8]) -> usize
     requires removal { IsSmall (length_of removal) }
     requires part { CanBeUnits kind part.now }
@@ -286,6 +287,7 @@ pub(crate) fn size_cut(kind: Kind, presence: Presence, removal: Removal, part: &
 }
 
 /// Appends a subtraction length and a new part, each in its shortest form, or nothing.
+#[tactic(auto, using(crate::proofs::TwoPieces::pieces))]
 pub(crate) fn write_cut(
     kind: Kind,
     presence: Presence,

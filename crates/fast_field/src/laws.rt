@@ -67,6 +67,7 @@ pub fn a_fault_where_no_form_begins()
 {}
 
 /// Want of memory is no fault of the bytes.
+#[tactic(auto, using(crate::proofs::FieldsBehave::field_no_memory))]
 pub fn no_fault_is_want_of_memory()
     ensures { (level : Level) (i : FieldPart) (e : Entry) (bit : Bool) (bytes : List ℕ)
         → IsFieldFault level i e bit bytes FieldFault.Memory → ⊥ }
@@ -74,6 +75,7 @@ pub fn no_fault_is_want_of_memory()
 
 /// A field that waits for more bytes has few of them: at most ten of a subtraction length, ten of the
 /// length of a new part, and all but one of that part's 65,535.
+#[tactic(auto, using(crate::proofs::FieldsBehave::field_waits))]
 pub fn what_waits_is_short()
     ensures { (level : Level) (i : FieldPart) (e : Entry) (bit : Bool) (bytes : List ℕ)
         → IsFieldFault level i e bit bytes FieldFault.NeedMore → length bytes ≤ 65554 }
@@ -98,6 +100,7 @@ pub fn values_are_within()
 
 /// A value is refused exactly where it has no form: what `refusal_of` refuses has none, and what it does not refuse
 /// has a best one. (That the value is what its type says, its number in range and its text UTF-8, is a premise.)
+#[tactic(auto, using(crate::proofs::BestValues::best_stands))]
 pub fn refusals_are_exact()
     ensures refused { (level : Level) (i : FieldPart) (e : Entry) (v : Option Scalar) (r : FieldRefusal)
         → IsFieldPart i → HoldsScalar e

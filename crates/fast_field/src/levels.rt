@@ -41,6 +41,7 @@ fn begins_pair(bytes: &[u8], at: usize) -> bool
 
 /// Whether the field that begins here, under bit 1, is read at this level as at the usual one, told by the first bytes
 /// of its entities. False says nothing.
+#[tactic(auto, using(crate::proofs::FieldsBehave::reads_as_usual, crate::proofs::FieldsBehave::pair_as_usual))]
 #[inline(always)]
 pub fn reads_as_usual(level: Level, part: &FieldPart, bytes: &[u8], at: usize) -> bool
     requires { at ≤ length bytes.now }

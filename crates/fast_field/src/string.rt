@@ -111,7 +111,7 @@ fn room(alloc: Global, front: usize, back: usize) -> Result<Vec<u8>, FieldFault>
 }
 
 /// What was sent behind units of the base, as a value. Limit: they are too many.
-#[tactic(auto, using(crate::proofs::CallSteps::call_steps), unfolding(crate::specs::FieldReading::limited_value))]
+#[tactic(auto, using(crate::proofs::CallSteps::call_steps, crate::proofs::PutTogether::no_memory, std::proofs::lemmas::Result::err_from_is_err_and), unfolding(crate::specs::FieldReading::limited_value))]
 pub(crate) fn sent_behind(
     alloc: Global,
     kind: Kind,
@@ -129,7 +129,7 @@ pub(crate) fn sent_behind(
 }
 
 /// What was sent in front of units of the base, as a value. Limit: they are too many.
-#[tactic(auto, using(crate::proofs::CallSteps::call_steps), unfolding(crate::specs::FieldReading::limited_value))]
+#[tactic(auto, using(crate::proofs::CallSteps::call_steps, crate::proofs::PutTogether::no_memory, std::proofs::lemmas::Result::err_from_is_err_and), unfolding(crate::specs::FieldReading::limited_value))]
 pub(crate) fn sent_in_front(
     alloc: Global,
     kind: Kind,

@@ -562,6 +562,7 @@ pub(crate) fn write_units(
 }
 
 /// The bytes of an exponent in the form of a presence, and of a mantissa.
+#[tactic(auto, using(crate::proofs::TwoPieces::pieces))]
 pub(crate) fn size_pair(presence: Presence, exponent: i128, mantissa: i128) -> usize
     requires exponent { IsSmall exponent }
     requires mantissa { IsSmall mantissa }

@@ -25,7 +25,6 @@ use Rattle.fast_stream.specs.Faults.{cause_of_wire, cause_of_field, Stop, Messag
 use Rattle.fast_stream.specs.Reading.{Cursor, Reads, stopped, placed, counted, node_at, field_part_at, never, decimal_of, mantissa_at, own_map_at, end_at, closing, segment_at, each_at, elements_at, group_at, behind_bit, piece_at, body_at, known, named_at, head_at, in_template, message_at}
 use Rattle.fast_stream.proofs.MapFaults.{map_refused, entity_refused}
 use Rattle.fast_wire.specs.Level.{judge, verdict, overlong_map, some_set}
-use Rattle.fast_field.proofs.FieldsBehave.{fault_usually}
 use Rattle.fast_wire.specs.Reading.{entity_at}
 use Rattle.fast_wire.specs.Reading.{EntityFault}
 use Rattle.fast_stream.specs.declared.mode.Framing.{Framing}
@@ -89,7 +88,7 @@ module _ (level : Level) where
       omega (arith, few)
 
   part_few : (p : FieldPart) (d : Dictionary) (bits : List Bool) (bytes : List ℕ) (f : FieldFault) → field_at level p (entry_at d p.key) (bit_for (part_needs_bit p) bits) bytes ≡ Err f → cause_of_field f ≡ Truncated → length bytes ≤ 65554
-  part_few p d bits bytes f e t = field_waits p (entry_at d p.key) (bit_for (part_needs_bit p) bits) bytes (fault_usually level p (entry_at d p.key) (bit_for (part_needs_bit p) bits) bytes field.NeedMore (e ∙ ap (λ (g : FieldFault). Err g) (part_waits f t)) (λ o. o))
+  part_few p d bits bytes f e t = field_waits level p (entry_at d p.key) (bit_for (part_needs_bit p) bits) bytes (e ∙ ap (λ (g : FieldFault). Err g) (part_waits f t))
 
   pub part_short : (p : FieldPart) (c : Cursor) → IsShort (field_part_at level p c)
   unfolding field_part_at

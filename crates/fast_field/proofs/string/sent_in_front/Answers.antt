@@ -11,13 +11,3 @@ returns-in_err-units c =
     let back = c.args.back.now in
     let all : length (units_sent c.args.kind sent ++ back) ≡ length sent + length back = omega (arith, length-append (units_sent c.args.kind sent) back, sent_length c.args.kind sent) in
     rw (p.1, p.2) (no_room _ c.args.kind _ _ all c.in_err-units.ensures.err)
-
-pub returns-in_err-append_sent : goal.returns-in_err-append_sent
-returns-in_err-append_sent c =
-    let p = err_from_is_err_and c.from_residual-in_err-append_sent.result c.from_residual-in_err-append_sent.ensures.1 in
-    rw p.1 (no_memory _ c.args.kind _ p.2)
-
-pub returns-in_err-extend_from_slice : goal.returns-in_err-extend_from_slice
-returns-in_err-extend_from_slice c =
-    let p = err_from_is_err_and c.from_residual-in_err-extend_from_slice.result c.from_residual-in_err-extend_from_slice.ensures.1 in
-    rw p.1 (no_memory _ c.args.kind _ p.2)
