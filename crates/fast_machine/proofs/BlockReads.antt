@@ -40,15 +40,12 @@ use Rattle.fast_machine.proofs.Runs.{carried_of, ends_with}
 window_is : (left at count : ℕ) (bytes : List ℕ) → at ≤ length bytes → count ≤ left → (count ≡ left) ⊎ (count ≡ length bytes - at) → take ((at + count) - at) (drop at bytes) ≡ take left (drop at bytes)
 window_is left at count bytes place few (inl e) = let same : (at + count) - at ≡ left = omega (arith, e) in ap (λ (n : ℕ). take n (drop at bytes)) same
 window_is left at count bytes place few (inr e) =
-    let size = length-drop at bytes in
-    take_all ((at + count) - at) (drop at bytes) (omega (arith, size, e)) ∙ sym (take_all left (drop at bytes) (omega (arith, size, e, few)))
+    take_all ((at + count) - at) (drop at bytes) (omega (arith, length-drop {A = ℕ}, e)) ∙ sym (take_all left (drop at bytes) (omega (arith, length-drop {A = ℕ}, e, few)))
 
 -- no byte of a block that is open has come only where no byte is there
 pub empty_window : (room at count : ℕ) (bytes : List ℕ) → 0 < room → at ≤ length bytes → count ≤ length bytes - at → (count ≡ room) ⊎ (count ≡ length bytes - at) → length (take ((at + count) - at) (drop at bytes)) ≡ 0 → at ≡ length bytes
 empty_window room at count bytes some place few least none =
-    let size = length-take ((at + count) - at) (drop at bytes) in
-    let all = length-drop at bytes in
-    elim least [ inl e ↦ absurd (omega (arith, size, all, none, e, few, some)) | inr e ↦ omega (arith, size, all, none, e, few, place) ]
+    elim least [ inl e ↦ absurd (omega (arith, length-take {A = ℕ}, length-drop {A = ℕ}, none, e, few, some)) | inr e ↦ omega (arith, length-take {A = ℕ}, length-drop {A = ℕ}, none, e, few, place) ]
 
 pub open_stands : {G : Dictionary → (List ℕ → Reading) → Type 0} {t : Traversal} {level : Level} {left : ℕ} (room at : ℕ) {bytes fed : List ℕ} {messages : List Content} → level ≡ t.level
     → (0 < left → (room ≡ left) × (at ≡ 0)) → (left ≡ 0 → size_at level bytes ≡ Ok (room, drop at bytes)) → 0 < room
@@ -95,21 +92,14 @@ module _ {G : Dictionary → (List ℕ → Reading) → Type 0} {t : Traversal} 
   -- how long each part is
   sizes : (front behind : List ℕ) → b.ends.within ≡ front ++ behind → length front + length behind ≡ length w.taken + length (take left unread)
   sizes front behind h =
-      let all = ap (λ (xs : List ℕ). length xs) (sym w.within_is ∙ h) in
-      let one = length-append front behind in
-      let other = length-append w.taken (take left unread) in
-      omega (arith, all, one, other)
+      omega (arith, ap (λ (xs : List ℕ). length xs) (sym w.within_is ∙ h), length-append {A = ℕ})
 
   -- ---- where a message stops
 
   -- what is behind the messages: so much less than is left of the block, or so much more
   ahead_sizes : (front behind : List ℕ) → b.ends.within ≡ front ++ behind → length (behind ++ drop room back) + left ≡ room - length front + length unread
   ahead_sizes front behind h =
-      let all = sizes front behind h in
-      let one = length-append behind (drop room back) in
-      let size = ap (λ (xs : List ℕ). length xs) (drop_front w.taken unread left) ∙ length-drop left unread in
-      let most = length-take left unread in
-      omega (arith, all, one, size, most)
+      omega (arith, sizes front behind h, length-append {A = ℕ}, ap (λ (xs : List ℕ). length xs) (drop_front w.taken unread left) ∙ length-drop left unread, length-take {A = ℕ})
 
   -- at a cause as it is seen in all the bytes that are unread
   pub block_stops : (h : Halt) (cause : Cause) → (let all = nat_le (left - p) (length (drop p unread)) in block_cause all h.cause ≡ cause) → Ran (λ d r. (0 < length r) × IsBytes r × (message_at u.level sets d r ≡ Err (stop_of u.template h ahead)))
@@ -117,21 +107,17 @@ module _ {G : Dictionary → (List ℕ → Reading) → Type 0} {t : Traversal} 
   block_stops h cause seen run =
       let iw = window_of run in
       let behind = run.rest ++ drop room back in
-      let some = run.ends.0 in
       let all = sizes run.front run.rest run.parts in
       let most = length-take left unread in
-      let one = length-append run.rest (drop room back) in
-      let two = length-append iw.before behind in
       let lengths = ahead_sizes run.front run.rest run.parts in
       let later = length-drop p unread in
       let whole = ap (λ (xs : List ℕ). length xs) (window_drop left p unread few) ∙ length-append ahead (drop left unread) in
-      let dropped = length-drop left unread in
-      let left_is : length ahead + (length behind - (room - length run.front)) ≡ length (drop p unread) = omega (arith, lengths, whole, dropped) in
+      let left_is : length ahead + (length behind - (room - length run.front)) ≡ length (drop p unread) = omega (arith, lengths, whole, length-drop {A = ℕ}) in
       let all_is : nat_le (room - length run.front) (length behind) ≡ nat_le (left - p) (length (drop p unread)) = grind (arith, lengths, later, few, most) in
       onwards run (
-        inl (omega (arith, some, one, two)),
+        inl (omega (arith, length-append {A = ℕ})),
         fits_behind iw.read (iw.before ++ behind) (w.parts ∙ iw.parts),
-        stops_in_window u.level sets b.start room w.size back run.front run.rest more run.start (stop_of u.template h ahead) iw (omega (arith, some, all, most)) run.ends.2 ∙ rw (all_is, seen, left_is) refl,
+        stops_in_window u.level sets b.start room w.size back run.front run.rest more run.start (stop_of u.template h ahead) iw (omega (arith, all, most)) run.ends.2 ∙ rw (all_is, seen, left_is) refl,
       )
 
   -- ---- what the messages leave
@@ -139,11 +125,7 @@ module _ {G : Dictionary → (List ℕ → Reading) → Type 0} {t : Traversal} 
   -- what is left of the block behind the messages
   room_left : (front behind taken : List ℕ) → b.ends.within ≡ front ++ behind → behind ≡ taken ++ ahead → room - length front ≡ length taken + (left - p)
   room_left front behind taken h k =
-      let all = sizes front behind h in
-      let one = ap (λ (xs : List ℕ). length xs) k ∙ length-append taken ahead in
-      let cut = length-drop p (take left unread) in
-      let most = length-take left unread in
-      omega (arith, all, one, cut, most, few)
+      omega (arith, sizes front behind h, ap (λ (xs : List ℕ). length xs) k ∙ length-append taken ahead, length-drop {A = ℕ}, length-take {A = ℕ}, few)
 
   behind_is : (behind taken : List ℕ) → behind ≡ taken ++ ahead → behind ++ drop room back ≡ taken ++ drop p unread
   behind_is behind taken k =
@@ -174,12 +156,9 @@ module _ {G : Dictionary → (List ℕ → Reading) → Type 0} {t : Traversal} 
       between : left - p ≤ 0 → Stands Blocks (left - p) H u (drop p unread) fed (messages ++ more)
       between none =
           let iw = window_of run in
-          let most = length-take left unread in
-          let all : ahead ≡ [] = drop_all p (take left unread) (omega (arith, most, none)) in
+          let all : ahead ≡ [] = drop_all p (take left unread) (omega (arith, length-take {A = ℕ}, none)) in
           let x = run.ends in
-          let is = room_left run.front run.rest x.taken run.parts x.whole in
-          let nothing = ap (λ (xs : List ℕ). length xs) (x.between at) in
-          let c = iw.closed (omega (arith, is, none, nothing)) in
+          let c = iw.closed (omega (arith, room_left run.front run.rest x.taken run.parts x.whole, none, ap (λ (xs : List ℕ). length xs) (x.between at))) in
           onwards run (inl (record {
             none = omega (arith, none);
             outside = c.0;

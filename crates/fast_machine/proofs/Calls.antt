@@ -37,12 +37,10 @@ pub record IsFed {R E : Type 0} {receiver : Receiving R} {entries : Ghosts E} (o
 pub chunk_fed : {R E : Type 0} {receiver : Receiving R} {entries : Ghosts E} (old : Machine R E receiver entries) (chunk : List ℕ) → old.fault ≡ None → old.fed + length chunk ≤ 2 ^ 60 → IsBytes chunk
     → (before : List Content) (fed : List ℕ) (messages : List Content) → Follows old before fed messages → IsFed old chunk before fed messages
 chunk_fed {receiver = receiver} {entries = entries} old chunk none few fits before fed messages follows =
-    let size = length-append fed chunk in
-    let is = follows.counts.fed_is in
     let at = rw (none) at follows.at in
     record {
-      short = omega (arith, size, is, few);
-      counts = record { fed_is = omega (arith, size, is); count_is = follows.counts.count_is };
+      short = omega (arith, length-append {A = ℕ}, few);
+      counts = record { fed_is = omega (arith, length-append {A = ℕ}); count_is = follows.counts.count_is };
       held = at;
       stands = stands_fed old.framing old.left (ReadsOn receiver.has receiver.stands receiver.keeps old.traversal old.receiver (entries.contents old.entries) before) old.traversal old.held.items fed chunk messages fits at.0;
     }
@@ -114,13 +112,11 @@ pub record Found (number fed count : ℕ) (bytes : List ℕ) (messages : List Co
 pub found_of : (framing : Framing) (u : Traversal) (count : ℕ) {number fed_before count_before : ℕ} {fed : List ℕ} {messages : List Content} (more : List Content) {Leaves : List Content → Type 0} → count ≡ min (count_before + number) 18446744073709551615 → length fed ≤ 2 ^ 60 → Counts fed_before count_before fed messages
     → length more ≡ number → Carried (framed_as framing u) (templates_in u.set.now) fed (messages ++ more) → Leaves more → Found number fed_before count fed messages Leaves
 found_of framing u count {fed = fed} {messages = messages} more counted short counts is carried leaves =
-    let few = few_messages (framed_as framing u) (templates_in u.set.now) fed (messages ++ more) carried in
     let sizes = length-append messages more in
-    let same = counts.count_is in
     record {
       ended = more;
       number_is = is;
-      counts = record { fed_is = counts.fed_is; count_is = omega (arith, counted, sizes, same, is, few, short) };
+      counts = record { fed_is = counts.fed_is; count_is = omega (arith, counted, sizes, is, few_messages (framed_as framing u) (templates_in u.set.now) fed (messages ++ more) carried, short) };
       leaves = leaves;
     }
 
@@ -147,16 +143,15 @@ finds_waiting {receiver = receiver} {framing = framing} {old = old} {bytes = byt
     let stops = rw (is) at (f.leaves.1 (want_of_bytes h.cause is)) in
     (f.ended, held (before ++ f.ended) fed all (omega (arith, short)) f.counts (rw (same) (f.leaves.2 is)) (rw (same) (inr stops))))
 
--- another fault is the first
-pub finds_fault : {R E : Type 0} {receiver : Receiving R} {entries : Ghosts E} {framing now : Framing} {old : Machine R E receiver entries} {bytes : List ℕ} {number count : ℕ} {h : Halt} {left : ℕ} {u : Traversal} {s : R} {e : Dictionary} {unread : List ℕ} (fault : Fault) (size : ℕ)
-    → now ≡ framing → Finds framing old bytes number count (Some h) left u s e unread → h.cause ≢ Truncated → IsSound u.set.now → length unread ≡ size → IsFaultOf h count old.fed size u.template fault
-    → (before : List Content) (fed : List ℕ) (messages : List Content) → length fed ≤ 2 ^ 60 → Counts old.fed old.messages fed messages → StandsAt framing old before bytes fed messages
-    → Found number old.fed count fed messages (λ ended. Refused fault (framed_as now u) (templates_in u.set.now) fed (messages ++ ended) × HasAll receiver.stands now u s (before ++ ended) fed (messages ++ ended))
-finds_fault {framing = framing} {u = u} {unread = unread} fault size same finds other sound is refused before fed messages short counts stands =
-    let f = finds.found before fed messages short counts stands in
-    record {
-      ended = f.ended;
-      number_is = f.number_is;
-      counts = f.counts;
-      leaves = rw (same) (refused (framed_as framing u) u unread fed (messages ++ f.ended) sound f.counts (omega (arith, short)) refl is f.leaves.0 f.leaves.1, f.leaves.3 other);
-    }
+-- another fault is the first, and is kept
+pub finds_fault : {R E : Type 0} {receiver : Receiving R} {entries : Ghosts E} {framing : Framing} {old new : Machine R E receiver entries} {bytes : List ℕ} {number count : ℕ} {h : Halt} {left : ℕ} {u : Traversal} {s : R} {e : Dictionary} {unread : List ℕ} (fault : Fault) (size : ℕ)
+    → Finds framing old bytes number count (Some h) left u s e unread → h.cause ≢ Truncated → fault.cause ≡ h.cause → IsSound u.set.now → length unread ≡ size → IsFaultOf h count old.fed size u.template fault
+    → new.fault ≡ Some fault → new.held.items ≡ [] → new.framing ≡ framing → new.traversal ≡ u → new.receiver ≡ s → new.fed ≡ old.fed → new.messages ≡ count → ReadsNext framing old bytes (Err fault) new
+finds_fault {framing = framing} {u = u} {unread = unread} fault size finds other caused sound is refused kept held same walked received fed_is counted = (
+  kept,
+  rw caused other,
+  λ before fed messages short counts stands.
+      let f = finds.found before fed messages short counts stands in
+      let first = refused (framed_as framing u) u unread fed (messages ++ f.ended) sound f.counts (omega (arith, short)) refl is f.leaves.0 f.leaves.1 in
+      (f.ended, record { at = rw (kept, same, walked, received) (first, held, f.leaves.3 other); counts = rw (fed_is, counted) f.counts }),
+)

@@ -23,11 +23,9 @@ still_lacks zero t d held chunk until_stop number short none long = absurd (omeg
 still_lacks (suc n) t d held chunk until_stop number short none long = (
   long.1.0,
   λ o more lacking at.
-      let size = length-append held chunk in
-      let both = length-append chunk more in
       let few = lacking.few in
       subst (λ (xs : List ℕ). StopsShort number (length xs) (reads_on t.level t.walk d o xs)) (sym (append_assoc held chunk more))
-      (long.1.1 o (chunk ++ more) (record { few = omega (arith, size, both, few, short); unstopped = λ u. both_unstopped chunk more (none u) (lacking.unstopped u) }) at),
+      (long.1.1 o (chunk ++ more) (record { few = omega (arith, length-append {A = ℕ}, few, short); unstopped = λ u. both_unstopped chunk more (none u) (lacking.unstopped u) }) at),
 )
 
 -- an end stays one behind some bytes more that do not reach it
@@ -41,7 +39,5 @@ pub opened_lacks : (t : Traversal) (d : Dictionary) (chunk : List ℕ) (l : Lack
 opened_lacks t d chunk l lacks few none = (
   lacks.0,
   λ o more lacking at.
-      let size = length-append chunk more in
-      let short = lacking.few in
-      lacks.1 o (chunk ++ more) (record { few = omega (arith, few, size, short); unstopped = λ u. both_unstopped chunk more none (lacking.unstopped refl) }) at,
+      lacks.1 o (chunk ++ more) (record { few = omega (arith, few, length-append {A = ℕ}); unstopped = λ u. both_unstopped chunk more none (lacking.unstopped refl) }) at,
 )

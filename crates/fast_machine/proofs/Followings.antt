@@ -60,16 +60,11 @@ first_fault mode set typed bytes messages stop s = record {
 carried_few : (mode : Mode) (set : List Resolved) (ms : List Content) (s : Stand) (bytes : List ℕ) (after : Stand) → CarriesFrom mode set s bytes ms after → length ms ≤ length bytes
 carried_few mode set [] s bytes after h = omega arith
 carried_few mode set (m ∷ ms) s bytes after h =
-    let some = next_some mode set s h.front m h.between h.first in
-    let less = carried_few mode set ms h.between h.back after h.second in
-    let size = ap (λ (xs : List ℕ). length xs) h.parts ∙ length-append h.front h.back in
-    omega (arith, some, less, size)
+    omega (arith, next_some mode set s h.front m h.between h.first, carried_few mode set ms h.between h.back after h.second, ap (λ (xs : List ℕ). length xs) h.parts ∙ length-append h.front h.back)
 
 pub few_messages : (mode : Mode) (set : List Resolved) (bytes : List ℕ) (messages : List Content) → Carried mode set bytes messages → length messages ≤ length bytes
 few_messages mode set bytes messages c =
-    let less = carried_few mode set messages at_start c.front c.start c.carried in
-    let size = ap (λ (xs : List ℕ). length xs) c.parts ∙ length-append c.front c.rest in
-    omega (arith, less, size)
+    omega (arith, carried_few mode set messages at_start c.front c.start c.carried, ap (λ (xs : List ℕ). length xs) c.parts ∙ length-append c.front c.rest)
 
 -- a chunk more
 unfinished_fed : {G : Dictionary → (List ℕ → Reading) → Type 0} {t : Traversal} {unread : List ℕ} (chunk : List ℕ) {all : List ℕ} {start : Dictionary} {rest : List ℕ} → unread ++ chunk ≡ all → IsBytes chunk → Unfinished G t unread start rest → Unfinished G t all start (rest ++ chunk)
@@ -125,9 +120,8 @@ pub fault_refused : (f : Fault) (mode : Mode) (set : List Resolved) (stop : Mess
     → Counts fed count bytes messages → length bytes < 2 ^ 61 → Carried mode set bytes messages → StopsBehind mode set bytes messages stop
     → stop.stop.cause ≢ Memory → IsFault f stop.stop.cause count (fed - stop.stop.left) stop.template stop.stop.instruction → Refused f mode set bytes messages
 fault_refused f mode set stop bytes messages fed count typed counts short carried stops other is =
-    let few = few_messages mode set bytes messages carried in
     let same = counts.count_is in
-    let numbered = is.message_is (omega (arith, few, same, short)) ∙ ap (λ (n : ℕ). n + 1) same in
+    let numbered = is.message_is (omega (arith, few_messages mode set bytes messages carried, same, short)) ∙ ap (λ (n : ℕ). n + 1) same in
     let offset = is.offset_is ∙ ap (λ (n : ℕ). n - stop.stop.left) counts.fed_is in
     let placed : f.place ≡ place_of (length bytes) (length messages) stop = λ i. record { message = numbered i; offset = offset i; template = is.template_is i; instruction = is.instruction_is i } in
     let first = first_fault mode set typed bytes messages stop stops in (
@@ -159,9 +153,8 @@ pub ends_inside : (framing : Framing) (left : ℕ) (G : Dictionary → (List ℕ
     → IsFault f Truncated count (fed - length held) t.template waiting → Refused f (framed_as framing t) (templates_in t.set.now) bytes messages
 ends_inside framing left G f t held waiting bytes messages fed count typed counts short (stands, inl at) inside is = absurd (inside at)
 ends_inside framing left G f t held waiting bytes messages fed count typed counts short (stands, inr stops) inside is =
-    let same = counts.fed_is in
     fault_refused f (framed_as framing t) (templates_in t.set.now) (record { template = t.template; stop = record { cause = Truncated; instruction = waiting; left = length held } }) bytes messages fed count typed counts
-    (omega (arith, same, short)) (carried_of stands) stops (λ e. absurd cc) is
+    (omega (arith, short)) (carried_of stands) stops (λ e. absurd cc) is
 
 -- where a size stops, no template is known
 pub size_template : {G : Dictionary → (List ℕ → Reading) → Type 0} {t : Traversal} {left : ℕ} {unread bytes : List ℕ} {messages : List Content} (c : Cause) → left ≡ 0 → (serves : Key → Bool) → CanGoOn serves t → (t.stage ≡ stage.Map → 0 < length unread)
@@ -200,9 +193,7 @@ pub held_within : (framing : Framing) (left : ℕ) (G : Dictionary → (List ℕ
 held_within Plain left G t held s rest h = let size = ap (λ (xs : List ℕ). length xs) h.0.whole ∙ length-append h.0.taken held in omega (arith, size)
 held_within Blocks left G t held s rest (inl b) = let size = ap (λ (xs : List ℕ). length xs) b.same in omega (arith, size)
 held_within Blocks left G t held s rest (inr i) =
-    let size = ap (λ (xs : List ℕ). length xs) i.parts ∙ length-append i.size (i.next.taken ++ held) in
-    let later = length-append i.next.taken held in
-    omega (arith, size, later)
+    omega (arith, ap (λ (xs : List ℕ). length xs) i.parts ∙ length-append i.size (i.next.taken ++ held), length-append {A = ℕ})
 
 pub are_held : (framing : Framing) (left : ℕ) (G : Dictionary → (List ℕ → Reading) → Type 0) (t : Traversal) (held : List ℕ) (waiting : ℕ) (bytes : List ℕ) (messages : List Content) (fed : ℕ) → AllByRecursion (λ t. HaveTypedParts t.members) (templates_in t.set.now)
     → fed ≡ length bytes → Stands framing left G t held bytes messages × Waits framing left t held waiting bytes messages → IsHeld (framed_as framing t) (templates_in t.set.now) bytes fed (length held)
@@ -225,10 +216,9 @@ pub cut_between : (mode : Mode) (set : List Resolved) (bytes : List ℕ) (messag
     → (count < 2 ^ 61 → place.message ≡ count + 1) → place.offset ≡ fed → place.template ≡ 0 → place.instruction ≡ 0 → IsCutAt mode set bytes messages place
 cut_between mode set bytes messages fed count place counts short carries message offset template instruction =
     let carried = all_carried mode set bytes messages carries in
-    let few = few_messages mode set bytes messages carried in
     let same = counts.count_is in
     let all = counts.fed_is in
-    let behind = message (omega (arith, few, same, all, short)) ∙ ap (λ (n : ℕ). n + 1) same in
+    let behind = message (omega (arith, few_messages mode set bytes messages carried, same, all, short)) ∙ ap (λ (n : ℕ). n + 1) same in
     let end = offset ∙ all in
     record { carried = carried; behind = behind; at = inr (record { messages = messages; carried = carries; place_is = λ i. record { message = behind i; offset = end i; template = template i; instruction = instruction i } }) }
 

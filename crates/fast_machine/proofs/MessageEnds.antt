@@ -104,12 +104,6 @@ module _ (mode : Mode) (set : List Resolved) (is : IsNextReader mode set) where
       let front : take (length xs) zs ≡ xs = sym (take-append-le (length xs) zs ws few) ∙ ap (take (length xs)) (sym h) ∙ take_at xs ys (length xs) refl in
       sym (take-append-drop (length xs) zs) ∙ ap (λ (l : List ℕ). l ++ drop (length xs) zs) front
 
-  stopped_or_read : (s : Stand) (bytes rest : List ℕ) (m : Content) (after : Stand) (stop : MessageStop) → next_at mode set s bytes ≡ Err stop → next_at mode set s bytes ≡ Ok (m, after, rest) → ⊥
-  stopped_or_read s bytes rest m after stop e o = two (sym e ∙ o)
-    where
-      two : ◌≡◌ {A = Result Answer MessageStop} (Err stop) (Ok (m, after, rest)) → ⊥
-      two both = absurd cc
-
   -- where the next message stops behind these, that message ends behind the bytes in which it stopped
   ends_beyond : (ms more : List Content) (m : Content) (s : Stand) (front rest : List ℕ) (stand : Stand) (stop : MessageStop) (whole back : List ℕ) (after : Stand) (chunk : List ℕ)
       → CarriesFrom mode set s front ms stand → next_at mode set stand rest ≡ Err stop → CarriesFrom mode set s whole (ms ++ m ∷ more) after → whole ++ back ≡ (front ++ rest) ++ chunk
@@ -126,8 +120,8 @@ module _ (mode : Mode) (set : List Resolved) (is : IsNextReader mode set) where
       too_few few =
           let behind = drop (length whole) rest in
           let parts : rest ≡ k.front ++ (k.back ++ behind) = begins_with whole back rest chunk (same ∙ ap (λ (xs : List ℕ). xs ++ chunk) is_rest) few ∙ ap (λ (xs : List ℕ). xs ++ behind) k.parts ∙ append_assoc k.front k.back behind in
-          stopped_or_read s rest (k.back ++ behind) m k.between stop stopped
-          (ap (λ (xs : List ℕ). next_at mode set s xs) parts ∙ is.again s k.front (k.back ++ behind) m k.between k.first)
+          let both : ◌≡◌ {A = Result Answer MessageStop} (Err stop) (Ok (m, k.between, k.back ++ behind)) = sym stopped ∙ ap (λ (xs : List ℕ). next_at mode set s xs) parts ∙ is.again s k.front (k.back ++ behind) m k.between k.first in
+          absurd cc
   ends_beyond (n ∷ ms) more m s front rest stand stop whole back after chunk h e k same =
       let one : next_at mode set s (h.front ++ ((h.back ++ rest) ++ chunk)) ≡ Ok (n, h.between, (h.back ++ rest) ++ chunk) = is.again s h.front ((h.back ++ rest) ++ chunk) n h.between h.first in
       let other : next_at mode set s (k.front ++ (k.back ++ back)) ≡ Ok (n, k.between, k.back ++ back) = is.again s k.front (k.back ++ back) n k.between k.first in
@@ -139,15 +133,12 @@ module _ (mode : Mode) (set : List Resolved) (is : IsNextReader mode set) where
       let stands : k.between ≡ h.between = ap (λ (a : Answer). a.1) alike in
       let rests : k.back ++ back ≡ (h.back ++ rest) ++ chunk = ap (λ (a : Answer). a.2) alike in
       let less = ends_beyond ms more m h.between h.back rest stand stop k.back back after chunk h.second e (subst (λ (x : Stand). CarriesFrom mode set x k.back (ms ++ m ∷ more) after) stands k.second) rests in
-      let sizes = ap (λ (xs : List ℕ). length xs) bytes in
-      let left = ap (λ (xs : List ℕ). length xs) rests in
-      let whole_size = ap (λ (xs : List ℕ). length xs) k.parts ∙ length-append k.front k.back in
       let front_size = ap (λ (xs : List ℕ). length xs) h.parts ∙ length-append h.front h.back in
       let a = length-append k.front (k.back ++ back) in
       let b = length-append h.front ((h.back ++ rest) ++ chunk) in
       let c = length-append front rest in
       let d = length-append h.back rest in
-      omega (arith, less, sizes, left, whole_size, front_size, a, b, c, d)
+      omega (arith, less, ap (λ (xs : List ℕ). length xs) bytes, ap (λ (xs : List ℕ). length xs) rests, ap (λ (xs : List ℕ). length xs) k.parts ∙ length-append k.front k.back, front_size, a, b, c, d)
 
 -- the place behind a message that has ended is behind the bytes that were held
 pub behind_held : (framing : Framing) (left after : ℕ) (G H : Dictionary → (List ℕ → Reading) → Type 0) (t u : Traversal) (held : List ℕ) (waiting next : ℕ) (fed chunk : List ℕ) (messages ended : List Content)
@@ -155,13 +146,9 @@ pub behind_held : (framing : Framing) (left after : ℕ) (G H : Dictionary → (
     → Waits framing left t held waiting fed messages → Stands framing after H u (drop next (held ++ chunk)) (fed ++ chunk) (messages ++ ended)
     → (ended ≡ [] → next ≡ length (held ++ chunk)) → (begun_of t ≡ 0 → 0 < next) → next ≤ length (held ++ chunk) → 0 < length chunk → length held < next
 behind_held framing left after G H t u held waiting next fed chunk messages [] typed alike set waits stands all took place some =
-    let size = length-append held chunk in
-    let whole = all refl in
-    omega (arith, size, whole, some)
+    omega (arith, length-append {A = ℕ}, all refl, some)
 behind_held framing left after G H t u held waiting next fed chunk messages (m ∷ more) typed alike set (inl between) stands all took place some =
-    let none = ap (λ (xs : List ℕ). length xs) between.1 in
-    let first = took (ap begun_at between.0) in
-    omega (arith, none, first)
+    omega (arith, ap (λ (xs : List ℕ). length xs) between.1, took (ap begun_at between.0))
 behind_held framing left after G H t u held waiting next fed chunk messages (m ∷ more) typed alike set (inr stops) stands all took place some =
     let mode = framed_as framing t in
     let sets = templates_in t.set.now in
@@ -170,12 +157,8 @@ behind_held framing left after G H t u held waiting next fed chunk messages (m �
     let less = ends_beyond mode sets (next_reader mode sets (message_reader mode.level sets typed)) messages more m at_start stops.front stops.rest stops.start _ stands.front stands.rest stands.start chunk stops.carried stops.ends.2 carried
     (sym stands.parts ∙ ap (λ (xs : List ℕ). xs ++ chunk) stops.parts) in
     let within = held_within framing after H u (drop next (held ++ chunk)) stands.start stands.rest stands.ends in
-    let all_size = ap (λ (xs : List ℕ). length xs) stands.parts ∙ length-append stands.front stands.rest in
     let fed_size = ap (λ (xs : List ℕ). length xs) stops.parts in
-    let chunk_size = length-append fed chunk in
-    let left_size = length-drop next (held ++ chunk) in
-    let held_size = length-append held chunk in
-    omega (arith, less, within, all_size, fed_size, chunk_size, left_size, held_size, place)
+    omega (arith, less, within, ap (λ (xs : List ℕ). length xs) stands.parts ∙ length-append stands.front stands.rest, fed_size, length-append {A = ℕ}, length-drop {A = ℕ}, place)
 
 -- the bytes behind those that were held
 pub drop_behind : (held chunk : List ℕ) (next : ℕ) → length held ≤ next → drop next (held ++ chunk) ≡ drop (next - length held) chunk

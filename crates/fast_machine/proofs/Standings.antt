@@ -60,8 +60,7 @@ window_drop left p xs few = ap (drop p) (sym (take-append-drop left xs)) ∙ dro
 
 pub window_take : (left p : ℕ) (xs : List ℕ) → p ≤ length (take left xs) → take (left - p) (drop p xs) ≡ drop p (take left xs)
 window_take left p xs few =
-    let most = length-take left xs in
-    let all : left ≡ p + (left - p) = omega (arith, few, most) in
+    let all : left ≡ p + (left - p) = omega (arith, few, length-take {A = ℕ}) in
     sym (drop-take p (left - p) xs) ∙ ap (λ (n : ℕ). drop p (take n xs)) (sym all)
 
 pub window_append : (left : ℕ) (xs ys : List ℕ) → take left (xs ++ ys) ≡ take left xs ++ take (left - length xs) ys

@@ -133,8 +133,7 @@ field_begins level i e bit bytes s h = rw (row_begins level i.operator i e bit b
 -- an entity that has not ended
 pub entity_wants : {of limit : ℕ} {bytes : List ℕ} {l : Lack} → EntityLacks of limit bytes l → Wants (entity_at limit) wire.NeedMore bytes l
 entity_wants {limit = limit} {bytes = bytes} lacks more lacking =
-    let size = length-append bytes more in
-    entity_waits limit (bytes ++ more) (both_unstopped bytes more lacks.begun (lacking.unstopped lacks.until)) (omega (arith, size, lacks.few, lacking.few))
+    entity_waits limit (bytes ++ more) (both_unstopped bytes more lacks.begun (lacking.unstopped lacks.until)) (omega (arith, length-append {A = ℕ}, lacks.few, lacking.few))
 
 -- a field whose first entity has not ended
 pub entity_lacks : {level : Level} {i : FieldPart} {e : Entry} {bit : Bool} {bytes : List ℕ} {l : Lack} → sends i.operator bit ≡ true → EntityLacks i.number (first_limit i.operator i.kind) bytes l → FieldLacks level i e bit bytes l

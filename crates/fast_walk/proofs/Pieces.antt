@@ -93,14 +93,11 @@ opened_on {serves} end members waits served kept room = record {
 pub less_opened : (n : NextNow) {v : WalkNow} {frames : List FrameNow} {outer own : List Bool} {left number : ℕ} {members is : Instructions} {i : Inside} → 0 < left → IsOpened frames outer left number members is i own v
     → rank_of v < 4 * left + 2 * length frames + weight_of n
 less_opened n some end =
-    let light = weighs n in
-    omega (arith, end.spare, some, light, end.depth, ap weight_of end.next)
+    omega (arith, end.spare, some, weighs n, end.depth, ap weight_of end.next)
 
 pub less_behind : {w v : WalkNow} {needs : Bool} {n : NextNow} {is : Instructions} → 0 < w.spare → IsBehind w v needs n is → rank_of v < rank_of w
 less_behind {w} {v} some end =
-    let light = weighs w.next in
-    let heavy = weighs v.next in
-    omega (arith, end.spare, some, light, heavy, ap (λ (fs : List FrameNow). length fs) end.around)
+    omega (arith, end.spare, some, weighs w.next, weighs v.next, ap (λ (fs : List FrameNow). length fs) end.around)
 
 pub part_took : {d e : Dictionary} {p : FieldPart} {level asked : Level} {needs bit : Bool} {x : Option Scalar} {bytes rest : List ℕ} (bits : List Bool) → asked ≡ level → needs ≡ part_needs_bit p → bit ≡ bit_for needs bits
     → Took asked p bit d e x bytes rest → (spare : ℕ) (more : List ℕ) → field_part_at level p (cursor d bits spare (bytes ++ more)) ≡ Ok (x, cursor e (after_bit needs bits) spare (rest ++ more))

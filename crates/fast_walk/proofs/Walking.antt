@@ -112,8 +112,7 @@ closed_none o ws b i s h none = ap (closed_in o ws b) h ∙ ap (λ (n : ℕ). be
 
 pub at_last : (fs fore : List FrameNow) (n : ℕ) (f d : FrameNow) → length fs ≡ n → fs ≡ fore ++ f ∷ [] → (slice_index_or fs (n - 1) d ≡ f) × ((g : FrameNow) → slice_set fs (n - 1) g ≡ fore ++ g ∷ [])
 at_last fs fore n f d long h =
-    let many = length-append fore (f ∷ []) in
-    let place : n - 1 ≡ length fore = omega (arith, many, long, ap (λ (xs : List FrameNow). length xs) h) in
+    let place : n - 1 ≡ length fore = omega (arith, length-append {A = FrameNow}, long, ap (λ (xs : List FrameNow). length xs) h) in
     rw (place, h) (get_or-append_seam fore f [] d, λ g. set-append_seam fore f [] g)
 
 -- ---- keys

@@ -8,7 +8,6 @@ returns-else-count-have c = record {
   lacks = λ more lacking.
       let size = length-append (drop c.in-Some.next c.args.bytes.now) more in
       let rest = length-drop c.in-Some.next c.args.bytes.now in
-      let short = lacking.few in
-      counted_waits c.args.level c.args.kind c.args.presence c.args.bytes.now more (drop c.in-Some.next c.args.bytes.now) c.in-Some.count c.in-Unicode.is (c.is_fit_length.ensures c.if-is_fit_length.true more) (omega arith) (omega (arith, size, rest, short)) c.in-Some.ensures.count;
+      counted_waits c.args.level c.args.kind c.args.presence c.args.bytes.now more (drop c.in-Some.next c.args.bytes.now) c.in-Some.count c.in-Unicode.is (c.is_fit_length.ensures c.if-is_fit_length.true more) (omega arith) (omega (arith, size, rest)) c.in-Some.ensures.count;
   number = refl;
 }

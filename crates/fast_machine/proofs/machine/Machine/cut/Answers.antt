@@ -9,10 +9,8 @@ pub returns-in-Ok-clause-place : goal.returns-in-Ok-clause-place
 returns-in-Ok-clause-place g c = λ none before fed messages follows.
     let old = c.args.self.now in
     let ok = c.in-Ok.ensures.ok in
-    let sum = c.saturating_add.ensures in
-    let count = ap (λ d. d.messages) ok.0 in
     cut_between (mode_of old) (templates_in old.traversal.set.now) fed messages old.fed old.messages (record { message = c.saturating_add.result; offset = c.finish.new.self.fed; template = 0; instruction = 0 }) follows.counts c.requires.few (ok.1 before fed messages follows)
-    (λ small. omega (arith, sum, count, small)) c.in-Ok.ensures.fed refl refl
+    (λ small. omega (arith, c.saturating_add.ensures, ap (λ d. d.messages) ok.0, small)) c.in-Ok.ensures.fed refl refl
 
 pub returns-in-Err-clause-place : goal.returns-in-Err-clause-place
 returns-in-Err-clause-place g c = λ none before fed messages follows.

@@ -28,17 +28,13 @@ messages-preserved g c =
     let chunk = c.args.chunk.now in
     let o = c.in_ok-at in
     let rest = take_rest chunk l.at in
-    let size = ap (λ (xs : List ℕ). length xs) rest ∙ length-drop l.at chunk in
-    let few = o.ensures.taken.1 in
-    let before = v.place in
     let fed = v.fed in
-    let more = (o.ensures.fed v.fault).0 in
     let same : take l.at chunk ++ take o.field-0 (take (length chunk - l.at) (drop l.at chunk)) ≡ take (l.at + o.field-0) chunk = ap (λ (xs : List ℕ). take l.at chunk ++ take o.field-0 xs) rest ∙ take_again l.at o.field-0 chunk in
     record {
-      place = omega (arith, few, size, before);
+      place = omega (arith, o.ensures.taken.1, v.place, ap (λ (xs : List ℕ). length xs) rest ∙ length-drop l.at chunk);
       fault = o.ensures.open;
       same = same_on v.same o.ensures.same;
-      fed = omega (arith, more, fed);
+      fed = omega (arith, (o.ensures.fed v.fault).0, fed);
       follows = rw (← same) (all_on (take l.at chunk) (take o.field-0 (take (length chunk - l.at) (drop l.at chunk))) v.follows (o.ensures.follows v.fault));
     }
 

@@ -31,8 +31,7 @@ pub returns-clause-ok : goal.returns-clause-ok
 returns-clause-ok g c =
     let old = c.args.self.now in
     let R = g.R.Receiver in
-    let size = c.held-held.ensures.held in
-    let none = nil_from_length old.held.items (omega (arith, size, c.if-held-gt0.false)) in (
+    let none = nil_from_length old.held.items (omega (arith, c.held-held.ensures.held, c.if-held-gt0.false)) in (
       refl,
       λ before fed messages follows.
           let G = ReadsOn R.has R.stands R.keeps old.traversal old.receiver (g.E.Entries.contents old.entries) before in

@@ -1,4 +1,4 @@
-use Rattle.std.proofs.Common.{[], inl, inr, append-nil, ◌≢◌, ◌≡◌, ◌<◌, ◌+◌, ◌-◌, ◌++◌, ℕ, List, None, Some, length, drop, sym, ap, refl, arith}
+use Rattle.std.proofs.Common.{[], inl, inr, append-nil, ◌≡◌, ◌<◌, ◌+◌, ◌-◌, ◌++◌, ℕ, List, None, Some, length, drop, sym, ap, refl, arith}
 use Rattle.std.proofs.lemmas.List.{take_rest}
 use Rattle.fast_template.specs.TemplateSets.{templates_in}
 use Rattle.fast_stream.specs.declared.fault.Cause.TheVariants.{Truncated}
@@ -44,12 +44,8 @@ returns-in-None-clause-reads g c = (
         f.ended,
         f.counts,
         (λ h.
-            let zero = ap (λ (xs : List Content). length xs) h in
-            let count = f.number_is in
-            let empty = none (omega (arith, zero, count)) in
-            let at_end = empty_window c.in-Ok.opened.0 c.in-Ok.opened.1 c.within-room.result c.args.bytes.now block.some block.place c.within-room.ensures.count block.least empty.1 in
-            let first = empty.0 in
-            omega (arith, at_end, first)),
+            let empty = none (omega (arith, f.number_is, ap (λ (xs : List Content). length xs) h)) in
+            omega (arith, empty.0, empty_window c.in-Ok.opened.0 c.in-Ok.opened.1 c.within-room.result c.args.bytes.now block.some block.place c.within-room.ensures.count block.least empty.1)),
         f.leaves,
       ),
   tt,
@@ -112,11 +108,5 @@ returns-else-self-rest-clause-reads g c =
 pub returns-in_default-cause-clause-reads : goal.returns-in_default-cause-clause-reads
 returns-in_default-cause-clause-reads g c =
     let at = goal.at.returns-in_default-cause-clause-reads g c in
-    let other : c.in-Some.halt.cause ≢ Truncated = λ e. c.in_default-cause.not-Truncated e in (
-      refl,
-      rw (c.fault_of-fault.ensures.cause) other,
-      λ before fed messages short counts stands.
-          let f = finds_fault c.fault_of-fault.result _ c.requires.framing (halted g at.In-Some (opened g at.After-within-room) (λ wanted. absurd (other wanted))) other c.read_if_any-progress.ensures.leaves.sound
-          (ap (λ (xs : List ℕ). length xs) (sym (take_rest c.args.bytes.now (c.in-Ok.opened.1 + c.read_if_any-progress.result.at)))) (rw (c.template-template.ensures) at c.fault_of-fault.ensures.refused) before fed messages short counts stands in
-          (f.ended, record { at = (f.leaves.0, c.requires.nothing.held, f.leaves.1); counts = f.counts }),
-    )
+    finds_fault c.fault_of-fault.result _ (halted g at.In-Some (opened g at.After-within-room) (λ wanted. absurd (c.in_default-cause.not-Truncated wanted))) (λ e. c.in_default-cause.not-Truncated e) c.fault_of-fault.ensures.cause c.read_if_any-progress.ensures.leaves.sound
+    (ap (λ (xs : List ℕ). length xs) (sym (take_rest c.args.bytes.now (c.in-Ok.opened.1 + c.read_if_any-progress.result.at)))) (rw (c.template-template.ensures) at c.fault_of-fault.ensures.refused) refl c.requires.nothing.held c.requires.framing refl refl refl refl

@@ -1,6 +1,5 @@
-use Rattle.std.proofs.Common.{◌≢◌, ◌∙◌, ℕ, List, None, Some, drop, length, sym, ap, refl, arith}
+use Rattle.std.proofs.Common.{◌∙◌, ℕ, List, None, Some, drop, length, sym, ap, refl, arith}
 use Rattle.std.proofs.lemmas.List.{take_rest}
-use Rattle.fast_stream.specs.declared.fault.Cause.TheVariants.{Truncated}
 use Rattle.fast_stream.specs.declared.mode.Framing.TheVariants.{Plain}
 use Rattle.fast_stream.specs.Nodes.{Content}
 use Rattle.fast_machine.proofs.Calls.{Finds, finds_fault, finds_waiting}
@@ -20,7 +19,7 @@ returns-in-None-clause-reads g c = (
       let p = c.read_message-progress in
       let f = (plain_goes c.args.self.now c.saturating_add-self.result p.ensures.leaves p.ensures.ended c.saturating_add-self.ensures None c.in-None.is).found before fed messages short counts stands in
       let none = (rw (c.in-None.is) at p.ensures.leaves.ends).none in
-      (f.ended, f.counts, (λ h. let zero = ap (λ (xs : List Content). length xs) h in let count = f.number_is in let empty = none (omega (arith, zero, count)) in empty.0 ∙ sym empty.1), f.leaves),
+      (f.ended, f.counts, (λ h. let empty = none (omega (arith, f.number_is, ap (λ (xs : List Content). length xs) h)) in empty.0 ∙ sym empty.1), f.leaves),
   tt,
 )
 
@@ -30,11 +29,5 @@ returns-in-Truncated-clause-reads g c =
 
 pub returns-in_default-clause-reads : goal.returns-in_default-clause-reads
 returns-in_default-clause-reads g c =
-    let other : c.in-Some.halt.cause ≢ Truncated = λ e. c.in_default.not-Truncated e in (
-      refl,
-      rw (c.fault_of-fault.ensures.cause) other,
-      λ before fed messages short counts stands.
-          let f = finds_fault c.fault_of-fault.result _ c.requires.framing (halted g (goal.at.returns-in_default-clause-reads g c).In-Some) other c.read_message-progress.ensures.leaves.sound
-          (ap (λ (xs : List ℕ). length xs) (sym (take_rest c.args.bytes.now c.read_message-progress.result.at))) (rw (c.template-template.ensures) at c.fault_of-fault.ensures.refused) before fed messages short counts stands in
-          (f.ended, record { at = (f.leaves.0, c.requires.nothing.held, f.leaves.1); counts = f.counts }),
-    )
+    finds_fault c.fault_of-fault.result _ (halted g (goal.at.returns-in_default-clause-reads g c).In-Some) (λ e. c.in_default.not-Truncated e) c.fault_of-fault.ensures.cause c.read_message-progress.ensures.leaves.sound
+    (ap (λ (xs : List ℕ). length xs) (sym (take_rest c.args.bytes.now c.read_message-progress.result.at))) (rw (c.template-template.ensures) at c.fault_of-fault.ensures.refused) refl c.requires.nothing.held c.requires.framing refl refl refl refl

@@ -43,17 +43,10 @@ returns-in-Some-clause-follows g c = λ none before fed messages follows.
     let H = ReadsOn R.has R.stands R.keeps new.traversal new.receiver (g.E.Entries.contents new.entries) (before ++ r.0) in
     let beyond = behind_held old.framing old.left new.left G H old.traversal new.traversal held old.waiting next fed chunk messages r.0 c.set_is_sound.ensures.typed (ap (λ (m : Mode). framed_by m.level old.framing) o.ensures.same.mode) (ap (λ x. x.now) o.ensures.same.set) f.held.1 r.3 r.2 place.took place.within c.requires.some in
     let taken = c.min-taken.result in
-    let held_size = length-append held chunk in
-    let within = place.within in
-    let low = c.saturating_sub.ensures in
-    let one = c.max.ensures in
-    let most = c.min-taken.ensures in
-    let all = c.len-held.ensures in
-    let exact : taken ≡ next - length held = omega (arith, beyond, held_size, within, low, one, most, all) in
+    let exact : taken ≡ next - length held = omega (arith, beyond, length-append {A = ℕ}, c.saturating_sub.ensures, c.max.ensures, c.min-taken.ensures, c.len-held.ensures) in
     let rest : drop next (held ++ chunk) ≡ drop taken chunk = drop_behind held chunk next (omega (arith, beyond)) ∙ ap (λ (n : ℕ). drop n chunk) (sym exact) in
     let parts : fed ++ chunk ≡ (fed ++ take taken chunk) ++ drop taken chunk = ap (λ (xs : List ℕ). fed ++ xs) (sym (take-append-drop taken chunk)) ∙ sym (append_assoc fed (take taken chunk) (drop taken chunk)) in
     let ended = messages ++ r.0 in
-    let left = length-drop taken chunk in
     let size = ap (λ (xs : List ℕ). length xs) parts ∙ length-append (fed ++ take taken chunk) (drop taken chunk) in
     let fed_is = r.1.fed_is in
     let none : new.traversal.template ≡ 0 = rw (place.between) at (new.ready place.fault) in
@@ -62,6 +55,6 @@ returns-in-Some-clause-follows g c = λ none before fed messages follows.
       r.0,
       record {
         at = rw (place.fault, place.held) (here, waits_behind new.framing new.left H new.traversal (fed ++ take taken chunk) ended place.between none here);
-        counts = record { fed_is = omega (arith, size, left, fed_is); count_is = r.1.count_is };
+        counts = record { fed_is = omega (arith, size, length-drop {A = ℕ}, fed_is); count_is = r.1.count_is };
       },
     )

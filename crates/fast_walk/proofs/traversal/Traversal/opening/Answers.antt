@@ -7,6 +7,5 @@ pub returns : goal.returns
 returns c = λ d.
     let t = c.args.self.now in
     let part = c.in-Some.part.now in
-    let limit = c.first_limit.ensures in
-    let few : c.first_limit.result - 1 < first_limit part.operator part.kind = omega (arith, limit) in
+    let few : c.first_limit.result - 1 < first_limit part.operator part.kind = omega (arith, c.first_limit.ensures) in
     (search rules, part_opens t.level t.walk d part _ c.in-Some.ensures (search rules) few refl refl)

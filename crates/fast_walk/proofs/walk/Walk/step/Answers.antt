@@ -51,8 +51,7 @@ returns-then-sequel-eq0-clause-piece g c =
         within = c.requires.place;
         goes = λ o at.
             let a = at_element_of o at.0 c.in-Element.is in
-            let left = ap (λ (s : Sequel). s.left) a.same in
-            let none : a.sequel.left ≡ 0 = omega (arith, left, c.if-sequel-eq0.true) in (
+            let none : a.sequel.left ≡ 0 = omega (arith, ap (λ (s : Sequel). s.left) a.same, c.if-sequel-eq0.true) in (
               after_sequence o a.sequel,
               (record { next = refl; rest = at.0.rest; around = at.0.around }, c.in_ok-end_sequence-in-Element.ensures.has o _ a.sequel a.next none at.1),
               record { set = refl; before = refl; template = refl; members = refl; start = refl },
@@ -122,7 +121,6 @@ returns-in_ok-next_element-in-Some-next_sequel-clause-piece g c =
     let enter = c.in_ok-next_element-in-Some-next_sequel.ensures in
     let served = served_pop (g.E.Entries.serves c.args.entries.now) (map frame_of l.fore) (frame_of l.frame) (rw (last_frames l) at can.ready.around) in
     let members = rw (ap inside_of l.inside) at served.1.1 in
-    let longer = ap (λ (fs : List FrameNow). length fs) l.frames ∙ length-append l.fore (l.frame ∷ []) in
     let less = less_opened old.next c.in_ok-count-in-Some-next_sequel.ensures end in (
       record {
         from = bits.ensures.place.0;
@@ -136,7 +134,7 @@ returns-in_ok-next_element-in-Some-next_sequel-clause-piece g c =
             c.in-Some-next_sequel.ensures.0 c.in_ok-count-in-Some-next_sequel.ensures end (rw (c.level-strictness.ensures) at bits.ensures.goes d l.frame.bits (old.spare - 1)) (λ own some. enter.has o d n.last.before n.last.last n.sequel l.frame.bits next rest n.last.is n.is own some at.1);
         on = opened_on end members (served.1.0, members) served.0 can.kept (enter.room (left_around (map frame_of l.fore)) l.frame.bits old.bits bits.bits bits.ensures.room (rw (left_last _ _ _ (last_frames l)) at can.room));
       },
-      omega (arith, less, longer),
+      omega (arith, less, ap (λ (fs : List FrameNow). length fs) l.frames ∙ length-append l.fore (l.frame ∷ [])),
     )
 
 pub returns-in_err-judge_end-in-None-clause-piece : goal.returns-in_err-judge_end-in-None-clause-piece
