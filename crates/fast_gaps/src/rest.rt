@@ -137,10 +137,6 @@ impl Rest {
     }
 
     /// Makes all of it ready.
-    ///
-    /// # Errors
-    ///
-    /// As `tell_on`.
     pub fn tell_all<S: Signs>(
         &mut self,
         signs: S,

@@ -38,18 +38,11 @@ appended_more a b c s t e f = f ∙ ap (λ l. l ++ t) e ∙ append_assoc a s t
 
 -- ---- texts that are always there
 
-pub writes_err : (t a b : List ℕ) (r : Result Unit AllocError) → IsErr r → Extends a b → Writes t r a b
-writes_err t a b (Ok u) e x = absurd (true≢false (sym e))
-writes_err t a b (Err f) e x = x
-
 pub writes_stop : (t s a b c : List ℕ) (r : Result Unit AllocError) → IsErr r → b ≡ a ++ s → Extends b c → Writes t r a c
-writes_stop t s a b c r e was more = writes_err t a c r e (extends_more a b c (extends_by a b s was) more)
+writes_stop t s a b c (Ok u) e was more = absurd (true≢false (sym e))
+writes_stop t s a b c (Err f) e was more = extends_more a b c (extends_by a b s was) more
 
--- ---- one more element of a list
-
-pub flat_map_one : (f : ℕ → List ℕ) (xs : List ℕ) (i : ℕ) (d : ℕ) → i < length xs → flat_map f (take (i + 1) xs) ≡ flat_map f (take i xs) ++ f (get_or xs i d)
-flat_map_one f xs i d lt =
-    ap (flat_map f) (take_more xs i d lt) ∙ flat_map-append f (take i xs) (get_or xs i d ∷ []) ∙ ap (λ l. flat_map f (take i xs) ++ l) (append-nil (f (get_or xs i d)))
+-- ---- a string
 
 plain_unit : (form : Form) (c : ℕ) → is_plain c ≡ true → unit_text form c ≡ c ∷ []
 plain_unit Text c e = rw e refl
@@ -143,16 +136,13 @@ pub writes_behind : (s t a b c : List ℕ) (r : Result Unit AllocError) → b �
 writes_behind s t a b c (Ok u) e w = w ∙ ap (λ l. l ++ t) e ∙ append_assoc a s t
 writes_behind s t a b c (Err f) e w = extends_more a b c (extends_by a b s e) w
 
-pub take_pieces : (xs : List ℕ) (at n : ℕ) → at ≤ length xs → take (at + n) xs ≡ take at xs ++ take n (drop at xs)
-take_pieces xs at n le =
-    let long : length (take at xs) ≡ at = length-take-le at xs le in
-    sym (ap₂ (λ l ys. take (l + n) ys) long (take-append-drop at xs)) ∙ take-append-add (take at xs) (drop at xs) n
-
 -- and one more piece of a list
 pub flat_map_piece : (f : ℕ → List ℕ) (xs : List ℕ) (at n : ℕ) → at ≤ length xs → flat_map f (take (at + n) xs) ≡ flat_map f (take at xs) ++ flat_map f (take (at + n - at) (drop at xs))
 flat_map_piece f xs at n le =
     let same : at + n - at ≡ n = omega arith in
-    ap (flat_map f) (take_pieces xs at n le) ∙ flat_map-append f (take at xs) (take n (drop at xs)) ∙ ap (λ m. flat_map f (take at xs) ++ flat_map f (take m (drop at xs))) (sym same)
+    let long : length (take at xs) ≡ at = length-take-le at xs le in
+    let pieces = sym (ap₂ (λ l ys. take (l + n) ys) long (take-append-drop at xs)) ∙ take-append-add (take at xs) (drop at xs) n in
+    ap (flat_map f) pieces ∙ flat_map-append f (take at xs) (take n (drop at xs)) ∙ ap (λ m. flat_map f (take at xs) ++ flat_map f (take m (drop at xs))) (sym same)
 
 -- and the last one
 pub flat_map_rest : (f : ℕ → List ℕ) (xs : List ℕ) (at : ℕ) → flat_map f xs ≡ flat_map f (take at xs) ++ flat_map f (take (length xs - at) (drop at xs))

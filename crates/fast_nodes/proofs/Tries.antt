@@ -12,7 +12,7 @@ use Rattle.fast_stream.specs.declared.message.Node.{Node}
 use Rattle.fast_stream.specs.declared.message.Node.TheVariants as nodes
 use Rattle.fast_value.specs.declared.kind.Presence.{Presence}
 use Rattle.fast_template.specs.declared.resolved.FieldPart.{FieldPart}
-use Rattle.fast_template.specs.Resolved.{Instruction, Instructions, instruction_of, list_of, then_instruction, is_optional, has_map}
+use Rattle.fast_template.specs.Resolved.{Instructions, instruction_of, list_of, is_optional, has_map}
 use Rattle.fast_stream.specs.Nodes.{Item, single, group_items, sequence_elements, Items, no_items, then_item, Elements, no_elements, then_element, item_of, items_in, element_count}
 use Rattle.fast_nodes.specs.declared.fault.EncodeFault.{EncodeFault}
 use Rattle.fast_nodes.specs.Added.{Books, CanTry, CanTryOne, CanTryEach, GoesOn, IsPut, IsPutWhole, IsSmall, AreSmall, AreSmallIn, NotPut, Piece, Puts, PutsWhole, Seals, both, each_of, of_item, of_items, of_part, segment_of}
@@ -24,18 +24,6 @@ use Rattle.fast_walk.proofs.Pieces.{is_group, is_sequence}
 use Rattle.fast_nodes.proofs.Views.{count_seen, is_elements, is_items, seen}
 
 -- ---- what is known of each
-
-pub can_first : {a : Books} {i : Instruction} {is : Instructions} {n : Item} {ns : Items} → CanTry a (then_instruction i is) (then_item n ns) → CanTryOne a i n
-can_first h = record { parts = h.parts.0; served = h.served.0; fits = (and_parts _ _ h.fits).0; small = h.small.0; holds = h.holds }
-
-can_rest : {a b : Books} {i : Instruction} {is : Instructions} {n : Item} {ns : Items} → CanTry a (then_instruction i is) (then_item n ns) → GoesOn a b → CanTry b is ns
-can_rest h g = record { parts = h.parts.1; served = rw (g.same_keys) h.served.1; fits = (and_parts _ _ h.fits).1; small = h.small.1; holds = g.holds h.holds }
-
-pub can_element : {a : Books} {is : Instructions} {ns : Items} {es : Elements} → CanTryEach a is (then_element ns es) → CanTry a is ns
-can_element h = record { parts = h.parts; served = h.served; fits = (and_parts _ _ h.fits).0; small = h.small.0; holds = h.holds }
-
-can_others : {a b : Books} {is : Instructions} {ns : Items} {es : Elements} → CanTryEach a is (then_element ns es) → GoesOn a b → CanTryEach b is es
-can_others h g = record { parts = h.parts; served = rw (g.same_keys) h.served; fits = (and_parts _ _ h.fits).1; small = h.small.1; holds = g.holds h.holds }
 
 mutual
   small_one : (n : Item) → item_is_large n ≡ false → IsSmall n
@@ -114,7 +102,9 @@ module _ {flats : List Flat} {nodes : List Node} {a b : Books} {l k : Segment} {
 
   module _ {f : Flat} {n : Node} (flat : drop at flats ≡ f ∷ drop (at + 1) flats) (node : drop at nodes ≡ n ∷ drop (at + 1) nodes) where
     pub nodes_next : {c : Books} {j : Segment} → IsPut (of_item (instruction_of f) (item_of n)) b k c j → NodesLeft flats nodes a l (at + 1) c j
-    nodes_next h = record { ready = can_rest (rw (flat, node) at left.ready) h.goes; on = λ d m r g. (rw (flat, node) at left.on) d m r (puts_then _ d m r h g) }
+    nodes_next h =
+        let now = rw (flat, node) at left.ready in
+        record { ready = record { parts = now.parts.1; served = rw (h.goes.same_keys) now.served.1; fits = (and_parts _ _ now.fits).1; small = now.small.1; holds = h.goes.holds now.holds }; on = λ d m r g. (rw (flat, node) at left.on) d m r (puts_then _ d m r h g) }
 
 -- ---- elements
 
@@ -129,11 +119,14 @@ module _ {members : List Flat} {es : List (Vec Node)} {a b : Books} {old new : L
 
   module _ {e : Vec Node} (here : drop at es ≡ e ∷ drop (at + 1) es) where
     pub can_segment : CanTry b (list_of members) (items_in e.items)
-    can_segment = can_element (rw (here) at left.ready)
+    can_segment =
+        let now = rw (here) at left.ready in
+        record { parts = now.parts; served = now.served; fits = (and_parts _ _ now.fits).0; small = now.small.0; holds = now.holds }
 
     pub elements_next : {c : Books} {last : List ℕ} → IsPutWhole (segment_of (list_of members) (items_in e.items)) b new c last → ElementsLeft members es a old (at + 1) c last
     elements_next h =
-        record { ready = can_others (rw (here) at left.ready) h.goes; on = λ d m r g. (rw (here) at left.on) d m r (elements_then (list_of members) (items_in e.items) (seen (drop (at + 1) es)) d m r h g) }
+        let now = rw (here) at left.ready in
+        record { ready = record { parts = now.parts; served = rw (h.goes.same_keys) now.served; fits = (and_parts _ _ now.fits).1; small = now.small.1; holds = h.goes.holds now.holds }; on = λ d m r g. (rw (here) at left.on) d m r (elements_then (list_of members) (items_in e.items) (seen (drop (at + 1) es)) d m r h g) }
 
     pub element_refused : {c : Books} {fault : EncodeFault} → NotPut ((segment_of (list_of members) (items_in e.items)).judge b.entries) b c fault → NotPut (elements_judged (list_of members) (seen es) a.entries) a c fault
     element_refused {c} {fault} h = (rw (here) at left.on) c new (Err fault) (refused_then (λ d. elements_judged (list_of members) (seen (drop (at + 1) es)) d) h)

@@ -75,10 +75,6 @@ pub fn seal(level: &Segment, out: &mut Vec<u8>) -> Result<(), EncodeFault>
 
 /// Appends the best form of a value to a segment, none where it is absent, and makes its entry the one afterwards;
 /// answers the entry before, so that it can be put back.
-///
-/// # Errors
-///
-/// The part's refusal, and the entry is as it was. Memory: a growth was refused.
 pub(crate) fn put_part(
     alloc: Global,
     part: &FieldPart,

@@ -15,10 +15,8 @@ use Rattle.fast_writer.specs.Runs.{written}
 use Rattle.fast_writer.specs.declared.run.Run.{Run}
 use Rattle.fast_writer.proofs.Runs.{settled}
 use Rattle.fast_walk.specs.Received.{length_of}
-use Rattle.fast_stream.specs.Bits.{bit_for}
 use Rattle.fast_field.specs.Passed.{Passes as FieldPasses}
 use Rattle.fast_writer.specs.Quick.{Relayed, RelaysEntry, RelaysPart, StopsEntry, StopsPart}
-use Rattle.fast_writer.specs.Takings.{TookEntry}
 use Rattle.fast_walk.proofs.Passings.{took_of}
 use Rattle.fast_writer.proofs.MapRoom.{asked_room}
 use Rattle.fast_field.specs.declared.fault.FieldFault.{FieldFault}
@@ -41,18 +39,6 @@ spelt_entry {bit = bit} needs form asked = record {
   bytes = asked.bytes ∙ form.appended;
   needs = form.needs;
   best = form.best;
-}
-
--- a part that was relayed and whose bit was asked for
-pub took_entry : {level : Level} {p : FieldPart} {old new : Entry} {bits : List Bool} {bit best needed : Bool} {v : Option Scalar} {bytes rest middle : List ℕ} {l k : Segment}
-    → bit_for (part_needs_bit p) bits ≡ bit → needed ≡ part_needs_bit p → (bit ≡ false → best ≡ false)
-    → Relayed level p old new bit best v bytes rest l.bytes middle → Asked needed best (record { bits = l.bits; own = l.own; bytes = middle }) k → TookEntry level p old new bits v bytes rest l k
-unfolding spelt_entry
-took_entry is needs low r asked = record {
-  value = λ more. rw (is) (r.read more);
-  entry = r.entry;
-  spelt = spelt_entry needs r.form asked;
-  lower = λ zero. low (sym is ∙ zero);
 }
 
 -- what has no bit is not given by bit 0

@@ -20,13 +20,13 @@ use Rattle.fast_walk.specs.Received.{Took, exponent_of}
 use Rattle.fast_walk.specs.Passing.{next_behind}
 use Rattle.fast_walk.specs.Walks.{AreServed, IsNextServed, IsServed}
 use Rattle.fast_value.specs.declared.key.Key.{Key}
-use Rattle.fast_walk.proofs.Passings.{passes_field, passes_on, passes_one, took_of}
+use Rattle.fast_walk.proofs.Passings.{passes_field, passes_on, passes_one}
 use Rattle.fast_walk.proofs.Steps.{count_goes, part_goes}
 use Rattle.fast_walk.proofs.Walking.{exponent_on, no_exponent_on, mantissa_on_goes, is_instruction, is_mantissa}
 use Rattle.fast_writer.specs.Written.{Segment, Spelt}
-use Rattle.fast_writer.specs.Takings.{BeginsWith, EndsPart, Front, MatchTaken, Takes, TakesPart, TakesUnder, TookEntry, TookFields, TookUnder, behind}
+use Rattle.fast_writer.specs.Takings.{BeginsWith, EndsPart, Front, MatchTaken, Takes, TakesPart, TakesUnder, TookFields, TookUnder, behind}
 use Rattle.fast_writer.specs.Levels.{level_in, level_of}
-use Rattle.fast_writer.specs.Quick.{Relayed}
+use Rattle.fast_writer.specs.Quick.{Relayed, RelaysPart}
 use Rattle.fast_writer.specs.declared.segment.Segment.{Segment as LevelNow}
 use Rattle.fast_writer.specs.declared.fields.Taken.{Taken}
 use Rattle.fast_writer.specs.declared.fields.Taken.TheVariants.{Part, Elsewhere, Refused}
@@ -35,8 +35,7 @@ use Rattle.fast_writer.specs.Runs.{IsRun, written}
 use Rattle.fast_writer.specs.declared.run.Run.{Run}
 use Rattle.fast_field.specs.Parts.{IsFieldPart}
 use Rattle.fast_walk.specs.Told.{KeepScalars}
-use Rattle.fast_writer.proofs.MapRoom.{asked_room}
-use Rattle.fast_writer.proofs.Relays.{took_entry}
+use Rattle.fast_writer.proofs.Relays.{relays_under}
 use Rattle.fast_writer.proofs.SpeltParts.{exponent_there, mantissa_taken, spelt_keeps}
 use Rattle.fast_writer.proofs.Writers.{has_field, has_exponent, has_mantissa}
 
@@ -100,12 +99,13 @@ pub taken : {p : FieldPart} {old new : Entry} {bit best needed : Bool} {v : Opti
     → Relayed level p old new bit best v (drop at bytes) (drop next bytes) (written bytes l.bytes) after
     → MatchTaken t (λ is. (is ≡ there) × EndsPart needed best bits later (record { bits = l.bits; own = l.own; bytes = after }) (level_in bytes k) × IsRun bytes next k.bytes) ⊥
     → TakesPart level p old new bits later bytes at l k t
-taken {p} {old} {new} {v = v} level there bits later bytes at next l k (Part is) bit needs low forward value relayed e = record {
-  place = rw (e.2.place) forward;
+taken {best = best} {v = v} level there bits later bytes at next l k (Part is) bit needs low forward value relayed e = record {
   run = subst (λ (n : ℕ). IsRun bytes n k.bytes) (sym e.2.place) e.2;
   value = v;
   is_there = rw (e.0) value;
-  took = subst (λ (n : ℕ). TookEntry level p old new bits v (drop at bytes) (drop n bytes) (level_in bytes l) (level_in bytes k)) (sym e.2.place) (took_entry bit needs low relayed e.1.asked);
+  best = best;
+  relayed = rw (bit, e.1.asked.bytes, e.2.place) (record { place = (forward, e.2.within); relayed = relayed; lower = low });
+  asked = record { bits = rw (needs) at e.1.asked.bits; own = e.1.asked.own; bytes = refl };
   left = rw (needs) at e.1.left;
 }
 taken level there bits later bytes at next l k Elsewhere bit needs low forward value relayed e = absurd e
@@ -116,22 +116,8 @@ pub taken_under : (level : Level) (p : FieldPart) (d e : Dictionary) (old new : 
     → IsFieldPart p → KeepScalars d → old ≡ entry_at d p.key → e ≡ set_entry d p.key new
     → TakesPart level p old new bits later bytes at l k t → TakesUnder level p d e bits later bytes at l k t
 taken_under level p d e old new bits later bytes at l k (Part there) part kept is put t =
-    let needs = part_needs_bit p in
-    let v = t.value in
-    let took : Took level p (bit_for needs bits) d e v (drop at bytes) (drop k.bytes.place bytes) = took_of is put t.took.entry t.took.value in
-    let spelt = subst (λ (x : Entry). Spelt p x v (level_in bytes l) (level_in bytes k)) is t.took.spelt in
-    record {
-      place = t.place;
-      run = t.run;
-      value = v;
-      is_there = t.is_there;
-      took = took;
-      spelt = spelt;
-      left = t.left;
-      room = λ around room. rw (t.left)
-          (asked_room needs (bit_for needs bits) t.took.spelt.bit (level_in bytes l) (level_in bytes k) bits around refl t.took.lower t.took.spelt.bits t.took.spelt.own room);
-      kept = spelt_keeps p d e v (level_in bytes l) (level_in bytes k) part kept took.entry spelt;
-    }
+    let r : RelaysPart level p d e (bit_for (part_needs_bit p) bits) t.value bytes at k.bytes.place (level_in bytes l) (level_in bytes k) = relays_under is put refl t.relayed t.asked in
+    record { run = t.run; value = t.value; is_there = t.is_there; relayed = r; left = t.left; kept = spelt_keeps p d e t.value (level_in bytes l) (level_in bytes k) part kept r.took.entry r.spelt }
 taken_under level p d e old new bits later bytes at l k Elsewhere part kept is put s =
     record { same = put ∙ ap (set_entry d p.key) (s.same ∙ is) ∙ set_entry-there d p.key; segment = s.segment; left = s.left; run = s.run }
 taken_under level p d e old new bits later bytes at l k Refused part kept is put t = tt
@@ -195,10 +181,10 @@ module _ {level : Level} {bytes : List ℕ} where
       → Takes level bytes (level_in bytes k) d bits (record { mantissa = None; rest = then_instruction i is; spare = spare; place = k.bytes.place })
       (level_in bytes j) e later (record { mantissa = behind there m; rest = is; spare = spare - 1; place = j.bytes.place })
   takes_first (whole_field name number presence whole) {there} m is spare begins some t =
-      rw (begins.1, sym begins.0) (takes_field name number presence is spare _ _ some t.took t.spelt t.left)
+      rw (begins.1, sym begins.0) (takes_field name number presence is spare _ _ some t.relayed.took t.relayed.spelt t.left)
   takes_first (field_in_parts name number presence exponent q) {there} {p} m is spare begins some t =
       let x = exponent_there p.kind there t.value begins.1 t.is_there in
-      rw (begins.2.1, sym begins.0, sym begins.2.2, sym x.2) (takes_exponent x.0 name number presence begins.2.0 is spare _ _ some (rw (x.1) at t.took) (rw (x.1) at t.spelt) t.left)
+      rw (begins.2.1, sym begins.0, sym begins.2.2, sym x.2) (takes_exponent x.0 name number presence begins.2.0 is spare _ _ some (rw (x.1) at t.relayed.took) (rw (x.1) at t.relayed.spelt) t.left)
   takes_first (group_of name number presence members) m is spare begins some t = absurd begins
   takes_first (sequence_of name number presence part members) m is spare begins some t = absurd begins
 
@@ -227,7 +213,7 @@ module _ {level : Level} {bytes : List ℕ} where
   took_next {serves = serves} {rest = rest} {others = others} {f = f} m n front t so_far begins after next =
       let count = length rest - length others in
       record {
-        place = omega (arith, so_far.place, t.place);
+        place = omega (arith, so_far.place, t.relayed.place.0);
         within = omega (arith, front.within);
         some = λ one. omega arith;
         served = (served_ahead serves front so_far.served).1;
@@ -236,7 +222,7 @@ module _ {level : Level} {bytes : List ℕ} where
             let less : spare - (count + 1) ≡ spare - count - 1 = omega arith in
             takes_on (so_far.takes spare few)
             (rw (after, less, front.goes) (takes_first (instruction_of f) m (list_of (drop (count + 1) rest)) (spare - count) begins (omega (arith, few, front.within)) t));
-        room = λ around room. t.room around (so_far.room around room);
+        room = λ around room. rw (t.left) (t.relayed.room around _ refl (so_far.room around room));
         kept = t.kept;
       }
 
@@ -247,14 +233,14 @@ module _ {level : Level} {bytes : List ℕ} where
       → TookFields level serves rest bytes l d bits at count None (level_in bytes j) c last j.bytes.place
   took_mantissa {rest = rest} {e = e} {count = count} {there = there} {q = q} {k = k} {j = j} t so_far =
       let told = so_far.next_served in
-      let x = mantissa_taken q.now (entry_at e q.now.key) there t.value (level_in bytes k) (level_in bytes j) told.0.1 told.1 t.is_there t.spelt in
+      let x = mantissa_taken q.now (entry_at e q.now.key) there t.value (level_in bytes k) (level_in bytes j) told.0.1 told.1 t.is_there t.relayed.spelt in
       record {
-        place = omega (arith, so_far.place, t.place);
+        place = omega (arith, so_far.place, t.relayed.place.0);
         within = so_far.within;
         some = λ one. absurd cc;
         served = so_far.served;
         next_served = tt;
-        takes = λ spare few. takes_on (so_far.takes spare few) (takes_mantissa q x.0 (list_of (drop count rest)) (spare - count) _ _ (rw (x.1) at t.took) (rw (x.1) at t.spelt) t.left);
-        room = λ around room. t.room around (so_far.room around room);
+        takes = λ spare few. takes_on (so_far.takes spare few) (takes_mantissa q x.0 (list_of (drop count rest)) (spare - count) _ _ (rw (x.1) at t.relayed.took) (rw (x.1) at t.relayed.spelt) t.left);
+        room = λ around room. rw (t.left) (t.relayed.room around _ refl (so_far.room around room));
         kept = t.kept;
       }

@@ -1,5 +1,5 @@
 -- Fields that are taken one after the other into the segment that is open.
-use Rattle.std.specs.Prelude.{◌≡◌, ◌≤◌, ◌<◌, ℕ, ◌-◌, ◌&&◌, Bool, true, false, List, ◌++◌, Option, Some, None, Ok, IsSome, IsTrue, drop, length}
+use Rattle.std.specs.Prelude.{◌≡◌, ◌≤◌, ◌<◌, ℕ, ◌-◌, ◌&&◌, Bool, true, false, List, Option, Some, None, IsSome, IsTrue, drop, length}
 use Rattle.fast_value.specs.declared.key.Key.{Key}
 use Rattle.fast_value.specs.declared.kind.Kind.TheVariants as kind
 use Rattle.fast_value.specs.declared.kind.Part.TheVariants as part
@@ -8,22 +8,22 @@ use Rattle.fast_template.specs.declared.resolved.FieldPart.{FieldPart}
 use Rattle.fast_template.specs.declared.resolved.Flat.{Flat}
 use Rattle.fast_template.specs.Resolved.{Instruction, Instructions, whole_field, field_in_parts, group_of, sequence_of, list_of, part_needs_bit}
 use Rattle.fast_value.specs.declared.scalar.Scalar.{Scalar}
-use Rattle.fast_dictionary.specs.Dictionary.{Dictionary, entry_at}
+use Rattle.fast_dictionary.specs.Dictionary.{Dictionary}
 use Rattle.fast_dictionary.specs.declared.entry.Entry.{Entry}
 use Rattle.fast_field.specs.Bases.{next}
-use Rattle.fast_field.specs.FieldReading.{field_at}
 use Rattle.fast_stream.specs.Bits.{after_bit, bit_for}
 use Rattle.fast_wire.specs.declared.level.Level.{Level}
 use Rattle.fast_walk.specs.declared.receiver.Fields.{Fields}
-use Rattle.fast_walk.specs.Received.{Received, Took}
+use Rattle.fast_walk.specs.Received.{Received}
 use Rattle.fast_walk.specs.Told.{IsTold, KeepScalars}
 use Rattle.fast_walk.specs.Walks.{AreServed, IsNextServed, bare_next}
 use Rattle.fast_walk.specs.Passing.{Passes, next_behind}
 use Rattle.fast_relay.specs.Relayed.{IsThere}
-use Rattle.fast_writer.specs.Runs.{IsRun}
+use Rattle.fast_writer.specs.Quick.{RelaysEntry, RelaysPart}
+use Rattle.fast_writer.specs.Runs.{IsRun, written}
 use Rattle.fast_writer.specs.Levels.{level_in}
 use Rattle.fast_writer.specs.Room.{has_room}
-use Rattle.fast_writer.specs.Written.{Segment, Asked, IsOpened, Spelt}
+use Rattle.fast_writer.specs.Written.{Segment, Asked, IsOpened}
 use Rattle.fast_writer.specs.declared.segment.Segment.{Segment as LevelNow}
 use Rattle.fast_writer.specs.declared.fields.Taken.{Taken}
 use Rattle.fast_writer.specs.declared.fields.Taken.TheVariants.{Part, Elsewhere, Refused}
@@ -63,34 +63,24 @@ behind there None = None
 behind true (Some mantissa) = Some mantissa
 behind false (Some mantissa) = None
 
--- The next bit, or 1, and the bytes before `rest` give the value of a part, its entry is the one afterwards, and its best
--- form was put into a segment.
-pub record TookEntry (level : Level) (p : FieldPart) (old new : Entry) (bits : List Bool) (v : Option Scalar)
-    (bytes rest : List ℕ) (l k : Segment) : Type 0 where
-  pub value : (more : List ℕ) → field_at level p old (bit_for (part_needs_bit p) bits) (bytes ++ more) ≡ Ok (v, rest ++ more)
-  pub entry : new ≡ next p old v
-  pub spelt : Spelt p old v l k
-  pub lower : bit_for (part_needs_bit p) bits ≡ false → spelt.bit ≡ false
-
--- A part was taken from a place on: whether its value is there, which entry it leaves, and that it is written behind a segment.
+-- A part was taken from a place on: whether its value is there, which entry it leaves, and that its best form was appended to a
+-- segment and asked for.
 pub record TookThere (level : Level) (p : FieldPart) (there : Bool) (old new : Entry) (bits later : List Bool) (bytes : List ℕ) (at : ℕ) (l k : LevelNow) : Type 0 where
-  pub place : at ≤ k.bytes.place
   pub run : IsRun bytes k.bytes.place k.bytes
   pub value : Option Scalar
   pub is_there : IsThere p.kind there value
-  pub took : TookEntry level p old new bits value (drop at bytes) (drop k.bytes.place bytes) (level_in bytes l) (level_in bytes k)
+  pub best : Bool
+  pub relayed : RelaysEntry level p old new (bit_for (part_needs_bit p) bits) best value bytes at k.bytes.place (written bytes l.bytes) (written bytes k.bytes)
+  pub asked : Asked (part_needs_bit p) best (record { bits = l.bits; own = l.own; bytes = written bytes k.bytes }) (level_in bytes k)
   pub left : later ≡ after_bit (part_needs_bit p) bits
 
--- the same of a part whose entry is put under its key; a map that had room for what was left still has, and so whatever is around it
+-- the same of a part whose entry is put under its key
 pub record TookUnder (level : Level) (p : FieldPart) (there : Bool) (d e : Dictionary) (bits later : List Bool) (bytes : List ℕ) (at : ℕ) (l k : LevelNow) : Type 0 where
-  pub place : at ≤ k.bytes.place
   pub run : IsRun bytes k.bytes.place k.bytes
   pub value : Option Scalar
   pub is_there : IsThere p.kind there value
-  pub took : Took level p (bit_for (part_needs_bit p) bits) d e value (drop at bytes) (drop k.bytes.place bytes)
-  pub spelt : Spelt p (entry_at d p.key) value (level_in bytes l) (level_in bytes k)
+  pub relayed : RelaysPart level p d e (bit_for (part_needs_bit p) bits) value bytes at k.bytes.place (level_in bytes l) (level_in bytes k)
   pub left : later ≡ after_bit (part_needs_bit p) bits
-  pub room : (around : Bool) → IsTrue (has_room (level_in bytes l) bits && around) → IsTrue (has_room (level_in bytes k) later && around)
   pub kept : KeepScalars e
 
 -- Nothing has changed, of an entry or a dictionary, of the map and of what is written, and what is noted ends at that place.

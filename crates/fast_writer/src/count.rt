@@ -87,10 +87,6 @@ fn count_generally(
 
 /// Reads a part that is a number without sign of 32 bits, and appends the best form of its value to a segment; answers
 /// the number, none where it is absent, and the place behind what was read.
-///
-/// # Errors
-///
-/// The first fault of the part; nothing has changed. Memory: a growth was refused.
 #[inline(never)]
 #[tactic(auto, using(fast_walk::proofs::Telling::kept_hold))]
 pub(crate) fn relay_count<E: Entries>(
@@ -139,10 +135,6 @@ fn repeat_kept<E: Entries>(
 }
 
 /// The same of the identifier of a template. Most are the one before, so that no byte is read.
-///
-/// # Errors
-///
-/// As `relay_count`.
 #[inline(always)]
 pub(crate) fn relay_identifier<E: Entries>(
     alloc: Global,
@@ -172,10 +164,6 @@ pub(crate) fn relay_identifier<E: Entries>(
 }
 
 /// The same of the length of a sequence. Most stand in one byte and are kept nowhere, so that no entry is asked for.
-///
-/// # Errors
-///
-/// As `relay_count`.
 #[inline(always)]
 pub(crate) fn relay_length<E: Entries>(
     alloc: Global,

@@ -53,10 +53,6 @@ fn rewrite(
 
 /// Reads a part and appends the best form of its value; answers where the value lies in the entry, which becomes the
 /// one afterwards, the bit of the form, and the place behind what was read.
-///
-/// # Errors
-///
-/// The first fault of the part; nothing has changed. Memory: a growth was refused.
 #[inline(always)]
 pub(crate) fn relay_entry(
     alloc: Global,
@@ -111,10 +107,6 @@ fn relay_generally(
 
 /// Reads a part the general way, which the quick one has left, and appends the best form of its value to a segment;
 /// answers whether the value is there, and the place behind what was read.
-///
-/// # Errors
-///
-/// The first fault of the part; nothing has changed. Memory: a growth was refused.
 #[inline(always)]
 #[tactic(auto, using(fast_walk::proofs::Telling::kept_hold))]
 pub(crate) fn relay_part<E: Entries>(

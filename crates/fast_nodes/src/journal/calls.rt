@@ -103,10 +103,6 @@ impl<'a, E: Entries> Journal<'a, E> {
 
     /// Appends the best form of a part's value to a segment, none where it is absent, and makes the part's entry the
     /// one afterwards; that is one change more.
-    ///
-    /// # Errors
-    ///
-    /// The part's refusal. Memory: a growth was refused.
     pub(crate) fn put(
         &mut self,
         alloc: Global,
