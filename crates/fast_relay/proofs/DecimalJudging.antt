@@ -19,10 +19,11 @@ use Rattle.fast_value.specs.declared.kind.Operator.{Operator}
 use Rattle.fast_wire.specs.declared.level.Level.TheVariants.{Usual}
 use Rattle.fast_relay.specs.Judged.{Leaves, PairGives, PairStandsFrom}
 use Rattle.fast_relay.specs.Numbers.{SpellsWhole}
-use Rattle.fast_relay.proofs.DecimalRelaying.{decimal_of, delta_as, delta_first, delta_read, of_type, whole_first, whole_read}
+use Rattle.fast_field.proofs.ChosenForms.{whole_shortest}
+use Rattle.fast_relay.proofs.DecimalRelaying.{decimal_of, delta_as, delta_first, delta_read, of_type, whole_read}
 use Rattle.fast_relay.proofs.Ranges.{range_split}
 use Rattle.fast_relay.proofs.Standing.{shortest_signed}
-use Rattle.fast_relay.proofs.Taking.{delta_out, delta_row, judges, takes, whole_row}
+use Rattle.fast_relay.proofs.Taking.{delta_out, delta_row, judges, takes, whole_first, whole_row}
 use Rattle.fast_relay.proofs.TextRelaying.{whole_within}
 
 pair_shortest : (p : Presence) (bytes : List ℕ) (at first next : ℕ) (x m : ℤ) → PairStandsFrom p bytes at first next x m → ShortestPair p x m (slice_range bytes first next)
@@ -45,7 +46,7 @@ decimal_gives bit i old new x m k p o near fits l = λ bytes at first next s.
     let row = whole_row i.operator i old (drop at bytes) o ∙ whole_read i x m (drop at bytes) (drop s.middle bytes) (drop next bytes) k s.exponent.spelt near s.mantissa.spelt fits in (
       v,
       judges bit i old new v (drop at bytes) (drop next bytes) form (decimal_of i x m k) within (takes i old new v (drop at bytes) (drop next bytes) within row l.entry) l.left_out
-          (whole_first i.operator i old v form o (of_type i.kind x m k near fits) (pair_shortest i.presence bytes at first next x m s)),
+          (whole_first i.operator i old (Some v) form o (whole_shortest i.kind i.presence v form (of_type i.kind x m k near fits) (pair_shortest i.presence bytes at first next x m s))),
     )
 
 assigned_adds : (i : FieldPart) (new : Entry) (x m dx dm : ℤ) → i.kind ≡ kind.Decimal → i.operator ≡ operator.Delta → i.part ≡ part.Whole → exponent_in_range (x +ℤ dx) ≡ true → in_range kind.Int64 (m +ℤ dm) ≡ true → new ≡ Assigned (Decimal (x +ℤ dx) (m +ℤ dm))

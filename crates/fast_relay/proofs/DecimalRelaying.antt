@@ -85,12 +85,5 @@ pub whole_read : (i : FieldPart) (x m : ℤ) (bytes mid rest : List ℕ) → i.k
 unfolding whole_at
 whole_read i x m bytes mid rest k exponent near mantissa fits = spelled_as i.part i.kind i.presence bytes k ∙ spelled_read i.presence x m bytes mid rest exponent near mantissa fits
 
-pub whole_first : (o : Operator) (i : FieldPart) (e : Entry) (v : Scalar) (b : List ℕ) → SpellsWhole o → IsOfType i.kind v → ShortestWhole i.presence v b → IsFirst (λ c b. FormOf Usual o i e true c b (Some v)) b
-whole_first operator.Plain i e v b o h s = whole_is_first i.kind i.presence (Some v) b (whole_shortest i.kind i.presence v b h s)
-whole_first operator.Default i e v b o h s = whole_is_first i.kind i.presence (Some v) b (whole_shortest i.kind i.presence v b h s)
-whole_first operator.Copy i e v b o h s = whole_is_first i.kind i.presence (Some v) b (whole_shortest i.kind i.presence v b h s)
-whole_first operator.Increment i e v b o h s = whole_is_first i.kind i.presence (Some v) b (whole_shortest i.kind i.presence v b h s)
-whole_first o' i e v b o h s = absurd o
-
 pub decimal_of : (i : FieldPart) (x m : ℤ) → i.kind ≡ kind.Decimal → is_of i.kind (Decimal x m) ≡ true
 decimal_of i x m k = rw k refl

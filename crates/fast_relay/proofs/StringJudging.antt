@@ -31,11 +31,6 @@ use Rattle.fast_relay.proofs.Standing.{shortest_signed}
 abbrev AreCharacters : List ℕ → Type 0
 AreCharacters s = (length s ≤ 65535) × AllByRecursion (λ c. c < 128) s
 
-pub kept_nowhere : (o : Operator) (e : Entry) (v : Option Scalar) → KeepsNothing o → e ≡ next_of o e v
-kept_nowhere operator.Plain e v nothing = refl
-kept_nowhere operator.Default e v nothing = refl
-kept_nowhere o e v nothing = absurd nothing
-
 pub text_gives : (bit : Bool) (i : FieldPart) (old new : Entry) (form : List ℕ) → i.kind ≡ kind.Ascii → i.part ≡ part.Whole → SpellsWhole i.operator → Leaves bit i old new (Some (Ascii (groups form))) → TextGives bit i old new form
 text_gives bit i old new form k whole o l = λ bytes at first next is plain. (Ascii (groups form), rw is (plain_judges bit i old new (drop at bytes) form (drop next bytes) k whole o plain l))
 

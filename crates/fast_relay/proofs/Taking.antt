@@ -21,6 +21,8 @@ use Rattle.fast_field.specs.FieldReading.{integer_value, integer_spelled_at, spe
 use Rattle.fast_field.specs.Fields.{FormOf, IsWithin, within_part}
 use Rattle.fast_field.specs.Numbers.{IsNumber, IsFieldNumber, IsNumberOf, HasNumber}
 use Rattle.fast_field.specs.Planning.{left_out_of}
+use Rattle.fast_wire.specs.Writing.{IsShortest}
+use Rattle.fast_field.specs.Spelled.{Spelled}
 use Rattle.fast_field.specs.Values.{integer_of, is_unsigned}
 use Rattle.fast_field.proofs.BestDeltas.{IsFirst}
 use Rattle.fast_field.proofs.BestValues.{whole_is_first, delta_is_first, best_under_one, constant_is_first, left_out}
@@ -65,12 +67,13 @@ pub row_read : (i : FieldPart) (e : Entry) (bytes rest : List ℕ) (v : Option S
 unfolding field_at
 row_read i e bytes rest v h within = rw (h, checked_is i.part v within) refl
 
-whole_first : (o : Operator) (i : FieldPart) (e : Entry) (z : ℤ) (b : List ℕ) → SpellsWhole o → IsNumber i.kind z → ShortestWhole i.presence (of_integer i.kind z) b → IsFirst (λ c b. FormOf Usual o i e true c b (Some (of_integer i.kind z))) b
-whole_first operator.Plain i e z b o h s = whole_is_first i.kind i.presence (Some (of_integer i.kind z)) b (whole_shortest i.kind i.presence (of_integer i.kind z) b (of_type i.kind z h) s)
-whole_first operator.Default i e z b o h s = whole_is_first i.kind i.presence (Some (of_integer i.kind z)) b (whole_shortest i.kind i.presence (of_integer i.kind z) b (of_type i.kind z h) s)
-whole_first operator.Copy i e z b o h s = whole_is_first i.kind i.presence (Some (of_integer i.kind z)) b (whole_shortest i.kind i.presence (of_integer i.kind z) b (of_type i.kind z h) s)
-whole_first operator.Increment i e z b o h s = whole_is_first i.kind i.presence (Some (of_integer i.kind z)) b (whole_shortest i.kind i.presence (of_integer i.kind z) b (of_type i.kind z h) s)
-whole_first o' i e z b o h s = absurd o
+-- an operator that spells a value whole has the forms of the value itself
+pub whole_first : (o : Operator) (i : FieldPart) (e : Entry) (v : Option Scalar) (b : List ℕ) → SpellsWhole o → IsShortest (Spelled Usual i.kind i.presence) b v → IsFirst (λ c b. FormOf Usual o i e true c b v) b
+whole_first operator.Plain i e v b o s = whole_is_first i.kind i.presence v b s
+whole_first operator.Default i e v b o s = whole_is_first i.kind i.presence v b s
+whole_first operator.Copy i e v b o s = whole_is_first i.kind i.presence v b s
+whole_first operator.Increment i e v b o s = whole_is_first i.kind i.presence v b s
+whole_first o' i e v b o s = absurd o
 
 pub takes : (i : FieldPart) (old new : Entry) (v : Scalar) (bytes rest : List ℕ) → IsTrue (within_part i.part v) → row_at Usual i.operator i old true bytes ≡ Ok (Some v, rest) → new ≡ next i old (Some v) → Takes i old new v bytes rest
 takes i old new v bytes rest within row entry = record {
@@ -108,7 +111,7 @@ typed_judges bit i old new z bytes at first next l s =
     let form = slice_range bytes first next in
     judges bit i old new v (drop at bytes) (drop next bytes) form (of_kind i.kind z l.number.number) (within_number i.kind i.part z l.number)
     (typed_takes i old new z (drop at bytes) (drop next bytes) l.whole l.number s.spelt l.leaves.entry) l.leaves.left_out
-    (whole_first i.operator i old z form l.whole l.number.number (shortest_whole i.kind i.presence z form l.number.number.integer s.form s.short))
+    (whole_first i.operator i old (Some v) form l.whole (whole_shortest i.kind i.presence v form (of_type i.kind z l.number.number) (shortest_whole i.kind i.presence z form l.number.number.integer s.form s.short)))
 
 whole_sign : (o : Operator) (k : Kind) → SpellsWhole o → sent_unsigned o k ≡ is_unsigned k
 whole_sign operator.Plain k whole = refl

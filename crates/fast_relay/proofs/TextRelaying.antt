@@ -30,7 +30,7 @@ use Rattle.fast_field.proofs.BestTails.{tail_is_first}
 use Rattle.fast_field.proofs.BestValues.{delta_is_first, tail_form_is_first, whole_is_first}
 use Rattle.fast_field.proofs.ChosenForms.{string_value}
 use Rattle.fast_field.proofs.Refused.{few_units}
-use Rattle.fast_relay.proofs.Taking.{base_is, delta_out, delta_row, judges, takes, whole_row}
+use Rattle.fast_relay.proofs.Taking.{base_is, delta_out, delta_row, judges, takes, whole_first, whole_row}
 use Rattle.fast_field.proofs.Shortest.{units_form}
 use Rattle.fast_field.proofs.StandingForms.{string_is_shortest}
 use Rattle.fast_field.proofs.ValuesWithin.{IsOfType}
@@ -58,18 +58,11 @@ text_read i v bytes rest h read = spelled_as i.part i.kind i.presence bytes h �
 text_shortest : (k : Kind) (p : Presence) (v : Scalar) (b : List ℕ) → IsText k v → ShortestUnits k p (units_of v) b → IsShortest (Spelled Usual k p) b (Some v)
 text_shortest k p v b h s = string_is_shortest k p v b h.of_units (h.of_kind, h.within) (units_form k p (units_of v) b s)
 
-text_first : (o : Operator) (i : FieldPart) (e : Entry) (v : Scalar) (b : List ℕ) → SpellsWhole o → IsText i.kind v → ShortestUnits i.kind i.presence (units_of v) b → IsFirst (λ c b. FormOf Usual o i e true c b (Some v)) b
-text_first operator.Plain i e v b o h s = whole_is_first i.kind i.presence (Some v) b (text_shortest i.kind i.presence v b h s)
-text_first operator.Default i e v b o h s = whole_is_first i.kind i.presence (Some v) b (text_shortest i.kind i.presence v b h s)
-text_first operator.Copy i e v b o h s = whole_is_first i.kind i.presence (Some v) b (text_shortest i.kind i.presence v b h s)
-text_first operator.Increment i e v b o h s = whole_is_first i.kind i.presence (Some v) b (text_shortest i.kind i.presence v b h s)
-text_first o' i e v b o h s = absurd o
-
 pub text_judges : (bit : Bool) (i : FieldPart) (old new : Entry) (v : Scalar) (bytes rest form : List ℕ) → i.part ≡ part.Whole → SpellsWhole i.operator → IsText i.kind v → units_spelled_at Usual i.kind i.presence bytes ≡ Ok (Some v, rest) → Leaves bit i old new (Some v)
     → ShortestUnits i.kind i.presence (units_of v) form → IsTrue (is_of i.kind v) × Judges bit (under bit form) i old new (Some v) bytes rest
 text_judges bit i old new v bytes rest form whole o h read l s =
     let within = whole_within i.part v whole in
-    judges bit i old new v bytes rest form h.of_kind within (takes i old new v bytes rest within (whole_row i.operator i old bytes o ∙ text_read i v bytes rest h.of_units read) l.entry) l.left_out (text_first i.operator i old v form o h s)
+    judges bit i old new v bytes rest form h.of_kind within (takes i old new v bytes rest within (whole_row i.operator i old bytes o ∙ text_read i v bytes rest h.of_units read) l.entry) l.left_out (whole_first i.operator i old (Some v) form o (text_shortest i.kind i.presence v form h s))
 
 -- ---- deltas
 

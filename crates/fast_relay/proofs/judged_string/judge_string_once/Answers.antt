@@ -1,7 +1,9 @@
+use Rattle.std.proofs.Common.{sym}
 use Rattle.std.specs.Prelude.{Some, slice_range}
 use Rattle.fast_wire.specs.Entity.{groups}
 use Rattle.fast_value.specs.declared.scalar.Scalar.TheVariants.{Ascii}
-use Rattle.fast_relay.proofs.StringJudging.{kept_nowhere, text_stands}
+use Rattle.fast_relay.proofs.StringJudging.{text_stands}
+use Rattle.fast_relay.proofs.Taking.{leaves}
 use Rattle.fast_relay.proofs.judged_string.judge_string_once.Goals as goal
 
 pub returns-in-Some-true : goal.returns-in-Some-true
@@ -10,4 +12,4 @@ returns-in-Some-true c =
     let value = Ascii (groups (slice_range c.args.bytes.now c.args.at c.in-Some.next)) in
     let place = c.in-Some.ensures.place in
     text_stands i c.args.entry.now c.args.entry.now c.args.bytes.now c.args.at c.in-Some.next c.requires.kind c.requires.part c.requires.operator place.0 place.1 c.in-Some.ensures.plain
-    (record { entry = kept_nowhere i.operator c.args.entry.now (Some value) c.requires.nowhere; left_out = rw (c.in-Some-true.field-0-test) at c.in-Some-true.ensures })
+    (record { entry = sym (leaves i.operator c.args.entry.now value c.requires.nowhere); left_out = rw (c.in-Some-true.field-0-test) at c.in-Some-true.ensures })
