@@ -141,7 +141,7 @@ delta_first i e None is h l none =
     (s.0, delta_null_is_first i e s.0 s.1)
 delta_first i e (Some v) is h l none =
     let base = has_base (delta_base i e) (none v refl) in
-    let f = delta_value_first i.kind i.presence base.0 v (delta_base_within i e base.0 is h base.1) l in
+    let f = delta_value_first i.kind i.presence base.0 v (delta_base_within i e base.0 is.typed h base.1) l in
     (f.0, delta_is_first i e base.0 v f.0 base.1 f.1)
 
 long_enough : (r : Result Scalar FieldFault) (v : Scalar) → tail_refusal r v ≡ None → (base : Scalar) × (r ≡ Ok base) × (length (units_of base) ≤ length (units_of v))

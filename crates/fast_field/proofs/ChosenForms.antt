@@ -139,7 +139,7 @@ on_base (Err f) P h = absurd h
 delta_first : (i : FieldPart) (e : Entry) (v : Scalar) (x : Pieces) (b : List ℕ) → IsFieldPart i → HoldsScalar e → IsOfType i.kind v → IsMadeOf operator.Delta i e v x → ShortestPieces i x b → IsFirst (λ c b. DeltaForm Usual i e c b (Some v)) b
 delta_first i e v x b is h l made s =
     let base = on_base (delta_base i e) (λ base. IsDelta i.kind i.presence base v x) made in
-    delta_is_first i e base.0 v b base.1 (delta_value i base.0 v x b (delta_base_within i e base.0 is h base.1) l base.2 s)
+    delta_is_first i e base.0 v b base.1 (delta_value i base.0 v x b (delta_base_within i e base.0 is.typed h base.1) l base.2 s)
 
 -- ---- tails
 
@@ -240,7 +240,7 @@ chosen_fits : (o : Operator) (i : FieldPart) (e : Entry) (v : Scalar) (x : Piece
 chosen_fits operator.Constant i e v x a is h l made = nothing_fits i x made
 chosen_fits operator.Delta i e v x a is h l made =
     let base = on_base (delta_base i e) (λ base. IsDelta i.kind i.presence base v x) made in
-    delta_fits i base.0 v x (delta_base_within i e base.0 is h base.1) l base.2
+    delta_fits i base.0 v x (delta_base_within i e base.0 is.typed h base.1) l base.2
 chosen_fits operator.Tail i e v x a is h l made =
     let base = on_base (tail_base i e) (λ base. IsTail i.kind i.presence base v x) made in
     tail_fits i base.0 v x (unit_kind i.kind a) l base.2

@@ -1,5 +1,5 @@
 -- The value of a form is within its type, and so is the entry afterwards.
-use Rattle.std.proofs.Common.{◌≡◌, ℕ, zero, suc, ◌+◌, ◌-◌, ◌<◌, ◌≤◌, Bool, true, false, List, [], length, take, drop, refl, ap, subst, arith, Ok}
+use Rattle.std.proofs.Common.{◌≡◌, ℕ, zero, suc, ◌+◌, ◌-◌, ◌<◌, ◌≤◌, Bool, true, false, List, [], length, take, drop, refl, sym, ap, subst, ◌∙◌, arith, Ok}
 use Rattle.std.specs.Prelude.{ℤ, pos, negsuc, ◌+ℤ◌, int_lt, nat_le, nat_lt, ◌&&◌, Option, Some, None, IsTrue, IsSome, IfSome, IsUtf8, unwrap_or, if◌then◌else◌}
 use Rattle.std.specs.Str.{is_utf8, chars}
 use Rattle.std.specs.List.{AllByRecursion}
@@ -10,7 +10,7 @@ use Rattle.std.proofs.lemmas.Bool.{le-leb, leb-true}
 use Rattle.fast_wire.specs.declared.level.Level.TheVariants.{Usual}
 use Rattle.fast_wire.proofs.Readers.{ok_is}
 use Rattle.fast_value.specs.Scalar.{is_of, is_integer, in_range, least_of, greatest_of, kind_of, of_integer, IsScalar}
-use Rattle.fast_template.specs.TemplateSets.{applies, IsInitial}
+use Rattle.fast_template.specs.TemplateSets.{applies, IsInitial, IsTyped}
 use Rattle.fast_value.specs.declared.kind.Kind.{Kind}
 use Rattle.fast_value.specs.declared.kind.Kind.TheVariants as kind
 use Rattle.fast_value.specs.declared.kind.Operator.{Operator}
@@ -27,7 +27,8 @@ use Rattle.fast_field.specs.declared.fault.FieldFault.TheVariants as fault
 use Rattle.fast_field.specs.Values.{units_of, integer_of, increased, default_of, IsUnitKind}
 use Rattle.fast_field.specs.Parts.{IsFieldPart}
 use Rattle.fast_field.specs.Bases.{kept_of, start_of, delta_base, tail_base, absent_or, initial_or, repeated, predicted, next_of, next, written_entry, delta_entry}
-use Rattle.fast_field.specs.Deltas.{Cut, put_together, ended_by, SpellsCut, DeltaValue, DeltaForm, TailForm}
+use Rattle.fast_field.specs.Spelled.{IsOfUnits}
+use Rattle.fast_field.specs.Deltas.{Cut, put_together, ended_by, SpellsCut, SpellsTail, DeltaValue, DeltaForm, TailForm}
 use Rattle.fast_field.specs.Fields.{InitialOrAbsent, FormOf, Form}
 use Rattle.fast_field.specs.Within.{HoldsScalar, IsOfField, IsFieldValue}
 use Rattle.fast_field.proofs.SpelledForms.{if_ok}
@@ -65,14 +66,14 @@ kept_within i v base h e = let w = if_ok (is_of i.kind v) v base fault.D4 e in s
 
 -- ---- bases
 
-pub delta_base_within : (i : FieldPart) (e : Entry) (base : Scalar) → IsFieldPart i → HoldsScalar e → delta_base i e ≡ Ok base → IsOfType i.kind base
-delta_base_within i Undefined base is h e = subst (λ (x : Scalar). IsOfType i.kind x) (ok_is {F = FieldFault} (start_of i) base e) (start_within i i.initial is.typed.initial_fits)
+pub delta_base_within : (i : FieldPart) (e : Entry) (base : Scalar) → IsTyped i → HoldsScalar e → delta_base i e ≡ Ok base → IsOfType i.kind base
+delta_base_within i Undefined base is h e = subst (λ (x : Scalar). IsOfType i.kind x) (ok_is {F = FieldFault} (start_of i) base e) (start_within i i.initial is.initial_fits)
 delta_base_within i Empty base is h e = absurd cc
 delta_base_within i (Assigned v) base is h e = kept_within i v base h e
 
-pub tail_base_within : (i : FieldPart) (e : Entry) (base : Scalar) → IsFieldPart i → HoldsScalar e → tail_base i e ≡ Ok base → IsOfType i.kind base
+tail_base_within : (i : FieldPart) (e : Entry) (base : Scalar) → IsTyped i → HoldsScalar e → tail_base i e ≡ Ok base → IsOfType i.kind base
 tail_base_within i (Assigned v) base is h e = kept_within i v base h e
-tail_base_within i o base is h e = subst (λ (x : Scalar). IsOfType i.kind x) (ok_is {F = FieldFault} (start_of i) base e) (start_within i i.initial is.typed.initial_fits)
+tail_base_within i o base is h e = subst (λ (x : Scalar). IsOfType i.kind x) (ok_is {F = FieldFault} (start_of i) base e) (start_within i i.initial is.initial_fits)
 
 -- ---- increment
 
@@ -114,6 +115,45 @@ increased_within (I32 z) i h = one_more_within kind.Int32 z (int_lt z (pos 21474
 increased_within (I64 z) i h = one_more_within kind.Int64 z (int_lt z (pos 9223372036854775807)) refl h refl
 increased_within v i h = absurd cc
 
+-- ---- of the type, whatever an entry has
+
+number_kind : (k : Kind) (z : ℤ) (v : Scalar) → is_integer k ≡ true → v ≡ of_integer k z → IsTrue (is_of k v)
+number_kind kind.UInt32 z v is e = rw e refl
+number_kind kind.Int32 z v is e = rw e refl
+number_kind kind.UInt64 z v is e = rw e refl
+number_kind kind.Int64 z v is e = rw e refl
+number_kind k z v is e = absurd cc
+
+string_kind : (k : Kind) (s : List ℕ) (v : Scalar) → IsUnitKind k → IsOfUnits k s v → IsTrue (is_of k v)
+string_kind kind.Ascii s v u e = rw e refl
+string_kind kind.Unicode s v u e = rw e.1 refl
+string_kind kind.Bytes s v u e = rw e refl
+string_kind k s v u e = absurd u
+
+delta_kind : (k : Kind) (p : Presence) (base : Scalar) (c : Cut) (b : List ℕ) (v : Scalar) → DeltaValue Usual k p base c b v → IsTrue (is_of k v)
+delta_kind kind.Decimal p base c b v h = rw h.value.2 refl
+delta_kind kind.Ascii p base c b v h = string_kind kind.Ascii _ v tt h.value.1
+delta_kind kind.Unicode p base c b v h = string_kind kind.Unicode _ v tt h.value.1
+delta_kind kind.Bytes p base c b v h = string_kind kind.Bytes _ v tt h.value.1
+delta_kind k p base c b v h = number_kind k (integer_of base +ℤ h.delta) v refl h.value
+
+either_kind : (k : Kind) (t : Bool) (y z : ℤ) → is_integer k ≡ true → IsTrue (is_of k (if t then of_integer k y else of_integer k z))
+either_kind k true y z is = number_kind k y (of_integer k y) is refl
+either_kind k false y z is = number_kind k z (of_integer k z) is refl
+
+repeated_kind : (o : Operator) (k : Kind) (v : Scalar) → IsTrue (applies o k) → is_of k v ≡ true → IsTrue (is_of k (repeated o v))
+repeated_kind operator.Increment k v is h = rw (is_of-kind k v h) (either_kind k (int_lt (integer_of v) (greatest_of k)) (integer_of v +ℤ pos 1) (least_of k) is)
+repeated_kind o k v is h = h
+
+-- no value in an optional field; or one of the type, and within it where the entry's is within its own
+abbrev IsGiven : Entry → Kind → Presence → Option Scalar → Type 0
+IsGiven e k p None = p ≡ Optional
+IsGiven e k p (Some v) = IsTrue (is_of k v) × (HoldsScalar e → IsScalar v)
+
+surely : (e : Entry) (k : Kind) (p : Presence) (v : Option Scalar) → IsOfTypeOr k p v → IsGiven e k p v
+surely e k p None h = h
+surely e k p (Some v) h = (h.0, λ _. h.1)
+
 -- ---- what bit 0 gives
 
 repeated_within : (o : Operator) (k : Kind) (v : Scalar) → IsTrue (applies o k) → IsOfType k v → IsOfType k (repeated o v)
@@ -130,12 +170,13 @@ first_within : (i : FieldPart) (o v : Option Scalar) → IfSome o (IsInitial i) 
 first_within i None v h e = absent_within i.kind i.presence fault.D5 v e
 first_within i (Some w) v h e = subst (λ (x : Option Scalar). IsOfTypeOr i.kind i.presence x) (ok_is {F = FieldFault} (Some w) v e) (h.0, h.2)
 
-predicted_within : (i : FieldPart) (e : Entry) (v : Option Scalar) → IsFieldPart i → HoldsScalar e → predicted i e ≡ Ok v → IsOfTypeOr i.kind i.presence v
-predicted_within i Undefined v is h e = first_within i i.initial v is.typed.initial_fits e
-predicted_within i Empty v is h e = absent_within i.kind i.presence fault.D6 v e
-predicted_within i (Assigned w) v is h e =
+predicted_within : (i : FieldPart) (e : Entry) (v : Option Scalar) → IsTyped i → predicted i e ≡ Ok v → IsGiven e i.kind i.presence v
+predicted_within i Undefined v is e = surely Undefined i.kind i.presence v (first_within i i.initial v is.initial_fits e)
+predicted_within i Empty v is e = surely Empty i.kind i.presence v (absent_within i.kind i.presence fault.D6 v e)
+predicted_within i (Assigned w) v is e =
     let t = if_ok (is_of i.kind w) (Some (repeated i.operator w)) v fault.D4 e in
-    subst (λ (x : Option Scalar). IsOfTypeOr i.kind i.presence x) t.1 (repeated_within i.operator i.kind w is.typed.operator_applies (t.0, h))
+    subst (λ (x : Option Scalar). IsGiven (Assigned w) i.kind i.presence x) t.1
+    (repeated_kind i.operator i.kind w is.operator_applies t.0, λ h. (repeated_within i.operator i.kind w is.operator_applies (t.0, h)).1)
 
 initial_of_type : (i : FieldPart) (o v : Option Scalar) → IfSome o (IsInitial i) → IsSome o → v ≡ o → IsOfTypeOr i.kind i.presence v
 initial_of_type i None v h some e = absurd cc
@@ -164,9 +205,9 @@ delta_within kind.Unicode p base cut b v h d = cut_within kind.Unicode p base cu
 delta_within kind.Bytes p base cut b v h d = cut_within kind.Bytes p base cut b v tt h d
 delta_within k p base cut b v h d = rw d.value (number_within k (integer_of base +ℤ d.delta) refl d.range)
 
-delta_form_within : (i : FieldPart) (e : Entry) (cut : Cut) (b : List ℕ) (v : Option Scalar) → IsFieldPart i → HoldsScalar e → DeltaForm Usual i e cut b v → IsOfTypeOr i.kind i.presence v
-delta_form_within i e cut b None is h d = null_optional false i.presence b d.1
-delta_form_within i e cut b (Some v) is h d = delta_within i.kind i.presence d.0 cut b v (delta_base_within i e d.0 is h d.1) d.2
+delta_form_within : (i : FieldPart) (e : Entry) (cut : Cut) (b : List ℕ) (v : Option Scalar) → IsTyped i → DeltaForm Usual i e cut b v → IsGiven e i.kind i.presence v
+delta_form_within i e cut b None is d = null_optional false i.presence b d.1
+delta_form_within i e cut b (Some v) is d = (delta_kind i.kind i.presence d.0 cut b v d.2, λ h. (delta_within i.kind i.presence d.0 cut b v (delta_base_within i e d.0 is h d.1) d.2).1)
 
 pub unit_kind : (k : Kind) → IsTrue (applies operator.Tail k) → IsUnitKind k
 unit_kind kind.Ascii h = tt
@@ -174,35 +215,45 @@ unit_kind kind.Unicode h = tt
 unit_kind kind.Bytes h = tt
 unit_kind k h = absurd cc
 
-tail_form_within : (i : FieldPart) (e : Entry) (cut : Cut) (b : List ℕ) (v : Option Scalar) → IsFieldPart i → HoldsScalar e → IsTrue (applies operator.Tail i.kind) → TailForm Usual i e cut b v → IsOfTypeOr i.kind i.presence v
-tail_form_within i e cut b None is h fits t = null_units_optional i.kind i.presence b t.1
-tail_form_within i e cut b (Some v) is h fits t =
-    let u = unit_kind i.kind fits in
-    let base = units_of_string i.kind t.0 u (tail_base_within i e t.0 is h t.1) in
-    let tail = units_within i.kind i.presence b t.2.tail t.2.tail_form in
+tail_within : (i : FieldPart) (base v : Scalar) (cut : Cut) (b : List ℕ) → IsUnitKind i.kind → IsOfType i.kind base → SpellsTail Usual i.kind i.presence base cut b v → IsOfType i.kind v
+tail_within i base v cut b u h t =
+    let units = units_of_string i.kind base u h in
+    let tail = units_within i.kind i.presence b t.tail t.tail_form in
     let P : ℕ → Type 0 = λ x. x < unit_limit i.kind in
-    let kept = take (length (units_of t.0) - length t.2.tail) (units_of t.0) in
-    string_within i.kind (ended_by (units_of t.0) t.2.tail) v u t.2.value.1 (t.2.value.0, all_append P kept t.2.tail (all_take P (length (units_of t.0) - length t.2.tail) (units_of t.0) base.1) tail.1)
+    let kept = length (units_of base) - length t.tail in
+    string_within i.kind (ended_by (units_of base) t.tail) v u t.value.1 (t.value.0, all_append P (take kept (units_of base)) t.tail (all_take P kept (units_of base) units.1) tail.1)
+
+tail_form_within : (i : FieldPart) (e : Entry) (cut : Cut) (b : List ℕ) (v : Option Scalar) → IsTyped i → IsUnitKind i.kind → TailForm Usual i e cut b v → IsGiven e i.kind i.presence v
+tail_form_within i e cut b None is u t = null_units_optional i.kind i.presence b t.1
+tail_form_within i e cut b (Some v) is u t = (string_kind i.kind _ v u t.2.value.1, λ h. (tail_within i t.0 v cut b u (tail_base_within i e t.0 is h t.1) t.2).1)
 
 -- ---- the table
 
-row_within : (o : Operator) (i : FieldPart) (e : Entry) (bit : Bool) (cut : Cut) (b : List ℕ) (v : Option Scalar) → IsFieldPart i → HoldsScalar e → i.operator ≡ o → FormOf Usual o i e bit cut b v → IsOfTypeOr i.kind i.presence v
-row_within operator.Plain i e false cut b v is h o f = absurd f
-row_within operator.Constant i e false cut b v is h o f = rw f.3 f.2
-row_within operator.Constant i e true cut b v is h o f = initial_of_type i i.initial v is.typed.initial_fits (is.typed.constant_has_value o) f.2
-row_within operator.Default i e false cut b v is h o f = left_out_within i v is.typed.initial_fits f.2
-row_within operator.Delta i e false cut b v is h o f = absurd f
-row_within operator.Delta i e true cut b v is h o f = delta_form_within i e cut b v is h f
-row_within operator.Tail i e true cut b v is h o f = tail_form_within i e cut b v is h (subst (λ (x : Operator). IsTrue (applies x i.kind)) o is.typed.operator_applies) f
-row_within o i e false cut b v is h of_o f = predicted_within i e v is h f.2
-row_within o i e true cut b v is h of_o f = spelled_within i.kind i.presence b v f.1
+row_within : (o : Operator) (i : FieldPart) (e : Entry) (bit : Bool) (cut : Cut) (b : List ℕ) (v : Option Scalar) → IsTyped i → i.operator ≡ o → FormOf Usual o i e bit cut b v → IsGiven e i.kind i.presence v
+row_within operator.Plain i e false cut b v is o f = absurd f
+row_within operator.Constant i e false cut b v is o f = rw f.3 f.2
+row_within operator.Constant i e true cut b v is o f = surely e i.kind i.presence v (initial_of_type i i.initial v is.initial_fits (is.constant_has_value o) f.2)
+row_within operator.Default i e false cut b v is o f = surely e i.kind i.presence v (left_out_within i v is.initial_fits f.2)
+row_within operator.Delta i e false cut b v is o f = absurd f
+row_within operator.Delta i e true cut b v is o f = delta_form_within i e cut b v is f
+row_within operator.Tail i e true cut b v is o f = tail_form_within i e cut b v is (unit_kind i.kind (subst (λ (x : Operator). IsTrue (applies x i.kind)) o is.operator_applies)) f
+row_within o i e false cut b v is of_o f = predicted_within i e v is f.2
+row_within o i e true cut b v is of_o f = surely e i.kind i.presence v (spelled_within i.kind i.presence b v f.1)
 
-of_field : (i : FieldPart) (v : Option Scalar) → IsOfTypeOr i.kind i.presence v → IsOfField i v
-of_field i None h = h
-of_field i (Some v) h = h
+of_field : (i : FieldPart) (e : Entry) (v : Option Scalar) → HoldsScalar e → IsGiven e i.kind i.presence v → IsOfField i v
+of_field i e None h given = given
+of_field i e (Some v) h given = (given.0, given.1 h)
 
 pub values_within : (i : FieldPart) (e : Entry) (bit : Bool) (b : List ℕ) (v : Option Scalar) → IsFieldPart i → HoldsScalar e → Form Usual i e bit b v → IsFieldValue i v
-values_within i e bit b v is h f = record { of_field = of_field i v (row_within i.operator i e bit f.0 b v is h refl f.1.row); within = f.1.within }
+values_within i e bit b v is h f = record { of_field = of_field i e v h (row_within i.operator i e bit f.0 b v is.typed refl f.1.row); within = f.1.within }
+
+-- the same of entries of which nothing is known: a value of a form is of the field's type
+pub value_kind : (i : FieldPart) → IsTyped i → (e : Entry) (bit : Bool) (b : List ℕ) (v : Scalar) → Form Usual i e bit b (Some v) → IsTrue (is_of i.kind v)
+value_kind i is e bit b v f = (row_within i.operator i e bit f.0 b (Some v) is refl f.1.row).0
+
+-- and a mandatory field has one
+pub value_there : (i : FieldPart) → IsTyped i → i.presence ≡ Mandatory → (e : Entry) (bit : Bool) (b : List ℕ) → Form Usual i e bit b None → ⊥
+value_there i is m e bit b f = let no : Mandatory ≡ Optional = sym m ∙ row_within i.operator i e bit f.0 b None is refl f.1.row in absurd cc
 
 -- ---- the entry afterwards
 

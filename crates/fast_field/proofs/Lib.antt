@@ -37,5 +37,4 @@ pub mod FieldLaws
 pub mod SpelledForms
 pub mod BaseForms
 pub mod FieldForms
-pub mod ValueKinds
 pub mod StrictForms

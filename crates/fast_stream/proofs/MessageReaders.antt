@@ -12,7 +12,7 @@ use Rattle.fast_template.specs.declared.resolved.FieldPart.{FieldPart}
 use Rattle.fast_template.specs.Resolved.{Instructions, Resolved}
 use Rattle.fast_template.specs.TemplateSets.{IsTyped, HaveTypedParts}
 use Rattle.fast_dictionary.specs.Dictionary.{Dictionary}
-use Rattle.fast_field.proofs.ValueKinds.{value_kind, value_there}
+use Rattle.fast_field.proofs.FieldsWithin.{value_kind, value_there}
 use Rattle.fast_stream.specs.declared.fault.Cause.TheVariants.{D9, R7, Truncated}
 use Rattle.fast_stream.specs.Nodes.{Items, Content, nodes_in, node_limit}
 use Rattle.fast_stream.specs.Bodies.{State}

@@ -35,7 +35,7 @@ use Rattle.fast_field.proofs.FieldForms.{field_forms}
 use Rattle.fast_field.proofs.FieldsWithin.{values_within, entries_within}
 use Rattle.fast_field.proofs.FieldsBehave.{read_usually}
 use Rattle.fast_field.proofs.ReadFields.{bytes_from}
-use Rattle.fast_field.proofs.ValueKinds.{value_kind, value_there}
+use Rattle.fast_field.proofs.FieldsWithin.{value_kind, value_there}
 use Rattle.fast_stream.specs.Bits.{bit_for}
 use Rattle.fast_stream.specs.Bodies.{with_entry, written}
 use Rattle.fast_stream.specs.Streams.{identifier}

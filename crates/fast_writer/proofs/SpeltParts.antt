@@ -28,7 +28,7 @@ use Rattle.fast_field.specs.Written.{IsRefusal}
 use Rattle.fast_field.proofs.FieldForms.{field_forms}
 use Rattle.fast_field.proofs.FieldsBehave.{read_usually}
 use Rattle.fast_field.proofs.Refused.{not_refused}
-use Rattle.fast_field.proofs.ValueKinds.{value_kind, value_there}
+use Rattle.fast_field.proofs.FieldsWithin.{value_kind, value_there}
 use Rattle.fast_stream.specs.Bodies.{written}
 use Rattle.fast_walk.specs.Received.{exponent_of}
 use Rattle.fast_walk.specs.Told.{HoldScalars, KeepScalars, IsTold}
