@@ -22,10 +22,7 @@ use Rattle.fast_writer.specs.Canonical.{IsCanonical}
 pub no_longer : (mode : Mode) (set : TemplateList) → IsSound set → (input bytes : List ℕ) (messages : List Content) → Carried mode (templates_in set) input messages → IsCanonical (templates_in set) messages bytes → length bytes ≤ length input
 no_longer mode set sound input bytes messages c canonical =
     let alone = as_messages_from mode (templates_in set) messages at_start c.start c.front c.carried in
-    let less = none_shorter_alone set sound alone.0 bytes messages c.start.dictionary alone.1 canonical in
-    let few = alone.2 in
-    let size = ap (λ (xs : List ℕ). length xs) c.parts ∙ length-append c.front c.rest in
-    omega (arith, less, few, size)
+    omega (arith, none_shorter_alone set sound alone.0 bytes messages c.start.dictionary alone.1 canonical, ap (λ (xs : List ℕ). length xs) c.parts ∙ length-append c.front c.rest)
 
 -- What a run answers of canonical bytes: they are counted exactly, being no more than the bytes read.
 pub canonicalised : (mode : Mode) (set : TemplateList) (turns : ℕ) (left a b : Option (List ℕ)) (input : List ℕ) (r : Result Summary CanonFault) → OnOk r (IsSound set) → ((n : ℕ) → n ≤ length input → counted_by 0 n ≡ n)

@@ -64,6 +64,4 @@ module _ (set : TemplateList) (sound : IsSound set) where
   pub none_shorter : (mode : Mode) (stream bytes : List ℕ) (messages : List Content) → Carries mode (templates_in set) stream messages → IsCanonical (templates_in set) messages bytes → length bytes ≤ length stream
   none_shorter mode stream bytes messages h k =
       let usual = as_messages mode (templates_in set) stream messages h in
-      let less = none_shorter_alone usual.0 bytes messages usual.1.0 usual.1.1 k in
-      let few = usual.2 in
-      omega (arith, less, few)
+      omega (arith, none_shorter_alone usual.0 bytes messages usual.1.0 usual.1.1 k)

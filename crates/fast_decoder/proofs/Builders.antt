@@ -1,5 +1,5 @@
 -- What holds of a builder whose finished messages are exchanged.
-use Rattle.std.proofs.Common.{◌≡◌, ◌∷◌, [], ℕ, List, map, Option, inl, inr, refl, subst}
+use Rattle.std.proofs.Common.{◌≡◌, ℕ, List, map, Option, inl, inr, refl, subst}
 use Rattle.std.specs.Global.{Vec}
 use Rattle.fast_template.specs.Resolved.{Resolved}
 use Rattle.fast_dictionary.specs.Dictionary.{Dictionary}
@@ -41,8 +41,3 @@ pub whole_of_follows : (fault : Option Fault) (framing : Framing) (left : ℕ) (
     → FollowsAt BuilderHas BuilderStands BuilderStands fault framing left t b d held waiting before bytes messages → before ≡ map content_of b.whole.items
 whole_of_follows fault framing left t b d held waiting before bytes messages f =
     elim (has_kept BuilderHas BuilderStands BuilderStands t b d before fault framing left held waiting bytes messages f).1 [ inl is ↦ is | inr is ↦ is ]
-
--- no message is finished
-pub none_mapped : (xs : List Message) → [] ≡ map content_of xs → xs ≡ []
-none_mapped [] none = refl
-none_mapped (x ∷ xs) none = absurd cc

@@ -20,7 +20,7 @@ use Rattle.fast_machine.specs.Following.{IsCutAt, Refused, mode_of}
 use Rattle.fast_stream.specs.Blocks.{Stand, at_start}
 use Rattle.fast_stream.specs.Modes.{CarriesFrom, FirstFault}
 use Rattle.fast_machine.specs.Standing.{Carried}
-use Rattle.fast_decoder.specs.Inputs.{Causes, Follows, HasReached, IsCaused, IsFaultOf, OnFault, Reader, Reads, RefusedBy, Refuses, Repeats, Stands, waiting_in}
+use Rattle.fast_decoder.specs.Inputs.{Causes, Follows, HasReached, IsCaused, IsFaultOf, Reader, Reads, RefusedBy, Refuses, Repeats, Stands, waiting_in}
 use Rattle.fast_machine.proofs.Runs.{carried_of}
 use Rattle.fast_machine.proofs.Followings.{all_carried}
 use Rattle.fast_stream.proofs.Causes.{IsOfBytes, of_mode}
@@ -101,10 +101,8 @@ pub refused_by_turns : (f : Fault) (mode : Mode) (set : List Resolved) (turns : 
 refused_by_turns f mode set turns left bytes messages is cut many =
     record { carried = cut.carried; behind = cut.behind; refused = subst (λ (c : Cause). RefusedBy c mode set turns left bytes f.place) (sym is) (cut.at, many) }
 
-pub caused_by_feed : (at : Reached) (old new : Reader) → at ≢ reached.End → OnFault at (λ c. (c ≢ cause.Truncated) × (c ≢ cause.Read) × (c ≢ cause.Turns)) → new.errors ≡ old.errors → new.ends ≡ old.ends → IsCaused at ⊥ old new
-caused_by_feed reached.Open old new some of same none = (same, none)
-caused_by_feed reached.End old new some of same none = absurd (some refl)
-caused_by_feed (reached.Fault f) old new some of same none = ((λ e. absurd (of.1 e)), (λ e. absurd (of.0 e)), (λ e. absurd (of.2 e)))
+pub caused_by_feed : (f : Fault) (old new : Reader) → (f.cause ≢ cause.Truncated) × (f.cause ≢ cause.Read) × (f.cause ≢ cause.Turns) → IsCaused (reached.Fault f) ⊥ old new
+caused_by_feed f old new of = ((λ e. absurd (of.1 e)), (λ e. absurd (of.0 e)), (λ e. absurd (of.2 e)))
 
 pub caused_by_end : (f : Fault) (old new : Reader) → f.cause ≡ cause.Truncated → new.ends ≡ counted old.ends → IsCaused (reached.Fault f) ⊥ old new
 caused_by_end f old new of met = ((λ e. absurd cc), (λ e. met), (λ e. absurd cc))
@@ -158,30 +156,23 @@ pub causes_none : (at : Reached) (a : Reader) → Causes at at ⊥ a a
 causes_none reached.Open a = (refl, refl)
 causes_none at a = (refl, refl)
 
-caused_from : (at : Reached) (a b c : Reader) → b.errors ≡ a.errors → b.ends ≡ a.ends → IsCaused at ⊥ b c → IsCaused at ⊥ a c
-caused_from reached.Open a b c same none h = (h.0 ∙ same, h.1 ∙ none)
-caused_from reached.End a b c same none h = (h.0 ∙ ap counted none, h.1 ∙ same)
-caused_from (reached.Fault f) a b c same none h = ((λ e. h.0 e ∙ ap counted same), (λ e. h.1 e ∙ ap counted none), (λ e. ((h.2 e).0, (h.2 e).1 ∙ none)))
+caused_from : (at : Reached) (P Q : Type 0) (a b c : Reader) → (P → Q) → b.errors ≡ a.errors → b.ends ≡ a.ends → IsCaused at P b c → IsCaused at Q a c
+caused_from reached.Open P Q a b c f same none h = (h.0 ∙ same, h.1 ∙ none)
+caused_from reached.End P Q a b c f same none h = (h.0 ∙ ap counted none, h.1 ∙ same)
+caused_from (reached.Fault g) P Q a b c f same none h = ((λ e. h.0 e ∙ ap counted same), (λ e. h.1 e ∙ ap counted none), (λ e. (f (h.2 e).0, (h.2 e).1 ∙ none)))
 
 pub causes_on : (before now next : Reached) (a b c : Reader) → now ≡ reached.Open → Causes before now ⊥ a b → IsCaused next ⊥ b c → Causes before next ⊥ a c
-causes_on reached.Open now next a b c is h one = let both = rw is at h in caused_from next a b c both.0 both.1 one
+causes_on reached.Open now next a b c is h one = let both = rw is at h in caused_from next ⊥ ⊥ a b c (λ e. e) both.0 both.1 one
 causes_on before now next a b c is h one = absurd cc
 
-caused_weaker : (at : Reached) (P : Type 0) (a b : Reader) → IsCaused at ⊥ a b → IsCaused at P a b
-caused_weaker (reached.Fault f) P a b h = (h.0, h.1, (λ e. absurd (h.2 e).0))
-caused_weaker at P a b h = h
-
 pub causes_weaker : (before now : Reached) (P : Type 0) (a b : Reader) → Causes before now ⊥ a b → Causes before now P a b
-causes_weaker reached.Open now P a b h = caused_weaker now P a b h
+causes_weaker reached.Open now P a b h = caused_from now ⊥ P a a b (λ e. absurd e) refl refl h
 causes_weaker before now P a b h = h
 
-caused_used : (at : Reached) (P : Type 0) (a b : Reader) → IsFaultOf cause.Turns at → P → b.ends ≡ a.ends → IsCaused at P a b
-caused_used (reached.Fault f) P a b is p none = ((λ e. absurd cc), (λ e. absurd cc), (λ e. (p, none)))
-caused_used at P a b is p none = absurd is
-
 used_from : (before next : Reached) (P : Type 0) (a b : Reader) → Causes before reached.Open ⊥ a b → IsFaultOf cause.Turns next → P → Causes before next P a b
-used_from reached.Open next P a b h used p = caused_used next P a b used p h.1
-used_from before next P a b h used p = absurd cc
+used_from reached.Open (reached.Fault f) P a b h is p = ((λ e. absurd cc), (λ e. absurd cc), (λ e. (p, h.1)))
+used_from reached.Open next P a b h is p = absurd is
+used_from before next P a b h is p = absurd cc
 
 -- where no message waits and no read is to be made
 pub causes_end : (before now next : Reached) (P : Type 0) (a b : Reader) → Causes before now ⊥ a b → (now ≡ reached.Open → P) → (now ≡ reached.Open → IsFaultOf cause.Turns next) → (now ≢ reached.Open → next ≡ now)

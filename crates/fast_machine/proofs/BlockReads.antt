@@ -110,10 +110,9 @@ module _ {G : Dictionary → (List ℕ → Reading) → Type 0} {t : Traversal} 
       let all = sizes run.front run.rest run.parts in
       let most = length-take left unread in
       let lengths = ahead_sizes run.front run.rest run.parts in
-      let later = length-drop p unread in
       let whole = ap (λ (xs : List ℕ). length xs) (window_drop left p unread few) ∙ length-append ahead (drop left unread) in
       let left_is : length ahead + (length behind - (room - length run.front)) ≡ length (drop p unread) = omega (arith, lengths, whole, length-drop {A = ℕ}) in
-      let all_is : nat_le (room - length run.front) (length behind) ≡ nat_le (left - p) (length (drop p unread)) = grind (arith, lengths, later, few, most) in
+      let all_is : nat_le (room - length run.front) (length behind) ≡ nat_le (left - p) (length (drop p unread)) = grind (arith, lengths, length-drop p unread, few, most) in
       onwards run (
         inl (omega (arith, length-append {A = ℕ})),
         fits_behind iw.read (iw.before ++ behind) (w.parts ∙ iw.parts),

@@ -139,9 +139,8 @@ pub finds_waiting : {R E : Type 0} {receiver : Receiving R} {entries : Ghosts E}
     → AnswersNone result new.fault → ReadsNext framing old bytes result new
 finds_waiting {receiver = receiver} {framing = framing} {old = old} {bytes = bytes} {h = h} {left = left} {u = u} {s = s} {e = e} result finds is same held answer = reads_none framing old bytes result answer (λ before fed messages short counts stands.
     let f = finds.found before fed messages short counts stands in
-    let all = messages ++ f.ended in
     let stops = rw (is) at (f.leaves.1 (want_of_bytes h.cause is)) in
-    (f.ended, held (before ++ f.ended) fed all (omega (arith, short)) f.counts (rw (same) (f.leaves.2 is)) (rw (same) (inr stops))))
+    (f.ended, held (before ++ f.ended) fed (messages ++ f.ended) (omega (arith, short)) f.counts (rw (same) (f.leaves.2 is)) (rw (same) (inr stops))))
 
 -- another fault is the first, and is kept
 pub finds_fault : {R E : Type 0} {receiver : Receiving R} {entries : Ghosts E} {framing : Framing} {old new : Machine R E receiver entries} {bytes : List ℕ} {number count : ℕ} {h : Halt} {left : ℕ} {u : Traversal} {s : R} {e : Dictionary} {unread : List ℕ} (fault : Fault) (size : ℕ)

@@ -200,12 +200,10 @@ pub are_held : (framing : Framing) (left : ℕ) (G : Dictionary → (List ℕ �
 are_held framing left G t held waiting bytes messages fed typed is (stands, inl at) =
     inl ((messages, carries_all framing left G t bytes messages at.0 at.2 (subst (λ (xs : List ℕ). Stands framing left G t xs bytes messages) at.1 stands)), ap (λ (xs : List ℕ). length xs) at.1)
 are_held framing left G t held waiting bytes messages fed typed is (stands, inr s) =
-    let mode = framed_as framing t in
-    let set = templates_in t.set.now in
     let stop : MessageStop = record { template = t.template; stop = record { cause = Truncated; instruction = waiting; left = length held } } in
     let within = held_within framing left G t held stands.start stands.rest stands.ends in
     let sizes = ap (λ (z : List ℕ). length z) stands.parts ∙ length-append stands.front stands.rest in
-    inr (place_of (length bytes) (length messages) stop, first_fault mode set typed bytes messages stop s, omega (arith, is, within, sizes))
+    inr (place_of (length bytes) (length messages) stop, first_fault (framed_as framing t) (templates_in t.set.now) typed bytes messages stop s, omega (arith, is, within, sizes))
 
 -- ---- where no more bytes come
 

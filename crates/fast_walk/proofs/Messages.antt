@@ -103,8 +103,7 @@ module _ {R E : Type 0} {receiver : Receiving R} {entries : Ghosts E} {t : Trave
     inside = λ other. let k : stage.Identifier ≡ stage.Map = sym read.stage ∙ other in absurd cc;
     leaves = λ before start now was.
         let s = rw map at was in
-        let set = templates_in t.set.now in
-        let later = identifier_on t.level set (entries.contents d) u.walk.bits in
+        let later = identifier_on t.level (templates_in t.set.now) (entries.contents d) u.walk.bits in
         (later, rw (read.stage, read.level, read.set) (record { stands = s.stands; start_is = s.start_is; reads = λ bytes. refl }), λ more. s.reads (drop at bytes ++ more) ∙ read.goes (entries.contents d) more);
   }
 

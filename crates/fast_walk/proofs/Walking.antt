@@ -6,16 +6,15 @@ use Rattle.fast_value.specs.declared.scalar.Scalar.{Scalar}
 use Rattle.fast_value.specs.declared.scalar.Scalar.TheVariants.{I32, I64, Decimal}
 use Rattle.fast_value.specs.declared.kind.Presence.{Presence}
 use Rattle.fast_template.specs.declared.resolved.FieldPart.{FieldPart}
-use Rattle.fast_template.specs.Resolved.{Instruction, Instructions, whole_field, field_in_parts, group_of, no_instructions, then_instruction, is_optional, has_map, list_of}
+use Rattle.fast_template.specs.Resolved.{Instruction, Instructions, whole_field, field_in_parts, no_instructions, then_instruction, list_of}
 use Rattle.fast_wire.specs.Level.{IsLeftClear, some_set}
 use Rattle.fast_wire.specs.declared.level.Level.{Level}
 use Rattle.fast_wire.specs.declared.level.Level.TheVariants.{Strict}
 use Rattle.fast_stream.specs.declared.fault.Cause.TheVariants.{R8}
 use Rattle.fast_dictionary.specs.Dictionary.{Dictionary}
 use Rattle.fast_stream.specs.Nodes.{single, Items, items_of, sequence_elements, elements_of}
-use Rattle.fast_stream.specs.Bits.{bit_for, after_bit}
 use Rattle.fast_stream.specs.Faults.{Stop}
-use Rattle.fast_stream.specs.Reading.{Cursor, Reads, node_at, field_part_at, own_map_at, behind_bit, piece_at, stopped}
+use Rattle.fast_stream.specs.Reading.{Cursor, Reads, node_at, field_part_at, own_map_at, piece_at, stopped}
 use Rattle.fast_walk.specs.OpenSegments.{Body, Sequel, Waiting, Inside, in_group, in_sequence, Next, at_instruction, at_mantissa, at_element, with_item, with_element, cursor, fewer, under_bits, body_on, mantissa_on, top_on, behind_inside, all_around}
 use Rattle.fast_walk.specs.Received.{Having, Received, Same, Goes, after_sequence, in_element, behind_last, closed_in, ended_in}
 use Rattle.fast_walk.specs.Room.{left_around}
@@ -27,7 +26,7 @@ use Rattle.fast_walk.specs.declared.walk.Walk.{Walk as WalkNow}
 use Rattle.std.proofs.Math.Seq.{get_or-append_seam, set-append_seam}
 use Rattle.std.proofs.Common.{length-append}
 use Rattle.fast_walk.proofs.Steps.{after_piece, all_around-more, all_around-stops, count_goes, end_goes, end_stops, items_on, no_more_goes, set_stops, some_left, whole_goes}
-use Rattle.fast_walk.proofs.Steps.{element_on as element_around_on, group_on as group_around_on}
+use Rattle.fast_walk.proofs.Steps.{element_on as element_around_on}
 
 -- ---- what is next
 
@@ -212,14 +211,6 @@ module _ (level : Level) where
   pub piece_stops_on : (ws : List Waiting) (n : Next) (b : Body) (i : Instruction) (is : Instructions) (c : Cursor) (s : Stop)
       → n ≡ at_instruction → b.rest ≡ then_instruction i is → piece_at level i c ≡ Err s → all_around level ws (top_on level n b c) ≡ Err s
   piece_stops_on ws n b i is c s next first h = piece_on ws n b i is c next first ∙ rw h (all_around-stops level ws s)
-
-  pub group_on : (ws : List Waiting) (n : Next) (b : Body) (name : List ℕ) (number : ℕ) (presence : Presence) (members is : Instructions) (c d e : Cursor)
-      → n ≡ at_instruction → b.rest ≡ then_instruction (group_of name number presence members) is → node_at number c ≡ Ok d → bit_for (is_optional presence) d.bits ≡ true
-      → own_map_at level number (has_map members) (behind_bit (is_optional presence) d) ≡ Ok e
-      → all_around level ws (top_on level n b c)
-      ≡ all_around level (ws ++ record { bits = after_bit (is_optional presence) d.bits; number = number; body = record { rest = is; done = b.done }; inside = in_group } ∷ []) (body_on level (record { rest = members; done = [] }) e)
-  group_on ws n b name number presence members is c d e next first h k m =
-      piece_on ws n b _ is c next first ∙ ap (all_around level ws) (rw (h, k) (group_around_on level number members is b.done (behind_bit (is_optional presence) d) e m)) ∙ sym (all_around-more level ws _ _)
 
   element_on : (q : Received) {t : Sequel} {is : Instructions} {fs : List Waiting} (a : IsAtElement q t is fs) (c d e : Cursor) → 0 < t.left → node_at t.number c ≡ Ok d → own_map_at level t.number t.own_map d ≡ Ok e
       → all_around level q.around (top_on level q.next q.body c) ≡ all_around level (in_element q d.bits a.sequel).around (body_on level (record { rest = a.sequel.members; done = [] }) e)

@@ -39,9 +39,8 @@ reads-preserved g c =
     let h = c.in_ok-hand_on.ensures in
     let i = v.relays in
     let size = length-append i.0 r.read.0 in
-    let gave = i.2.because.0 in
     let some = (r.read.2 c.args.turns (behind i.2) i.2.relays).because.0 c.in-Open.is in
-    let because : (c.reads.reads + 1 ≤ length (i.0 ++ r.read.0)) × IsCaused reached.Open ⊥ (read_by g c.args.reader.now) (read_by g c.read_on.new.reader) = (omega (arith, some, gave, size), rw (c.in-Open.is) at (caused g at)) in
+    let because : (c.reads.reads + 1 ≤ length (i.0 ++ r.read.0)) × IsCaused reached.Open ⊥ (read_by g c.args.reader.now) (read_by g c.read_on.new.reader) = (omega (arith, some, size), rw (c.in-Open.is) at (caused g at)) in
     record {
       few = omega arith;
       empty = h.empty;
@@ -118,12 +117,11 @@ returns-clause-answer g c =
     let cut = c.cut.ensures in
     let place = cut.place s.relays.holds.unrefused (handed_on s.more ∷ s.ended) i.0 s.ended s.relays.holds.follows in
     let few = v.few in
-    let gave = s.because.0 in
     let all : l.reads ≡ c.args.turns = omega (arith, few, c.reads-test.false) in (
       l.reads,
       i.0,
       i.1,
       few,
-      rw (← v.same.mode, ← v.same.set) (record { messages = s.ended; out = s.more; refuses = refused_by_turns c.cut.result _ _ c.args.turns _ i.0 s.ended cut.cause place (omega (arith, all, gave)); made = rw (v.empty, append-nil s.more) at s.relays.made; written = s.written }),
+      rw (← v.same.mode, ← v.same.set) (record { messages = s.ended; out = s.more; refuses = refused_by_turns c.cut.result _ _ c.args.turns _ i.0 s.ended cut.cause place (omega (arith, all)); made = rw (v.empty, append-nil s.more) at s.relays.made; written = s.written }),
       ((λ e. absurd cc), (λ e. absurd cc), (λ e. (all, s.because.1.1))),
     )

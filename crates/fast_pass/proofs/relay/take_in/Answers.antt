@@ -37,11 +37,10 @@ messages-preserved g c =
     let l = c.messages in
     let v = l.invariant in
     let bytes = c.args.bytes.now in
-    let size = ap (λ (xs : List ℕ). length xs) (take_rest bytes l.at) ∙ length-drop l.at bytes in
     let fed = c.in-Ok.ensures in
     let h = c.in_ok-hand_on_many.ensures in
     record {
-      place = let few = fed.taken.1 in let before = v.place in omega (arith, few, size, before);
+      place = let few = fed.taken.1 in let before = v.place in omega (arith, few, ap (λ (xs : List ℕ). length xs) (take_rest bytes l.at) ∙ length-drop l.at bytes, before);
       fault = h.still.fault ∙ fed.open;
       fed = let more = (fed.fed v.fault).0 in let before = v.fed in let same = h.still.fed in omega (arith, more, before, same);
       same = same_on (same_on v.same fed.same) h.still.same;

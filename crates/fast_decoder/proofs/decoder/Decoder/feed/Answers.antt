@@ -1,12 +1,13 @@
 use Rattle.std.proofs.Common.{[], ◌++◌, map, sym, ◌∙◌, ap, append-nil}
 use Rattle.fast_stream.specs.Nodes.{content_of}
-use Rattle.fast_decoder.proofs.Builders.{follows_rebased, none_mapped, whole_of_follows}
+use Rattle.fast_decoder.proofs.Builders.{follows_rebased, whole_of_follows}
+use Rattle.fast_walk.proofs.Walking.{none_mapped}
 use Rattle.fast_decoder.proofs.decoder.Decoder.feed.Goals as goal
 
 pub returns-clause-follows : goal.returns-clause-follows
 returns-clause-follows g c = λ none fed messages follows.
     let before = map content_of c.args.out.now.items in
-    let empty = none_mapped c.args.self.now.machine.receiver.whole.items (whole_of_follows _ _ _ _ _ _ _ _ _ _ _ follows.at) in
+    let empty = none_mapped content_of c.args.self.now.machine.receiver.whole.items (sym (whole_of_follows _ _ _ _ _ _ _ _ _ _ _ follows.at)) in
     let lent = follows_rebased _ _ _ _ _ c.lend.new.self.whole _ _ _ _ _ _ _ (c.lend.ensures.whole empty) follows.at in
     let after = c.feed_on-fed.ensures.follows none before fed messages (record { at = rw (c.lend.ensures.builder) lent; counts = follows.counts }) in
     let whole = whole_of_follows _ _ _ _ _ _ _ _ (before ++ after.0) _ _ after.1.at in

@@ -13,7 +13,5 @@ returns-in-Open-clause-tells g c = λ bytes answered stands.
     let old = c.args.self.now in
     let at = rw (c.in-Open.is, c.requires.none, append-nil answered) at stands in
     let cut = c.cut-fault.ensures.place at.0.goes_on [] bytes answered at.0.follows in
-    let all = c.requires.used_up c.in-Open.is in
-    let few = at.1 in
-    let refused = refused_by_turns c.cut-fault.result _ _ old.turns (g.R.ByteInput.left old.reader) _ _ c.cut-fault.ensures.cause cut (omega (arith, all, few)) in
+    let refused = refused_by_turns c.cut-fault.result _ _ old.turns (g.R.ByteInput.left old.reader) _ _ c.cut-fault.ensures.cause cut (omega (arith, c.requires.used_up c.in-Open.is)) in
     rw (c.cut-fault.ensures.same.set, c.cut-fault.ensures.same.mode, c.requires.none, append-nil answered) (refused, refused)

@@ -1,7 +1,6 @@
-use Rattle.std.proofs.Common.{◌<◌, ◌++◌, [], take, refl, arith, append-nil, length-append, length-take}
+use Rattle.std.proofs.Common.{ℕ, ◌<◌, ◌++◌, [], take, refl, arith, append-nil, length-append, length-take}
 use Rattle.fast_decoder.specs.Calls.{reader_of}
 use Rattle.fast_decoder.specs.Inputs.{Reader, reader_by, waiting_in}
-use Rattle.fast_decoder.specs.declared.input.Reached.TheVariants as reached
 use Rattle.fast_decoder.proofs.Inputs.{caused_by_end, caused_by_feed, caused_by_read, empty_read, failed_read, of_bytes, one_read, pushed_waits, refused_by_bytes, refused_by_read}
 use Rattle.fast_decoder.proofs.input.MessageInputStream.read_on.Given as given
 use Rattle.fast_decoder.proofs.input.MessageInputStream.read_on.Goals as goal
@@ -53,11 +52,7 @@ returns-in-Ok-fed-clause-reads g c =
           let at = rw (c.requires.reached, c.requires.none, append-nil answered) at stands in
           let e = c.in-Ok-fed.ensures.follows at.0.goes_on bytes answered at.0.follows in
           let same = pushed_waits c.args.self.now.waiting.items c.feed-fed.new.out.items c.reverse.new.self.items e.0 c.requires.none c.reverse.ensures.items e.1 in
-          let before = at.1 in
-          let size = length-append bytes got in
-          let taken = length-take c.in-Ok.count c.pull.new.buf in
-          let few = p.bytes.0 in
-          rw (c.requires.reached, same) ((record { goes_on = c.in-Ok-fed.ensures.answer; follows = e.2 }, omega (arith, before, size, taken, few, some)), (p.error, p.end.1 some));
+          rw (c.requires.reached, same) ((record { goes_on = c.in-Ok-fed.ensures.answer; follows = e.2 }, omega (arith, length-append {A = ℕ}, length-take {A = ℕ}, some)), (p.error, p.end.1 some));
     }
 
 pub returns-in-Err-fed-clause-reads : goal.returns-in-Err-fed-clause-reads
@@ -77,7 +72,7 @@ returns-in-Err-fed-clause-reads g c =
           let refused = (rw (c.in-Err-fed.ensures.answer) at e.2.at).0 in
           rw (c.requires.reached, same) (
             refused_by_bytes f _ _ c.args.self.now.turns _ _ _ (λ is. absurd (more is)) refused,
-            caused_by_feed (reached.Fault f) (reader_of c.args.self.now) (read_by g c.pull.new.self) (λ e. absurd cc) (of_bytes f _ _ _ refused.2 more) p.error (p.end.1 some),
+            caused_by_feed f (reader_of c.args.self.now) (read_by g c.pull.new.self) (of_bytes f _ _ _ refused.2 more),
           );
     }
 

@@ -16,6 +16,5 @@ pub returns-in-Err-clause-place : goal.returns-in-Err-clause-place
 returns-in-Err-clause-place g c = λ none before fed messages follows.
     let e = c.in-Err.ensures in
     let t = e.truncated none in
-    let after = t.1 before fed messages c.requires.few follows in
-    let r = (rw (e.answer, e.same.set, e.same.mode) at after.at).0 in
+    let r = (rw (e.answer, e.same.set, e.same.mode) at (t.1 before fed messages c.requires.few follows).at).0 in
     record { carried = r.0; behind = r.1; at = inl (rw (t.0) at (r.2 (want_of_bytes c.in-Err.fault.cause t.0))) }

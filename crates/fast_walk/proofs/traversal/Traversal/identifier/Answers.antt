@@ -57,7 +57,6 @@ returns-in-Some-clause-reads g c =
     let members = list_of c.in-Some.template.now.members.items in
     let took = rw (c.level-level.ensures, c.first_for-bit.ensures, c.part_needs_bit-needs.ensures, old.identifier_is) at c.in-Ok.ensures.goes.0 in
     let named = found_members old.set.now id ∙ ap members_found (sym (rw (c.in-Some.is) at c.find.ensures.value)) in
-    let walk = c.open_message.new.self in
     let end = c.open_message.ensures in
     record {
       place = c.in-Ok.ensures.place;
@@ -66,7 +65,7 @@ returns-in-Some-clause-reads g c =
       leaves = λ before start read was.
           let s = rw (c.requires.stage) at was in
           let o = opened set before id members d in (
-            λ bytes. message_of old.level id (reads_on old.level walk e o bytes),
+            λ bytes. message_of old.level id (reads_on old.level c.open_message.new.self e o bytes),
             record {
               received = o;
               at = record { next = ap next_of (sym end.next); rest = ap list_of (sym (end.rest ∙ c.deref.ensures.value)); around = ap (map frame_of) (sym end.around) };

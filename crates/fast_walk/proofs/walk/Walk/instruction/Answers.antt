@@ -4,13 +4,13 @@ use Rattle.fast_walk.proofs.Steps.{exit_is}
 use Rattle.fast_template.specs.Resolved.{list_of, has_map, is_optional}
 use Rattle.fast_stream.specs.Bits.{after_bit, bit_for}
 use Rattle.fast_stream.specs.Nodes.{single, no_elements, sequence_elements}
-use Rattle.fast_walk.specs.OpenSegments.{Sequel, Waiting, at_element, at_instruction, at_mantissa, in_group, cursor}
+use Rattle.fast_walk.specs.OpenSegments.{Sequel, Waiting, at_element, at_instruction, at_mantissa, in_group, all_around, cursor}
 use Rattle.fast_walk.specs.Received.{entered, moved}
 use Rattle.fast_walk.specs.Room.{left_around}
 use Rattle.fast_walk.specs.Walks.{bare, frame_of, next_of}
 use Rattle.fast_walk.proofs.Pieces.{begins_served, count_stops, first_stops, halts_at, is_field, is_group, is_parts, is_sequence, less_behind, less_opened, moves_on, opened_on, part_takes, stops_here}
-use Rattle.fast_walk.proofs.Steps.{count_goes, length_on}
-use Rattle.fast_walk.proofs.Walking.{group_on, is_instruction}
+use Rattle.fast_walk.proofs.Steps.{all_around-more, count_goes, group_on, length_on}
+use Rattle.fast_walk.proofs.Walking.{is_instruction, piece_on}
 use Rattle.fast_walk.proofs.walk.Walk.instruction.Goals as goal
 
 pub returns-in_err-count-in-Field-clause-piece : goal.returns-in_err-count-in-Field-clause-piece
@@ -145,9 +145,10 @@ returns-in_ok-open-in-Group-clause-piece g c =
               λ more.
                   let bytes = drop c.args.at c.args.bytes.now ++ more in
                   rw (end.bits, end.spare)
-                  (group_on g.L.Leveled.at o.around o.next o.body c.in-Group.name number c.in-Group.presence members others (cursor d old.bits old.spare bytes) (cursor d old.bits (old.spare - 1) bytes) _ next first
-                  (count_goes number old.spare d old.bits bytes c.in_ok-count-in-Group.ensures) bit
-                  (rw (c.level-level.ensures, map_is) at c.in_ok-bits-in-Group.ensures.goes d bits (old.spare - 1) more)),
+                  (piece_on g.L.Leveled.at o.around o.next o.body _ others (cursor d old.bits old.spare bytes) next first
+                  ∙ ap (all_around g.L.Leveled.at o.around) (rw (count_goes number old.spare d old.bits bytes c.in_ok-count-in-Group.ensures, bit)
+                  (group_on g.L.Leveled.at number members others o.body.done (cursor d bits (old.spare - 1) bytes) _ (rw (c.level-level.ensures, map_is) at c.in_ok-bits-in-Group.ensures.goes d bits (old.spare - 1) more)))
+                  ∙ sym (all_around-more g.L.Leveled.at o.around _ _)),
             );
         on = opened_on end served.0 (served.1, tt) can.ready.around can.kept (enter.room (left_around (map frame_of old.around.items)) old.bits c.in_ok-bits-in-Group.bits bit c.in_ok-bits-in-Group.ensures.room can.room);
       },
