@@ -1,39 +1,18 @@
 -- The shortest map of the bits asked for.
-use Rattle.std.proofs.Common.{◌≡◌, ℕ, zero, suc, ◌+◌, ◌-◌, ◌*◌, ◌/◌, ◌%◌, ◌<◌, ◌≤◌, Bool, true, false, List, [], ◌∷◌, length, refl, sym, ap, ◌∙◌, arith, inl, inr}
+use Rattle.std.proofs.Common.{◌≡◌, ℕ, zero, suc, ◌-◌, ◌*◌, ◌%◌, ◌<◌, ◌≤◌, Bool, true, false, List, length, refl, sym, ap, ◌∙◌, arith, inl, inr}
 use Rattle.std.proofs.lemmas.Bool.{cases_lt, true≢false}
 use Rattle.std.proofs.lemmas.List.{get_or_past, length-map}
 use Rattle.fast_wire.specs.Entity.{groups}
 use Rattle.fast_wire.specs.PresenceMap.{bit_at, bits_of, IsMap, IsWholeMap}
 use Rattle.fast_wire.specs.Writing.{IsShortest}
-use Rattle.fast_wire.specs.Spellings.{map_of, IsUsed, IsMapSize}
+use Rattle.fast_wire.specs.Spellings.{map_of, IsMapSize}
 use Rattle.fast_wire.proofs.MapBits.{length_bits}
 use Rattle.fast_wire.proofs.MapForms.{map_length, map_shortest}
 use Rattle.fast_wire.proofs.SameMaps.{one_map}
+use Rattle.fast_wire.proofs.ShortestForms.{groups_for, used_in}
 use Rattle.fast_wire.proofs.UnsignedForms.{entity_some}
 use Rattle.fast_writer.specs.Canonical.{IsShortestMap}
 use Rattle.fast_canon.proofs.AskedBits.{Begins, behind, AreBelow, begins_at, none_behind, bits_are, below_at}
-
--- ---- how many bits there are up to the last 1
-
-past : (x : Bool) (bits : List Bool) (n : ℕ) → ((i : ℕ) → n ≤ i → bit_at bits i ≡ false) → (i : ℕ) → suc n ≤ i → bit_at (x ∷ bits) i ≡ false
-past x bits n rest zero le = absurd (omega arith)
-past x bits n rest (suc i) le = rest i (omega arith)
-
-used_more : (x : Bool) (bits : List Bool) (n : ℕ) → IsUsed bits n → (m : ℕ) × IsUsed (x ∷ bits) m
-used_more x bits (suc n) h =
-    let e : suc (suc n) - 1 ≡ suc n = omega arith in
-    let f : suc n - 1 ≡ n = omega arith in
-    (suc (suc n), record { last = λ some. rw e (rw f at (h.last (omega arith))); rest = past x bits (suc n) h.rest })
-used_more true bits zero h = (1, record { last = λ some. refl; rest = past true bits 0 h.rest })
-used_more false bits zero h = (0, record { last = λ some. absurd (omega arith); rest = none })
-  where
-    none : (i : ℕ) → 0 ≤ i → bit_at (false ∷ bits) i ≡ false
-    none zero le = refl
-    none (suc i) le = h.rest i (omega arith)
-
-used_in : (bits : List Bool) → (n : ℕ) × IsUsed bits n
-used_in [] = (0, record { last = λ some. absurd (omega arith); rest = λ i le. refl })
-used_in (x ∷ bits) = let u = used_in bits in used_more x bits u.0 u.1
 
 -- ---- a map of the bits asked for
 
@@ -46,11 +25,6 @@ within_groups map bits i m set =
           let past = get_or_past (bits_of (groups map)) i false (omega (arith, length_bits (groups map), length-map map (λ b. b % 128))) in
           absurd (true≢false (sym set ∙ ap (λ (l : List Bool). bit_at l i) m.value ∙ past))
     ]
-
--- the number of groups that so many bits take
-abbrev groups_for : ℕ → ℕ
-groups_for zero = 1
-groups_for (suc n) = n / 7 + 1
 
 size_is : (used most : ℕ) → 0 < most → most ≤ 256 → (0 < used → used - 1 < 7 * most) → IsMapSize used (groups_for used) × (groups_for used ≤ most)
 size_is zero most some few within = ((omega arith, omega arith, omega arith, λ long. absurd (omega arith)), omega arith)

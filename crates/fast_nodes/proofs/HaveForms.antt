@@ -1,18 +1,14 @@
 -- A message that is not refused has canonical bytes.
-use Rattle.std.proofs.Common.{◌≡◌, ◌+◌, ◌-◌, ◌/◌, ◌≤◌, ℕ, zero, suc, Bool, true, false, ◌&&◌, List, [], ◌∷◌, ◌++◌, length, drop, Option, Some, None, Result, Ok, Err, refl, sym, ap, ◌∙◌, arith, inl, inr}
+use Rattle.std.proofs.Common.{true≢false, ◌≡◌, ◌+◌, ℕ, Bool, true, false, ◌&&◌, List, [], ◌++◌, length, drop, Option, Some, None, Result, Ok, Err, refl, sym, ◌∙◌, arith}
 use Rattle.std.specs.Prelude.{if◌then◌else◌}
-use Rattle.std.proofs.lemmas.Bool.{and_parts, cases_lt, or_parts}
+use Rattle.std.proofs.lemmas.Bool.{and_parts}
 use Rattle.fast_value.specs.declared.scalar.Scalar.{Scalar}
 use Rattle.fast_value.specs.declared.scalar.Scalar.TheVariants.{U32, I32, I64, Decimal}
 use Rattle.fast_template.specs.declared.resolved.FieldPart.{FieldPart}
 use Rattle.fast_template.specs.Resolved.{Instruction, Instructions, whole_field, field_in_parts, group_of, sequence_of, no_instructions, then_instruction, part_needs_bit, is_optional, has_map}
 use Rattle.fast_template.specs.TemplateSets.{TemplateList, templates_in, IsSound}
 use Rattle.fast_dictionary.specs.Dictionary.{Dictionary, entry_at}
-use Rattle.fast_wire.specs.PresenceMap.{bit_at, IsMap}
 use Rattle.fast_wire.specs.Reading.{◌>>=◌}
-use Rattle.fast_wire.specs.Spellings.{map_of, IsUsed, IsMapSize}
-use Rattle.fast_wire.specs.Writing.{IsShortest}
-use Rattle.fast_wire.proofs.MapForms.{map_shortest}
 use Rattle.fast_field.specs.declared.fault.FieldRefusal.{FieldRefusal}
 use Rattle.fast_field.specs.Bases.{next}
 use Rattle.fast_field.specs.Parts.{IsFieldPart, EachPart, EachPartIn}
@@ -35,54 +31,15 @@ use Rattle.fast_nodes.proofs.Messages.{fitting, written_is}
 use Rattle.fast_walk.specs.Told.{HoldScalars}
 use Rattle.fast_walk.proofs.Telling.{form_holds, identifier_is}
 use Rattle.fast_nodes.proofs.Tries.{small_all}
+use Rattle.fast_wire.proofs.ShortestForms.{shortest_map}
+use Rattle.fast_writer.proofs.MapRoom.{set_at}
 use Rattle.fast_writer.proofs.Relays.{best_needs}
 
 -- ---- the map of bits that it has room for
 
-unset : (n : ℕ) (bits : List Bool) → has_set (drop n bits) ≡ false → (i : ℕ) → n ≤ i → bit_at bits i ≡ false
-unset zero [] h i le = refl
-unset zero (x ∷ bits) h zero le = (or_parts x (has_set bits) h).0
-unset zero (x ∷ bits) h (suc i) le = unset zero bits (or_parts x (has_set bits) h).1 i (omega arith)
-unset (suc n) [] h i le = refl
-unset (suc n) (x ∷ bits) h zero le = absurd (omega arith)
-unset (suc n) (x ∷ bits) h (suc i) le = unset n bits h i (omega arith)
-
-record UsedWithin (bits : List Bool) (most : ℕ) : Type 0 where
-  number : ℕ
-  few : number ≤ most
-  used : IsUsed bits number
-
-one_less : (n : ℕ) (bits : List Bool) → ((i : ℕ) → suc n ≤ i → bit_at bits i ≡ false) → bit_at bits n ≡ false → (i : ℕ) → n ≤ i → bit_at bits i ≡ false
-one_less n bits rest last i le = elim (cases_lt n i) [
-  | inl less ↦ rest i less
-  | inr more ↦ let same : n ≡ i = omega arith in sym (ap (bit_at bits) same) ∙ last
-]
-
-used_by : (n : ℕ) (bits : List Bool) (last : Bool) → bit_at bits n ≡ last → ((i : ℕ) → suc n ≤ i → bit_at bits i ≡ false)
-    → (((i : ℕ) → n ≤ i → bit_at bits i ≡ false) → UsedWithin bits n) → UsedWithin bits (suc n)
-used_by n bits true last rest below =
-    record { number = suc n; few = omega arith; used = record { last = λ some. let e : suc n - 1 ≡ n = omega arith in ap (bit_at bits) e ∙ last; rest = rest } }
-used_by n bits false last rest below =
-    let u = below (one_less n bits rest last) in let few = u.few in
-    record { number = u.number; few = omega (arith, few); used = u.used }
-
-used_within : (n : ℕ) (bits : List Bool) → ((i : ℕ) → n ≤ i → bit_at bits i ≡ false) → UsedWithin bits n
-used_within zero bits rest = record { number = 0; few = omega arith; used = record { last = λ some. absurd (omega arith); rest = rest } }
-used_within (suc n) bits rest = used_by n bits (bit_at bits n) refl rest (λ r. used_within n bits r)
-
-size_of : (used : ℕ) → used ≤ 1792 → (n : ℕ) × IsMapSize used n
-size_of zero few = (1, (omega arith, omega arith, omega arith, λ long. absurd (omega arith)))
-size_of (suc n) few = (n / 7 + 1, (omega arith, omega arith, omega arith, λ long. omega arith))
-
-shortest_map : (bits : List Bool) → has_set (drop 1792 bits) ≡ false → (map : List ℕ) × IsShortest IsMap map bits
-shortest_map bits room =
-    let u = used_within 1792 bits (unset 1792 bits room) in
-    let n = size_of u.number u.few in
-    (map_of n.0 bits 0, map_shortest bits u.number n.0 u.used n.1)
-
 sealed_by : (own : Bool) (l : Segment) (old : List ℕ) → l.own ≡ own → (own && has_set (drop 1792 l.bits)) ≡ false → (new : List ℕ) × IsSealed l old new
 sealed_by true l old is room =
-    let m = shortest_map l.bits room in
+    let m = shortest_map l.bits (λ many. true≢false (sym (set_at (drop 1792 l.bits) many.0 many.1) ∙ room)) in
     (old ++ (m.0 ++ l.bytes), record { ended = record { map = m.0; bytes = refl; shortest = λ own. m.1; none = λ none. absurd (let both : true ≡ false = sym is ∙ none in cc) }; room = rw (is) room })
 sealed_by false l old is room =
     (old ++ ([] ++ l.bytes), record { ended = record { map = []; bytes = refl; shortest = λ own. absurd (let both : false ≡ true = sym is ∙ own in cc); none = λ none. refl }; room = rw (is) refl })

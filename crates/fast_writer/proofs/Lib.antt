@@ -5,7 +5,7 @@ pub mod Writings
 mod Runs
 pub mod Relays
 pub mod Writers
-mod MapRoom
+pub mod MapRoom
 pub mod Takings
 mod SpeltParts
 mod Beginnings

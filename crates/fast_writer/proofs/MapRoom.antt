@@ -3,7 +3,7 @@ use Rattle.std.proofs.Common.{◌≡◌, ℕ, zero, suc, Bool, true, false, List
 use Rattle.std.proofs.lemmas.Bool.{and_parts, or_parts}
 use Rattle.std.specs.Prelude.{◌&&◌, not, IsTrue}
 use Rattle.std.proofs.Math.ListN.{drop_of_length-le}
-use Rattle.fast_wire.specs.PresenceMap.{next_bit, later_bits}
+use Rattle.fast_wire.specs.PresenceMap.{bit_at, next_bit, later_bits}
 use Rattle.fast_wire.specs.Sizes.{CanBeMap}
 use Rattle.fast_stream.specs.Bits.{after_bit, bit_for}
 use Rattle.fast_walk.specs.Room.{HasRoomInside}
@@ -11,6 +11,12 @@ use Rattle.fast_writer.specs.Written.{Asked, Closes, Segment, bits_for, has_set}
 use Rattle.fast_writer.specs.Room.{has_room, have_room}
 
 -- ---- of one map
+
+pub set_at : (bits : List Bool) (i : ℕ) → bit_at bits i ≡ true → has_set bits ≡ true
+set_at [] i h = absurd cc
+set_at (true ∷ bits) i h = refl
+set_at (false ∷ bits) zero h = absurd cc
+set_at (false ∷ bits) (suc i) h = set_at bits i h
 
 drop_none : (n : ℕ) → ◌≡◌ {A = List Bool} (drop n []) []
 drop_none zero = refl

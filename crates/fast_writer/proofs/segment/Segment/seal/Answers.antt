@@ -1,15 +1,10 @@
-use Rattle.std.proofs.Common.{◌≡◌, ℕ, zero, suc, Bool, true, false, List, [], ◌∷◌, rules, drop, inl, inr, refl, sym, ◌∙◌}
+use Rattle.std.proofs.Common.{◌≡◌, zero, suc, Bool, true, false, List, [], ◌∷◌, rules, drop, inl, inr, refl, sym, ◌∙◌}
 use Rattle.fast_wire.specs.declared.fault.WireFault.TheVariants as fault
-use Rattle.fast_wire.specs.PresenceMap.{bit_at, HasSetBit}
+use Rattle.fast_wire.specs.PresenceMap.{HasSetBit}
+use Rattle.fast_writer.proofs.MapRoom.{set_at}
 use Rattle.fast_writer.specs.Written.{has_set}
 use Rattle.fast_writer.proofs.segment.Segment.seal.Goals.{then-self+in-Ok, else-self}
 use Rattle.fast_writer.proofs.segment.Segment.seal.Goals as goal
-
-set_at : (bits : List Bool) (i : ℕ) → bit_at bits i ≡ true → has_set bits ≡ true
-set_at [] i h = absurd cc
-set_at (true ∷ bits) i h = refl
-set_at (false ∷ bits) zero h = absurd cc
-set_at (false ∷ bits) (suc i) h = set_at bits i h
 
 none_set_of : (bits : List Bool) → (HasSetBit bits → ⊥) → has_set bits ≡ false
 none_set_of [] h = refl
