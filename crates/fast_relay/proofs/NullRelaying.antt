@@ -33,7 +33,7 @@ null_shortest : IsShortest IsUnsignedNullable (128 ∷ []) Null
 null_shortest = record { form = null_form; least = λ other h. entity_some other h.entity }
 
 best : (i : FieldPart) (e : Entry) (b : List ℕ) → i.presence ≡ Optional → left_out_of i.operator i e None ≡ false → IsShortest IsUnsignedNullable b Null → IsBest i e true b None
-best i e b optional out s = null_best i e (rw optional refl) out b s
+best i e b optional out s = null_best i e None refl (rw optional refl) out b s
 
 read : (i : FieldPart) (e : Entry) (rest : List ℕ) → i.presence ≡ Optional → left_out_of i.operator i e None ≡ false → field_at Usual i e true (128 ∷ rest) ≡ Ok (None, rest)
 read i e rest optional out =
