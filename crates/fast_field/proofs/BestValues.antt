@@ -101,8 +101,13 @@ can_be_left_out o i e cut b v f = gives (predicted i e) v f.2
 
 -- ---- bit 1
 
-pub is_first_as : (F G : Cut → List ℕ → Type 0) (b : List ℕ) → ((c : Cut) (b : List ℕ) → F c b → G c b) → ((c : Cut) (b : List ℕ) → G c b → F c b) → IsFirst F b → IsFirst G b
-is_first_as F G b to from f = record { cut = f.cut; form = to f.cut b f.form; first = λ c o h. f.first c o (from c o h) }
+-- on the base that there is
+on_base_first : (r : Result Scalar FieldFault) (Makes : Scalar → Cut → List ℕ → Type 0) (base : Scalar) (b : List ℕ) → r ≡ Ok base → IsFirst (Makes base) b → IsFirst (λ c b. (x : Scalar) × (r ≡ Ok x) × Makes x c b) b
+on_base_first r Makes base b is f = record {
+  cut = f.cut;
+  form = (base, is, f.form);
+  first = λ c o h. let same : h.0 ≡ base = ok_is {F = FieldFault} h.0 base (sym h.1 ∙ is) in f.first c o (subst (λ (x : Scalar). Makes x c o) same h.2);
+}
 
 pub whole_is_first : (k : Kind) (p : Presence) (v : Option Scalar) (b : List ℕ) → IsShortest (Spelled Usual k p) b v → IsFirst (λ c b. (c ≡ uncut) × Spelled Usual k p b v) b
 whole_is_first k p v b s = shortest_is_first (λ c b. (c ≡ uncut) × Spelled Usual k p b v) b (refl, s.form) (λ c o h. (h.0, s.least o h.1))
@@ -126,11 +131,7 @@ has_base (Ok base) e = (base, refl)
 has_base (Err f) e = absurd cc
 
 pub delta_is_first : (i : FieldPart) (e : Entry) (base v : Scalar) (b : List ℕ) → delta_base i e ≡ Ok base → IsFirst (λ c b. DeltaValue Usual i.kind i.presence base c b v) b → IsFirst (λ c b. DeltaForm Usual i e c b (Some v)) b
-delta_is_first i e base v b is f =
-    is_first_as (λ c b. DeltaValue Usual i.kind i.presence base c b v) (λ c b. DeltaForm Usual i e c b (Some v)) b
-    (λ c o h. (base, is, h))
-    (λ c o h. let same : h.0 ≡ base = ok_is {F = FieldFault} h.0 base (sym h.1 ∙ is) in subst (λ (x : Scalar). DeltaValue Usual i.kind i.presence x c o v) same h.2)
-    f
+delta_is_first i e base v b is f = on_base_first (delta_base i e) (λ x c b. DeltaValue Usual i.kind i.presence x c b v) base b is f
 
 pub delta_null_is_first : (i : FieldPart) (e : Entry) (b : List ℕ) → IsShortest (SpellsInteger Usual false i.presence) b Null → IsFirst (λ c b. DeltaForm Usual i e c b None) b
 delta_null_is_first i e b s = shortest_is_first (λ c b. DeltaForm Usual i e c b None) b (refl, s.form) (λ c o f. (f.0, s.least o f.1))
@@ -153,11 +154,7 @@ long_enough (Ok base) v e = (base, refl, not_short (nat_lt (length (units_of v))
 long_enough (Err f) v e = absurd cc
 
 pub tail_form_is_first : (i : FieldPart) (e : Entry) (base v : Scalar) (b : List ℕ) → tail_base i e ≡ Ok base → IsFirst (λ c b. SpellsTail Usual i.kind i.presence base c b v) b → IsFirst (λ c b. TailForm Usual i e c b (Some v)) b
-tail_form_is_first i e base v b is f =
-    is_first_as (λ c b. SpellsTail Usual i.kind i.presence base c b v) (λ c b. TailForm Usual i e c b (Some v)) b
-    (λ c o h. (base, is, h))
-    (λ c o h. let same : h.0 ≡ base = ok_is {F = FieldFault} h.0 base (sym h.1 ∙ is) in subst (λ (x : Scalar). SpellsTail Usual i.kind i.presence x c o v) same h.2)
-    f
+tail_form_is_first i e base v b is f = on_base_first (tail_base i e) (λ x c b. SpellsTail Usual i.kind i.presence x c b v) base b is f
 
 pub tail_null_is_first : (i : FieldPart) (e : Entry) (b : List ℕ) → IsShortest (SpellsUnits Usual i.kind i.presence) b Null → IsFirst (λ c b. TailForm Usual i e c b None) b
 tail_null_is_first i e b s = shortest_is_first (λ c b. TailForm Usual i e c b None) b (refl, s.form) (λ c o f. (f.0, s.least o f.1))

@@ -1,7 +1,6 @@
 -- What is chosen for a value is spelled as its best form.
-use Rattle.std.proofs.Common.{◌≡◌, ℕ, ◌-◌, ◌<◌, Bool, true, false, List, [], ◌∷◌, ◌++◌, length, take, drop, refl, ap, subst, ◌∙◌, arith, Ok, Err, Result, length-append}
+use Rattle.std.proofs.Common.{◌≡◌, ℕ, ◌-◌, Bool, true, false, List, [], ◌∷◌, ◌++◌, length, take, drop, refl, ap, subst, ◌∙◌, arith, Ok, Err, Result}
 use Rattle.std.specs.Prelude.{ℤ, pos, negsuc, ◌-ℤ◌, Option, Some, None, IsTrue}
-use Rattle.std.specs.List.{AllByRecursion}
 use Rattle.std.proofs.lemmas.List.{drop_at, take_at}
 use Rattle.fast_wire.specs.declared.level.Level.TheVariants.{Usual}
 use Rattle.fast_wire.specs.Nullable.{IsUnsignedNullable, IsSignedNullable}
@@ -32,7 +31,7 @@ use Rattle.fast_field.specs.Bases.{delta_base, tail_base}
 use Rattle.fast_field.specs.Spelled.{SpellsInteger, SpellsUnits, Spelled}
 use Rattle.fast_field.specs.Deltas.{uncut, put_together, SpellsTail, DeltaValue, DeltaForm, TailForm}
 use Rattle.fast_field.specs.Fields.{FormOf}
-use Rattle.fast_field.specs.Within.{HasRange, HasRangeOr, HoldsScalar}
+use Rattle.fast_field.specs.Within.{HasRangeOr, HoldsScalar}
 use Rattle.fast_field.specs.Best.{IsBest}
 use Rattle.fast_field.specs.Planning.{constant_gives, left_out_of}
 use Rattle.fast_field.specs.Refusals.{operator_refusal, refusal_of}
@@ -46,7 +45,7 @@ use Rattle.fast_field.proofs.BestValues.{left_out, whole_is_first, delta_is_firs
 use Rattle.fast_field.proofs.FieldsWithin.{delta_base_within, unit_kind}
 use Rattle.fast_field.proofs.Shortest.{unsigned_form, signed_form, units_form, pair_form, pair_least}
 use Rattle.fast_field.proofs.StandingForms.{text_of, number_shortest, string_is_shortest, decimal_is_shortest}
-use Rattle.fast_field.proofs.ValuesWithin.{IsOfType, IsString, unit_limit, units_of_string}
+use Rattle.fast_field.proofs.ValuesWithin.{IsOfType, IsString, units_of_string}
 use Rattle.fast_field.proofs.Refused.{few_units}
 
 -- ---- NULL is one byte in every form

@@ -1,7 +1,7 @@
 -- A form at a level is one at the usual level; and a best form has no entity that is longer than it needs to be, so it is
 -- one at the strict level.
 use Rattle.std.proofs.Common.{◌≡◌, ℕ, ◌≤◌, Bool, true, false, List, ◌++◌, length, refl, ap, arith, inl, inr, length-append}
-use Rattle.std.specs.Prelude.{ℤ, pos, negsuc, Option, Some, None}
+use Rattle.std.specs.Prelude.{ℤ, pos, Option, Some, None}
 use Rattle.fast_wire.specs.Level.{BeginsShort, AtLevel, overlong_signed}
 use Rattle.fast_wire.specs.Integer.{IsSigned}
 use Rattle.fast_wire.specs.Writing.{IsShortest}

@@ -1,7 +1,7 @@
 use Rattle.std.proofs.Common.{◌≡◌, ◌+◌, ◌++◌, length, arith, length-append}
 use Rattle.std.proofs.lemmas.Result.{err_from_is_err_and}
 use Rattle.fast_field.specs.Sent.{units_sent}
-use Rattle.fast_field.proofs.PutTogether.{no_memory, no_room, sent_length}
+use Rattle.fast_field.proofs.PutTogether.{no_room, sent_length}
 use Rattle.fast_field.proofs.string.sent_in_front.Goals as goal
 
 pub returns-in_err-units : goal.returns-in_err-units
