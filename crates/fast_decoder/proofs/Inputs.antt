@@ -20,7 +20,7 @@ use Rattle.fast_machine.specs.Following.{IsCutAt, Refused, mode_of}
 use Rattle.fast_stream.specs.Blocks.{Stand, at_start}
 use Rattle.fast_stream.specs.Modes.{CarriesFrom, FirstFault}
 use Rattle.fast_machine.specs.Standing.{Carried}
-use Rattle.fast_decoder.specs.Inputs.{Causes, Follows, HasReached, IsCaused, IsFaultOf, Reader, Reads, RefusedBy, Refuses, Repeats, Stands, waiting_in}
+use Rattle.fast_decoder.specs.Inputs.{Causes, Follows, HasReached, IsCaused, IsFaultOf, OnFault, Reader, Reads, RefusedBy, Refuses, Repeats, Stands, waiting_in}
 use Rattle.fast_machine.proofs.Runs.{carried_of}
 use Rattle.fast_machine.proofs.Followings.{all_carried}
 use Rattle.fast_stream.proofs.Causes.{IsOfBytes, of_mode}
@@ -101,8 +101,10 @@ pub refused_by_turns : (f : Fault) (mode : Mode) (set : List Resolved) (turns : 
 refused_by_turns f mode set turns left bytes messages is cut many =
     record { carried = cut.carried; behind = cut.behind; refused = subst (λ (c : Cause). RefusedBy c mode set turns left bytes f.place) (sym is) (cut.at, many) }
 
-pub caused_by_feed : (f : Fault) (old new : Reader) → (f.cause ≢ cause.Truncated) × (f.cause ≢ cause.Read) × (f.cause ≢ cause.Turns) → IsCaused (reached.Fault f) ⊥ old new
-caused_by_feed f old new of = ((λ e. absurd (of.1 e)), (λ e. absurd (of.0 e)), (λ e. absurd (of.2 e)))
+pub caused_by_feed : (at : Reached) (old new : Reader) → at ≢ reached.End → OnFault at (λ c. (c ≢ cause.Truncated) × (c ≢ cause.Read) × (c ≢ cause.Turns)) → new.errors ≡ old.errors → new.ends ≡ old.ends → IsCaused at ⊥ old new
+caused_by_feed reached.Open old new some of same none = (same, none)
+caused_by_feed reached.End old new some of same none = absurd (some refl)
+caused_by_feed (reached.Fault f) old new some of same none = ((λ e. absurd (of.1 e)), (λ e. absurd (of.0 e)), (λ e. absurd (of.2 e)))
 
 pub caused_by_end : (f : Fault) (old new : Reader) → f.cause ≡ cause.Truncated → new.ends ≡ counted old.ends → IsCaused (reached.Fault f) ⊥ old new
 caused_by_end f old new of met = ((λ e. absurd cc), (λ e. met), (λ e. absurd cc))

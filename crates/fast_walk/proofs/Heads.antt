@@ -1,30 +1,29 @@
 -- How reading goes on from a message's map and identifier to its body.
-use Rattle.std.proofs.Common.{◌≡◌, ℕ, Bool, true, List, [], ◌++◌, length, Option, Some, None, Result, Ok, Err, refl, sym, ap, ◌∙◌}
+use Rattle.std.proofs.Common.{◌≡◌, ℕ, Bool, true, List, [], ◌++◌, length, Option, Some, Result, Ok, Err, refl, sym, ap, ◌∙◌}
 use Rattle.fast_value.specs.declared.scalar.Scalar.{Scalar}
 use Rattle.fast_value.specs.declared.scalar.Scalar.TheVariants.{U32}
 use Rattle.fast_template.specs.Resolved.{Instructions, Resolved, part_needs_bit}
-use Rattle.fast_dictionary.specs.Dictionary.{Dictionary, entry_at}
+use Rattle.fast_dictionary.specs.Dictionary.{Dictionary}
 use Rattle.fast_wire.specs.Reading.{◌>>=◌}
 use Rattle.fast_wire.specs.Level.{IsLeftClear, some_set}
 use Rattle.fast_wire.specs.declared.level.Level.{Level}
 use Rattle.fast_wire.specs.declared.level.Level.TheVariants.{Strict}
 use Rattle.fast_field.specs.declared.fault.FieldFault.{FieldFault}
-use Rattle.fast_field.specs.FieldReading.{field_at}
-use Rattle.fast_stream.specs.declared.fault.Cause.TheVariants.{D9, R8}
+use Rattle.fast_stream.specs.declared.fault.Cause.TheVariants.{R8}
 use Rattle.fast_stream.specs.Nodes.{Items, node_limit}
 use Rattle.fast_stream.specs.Bits.{bit_for, after_bit}
 use Rattle.fast_stream.specs.Streams.{members_of, identifier}
-use Rattle.fast_stream.specs.Faults.{Stop, cause_of_field}
+use Rattle.fast_stream.specs.Faults.{Stop}
 use Rattle.fast_stream.specs.Reading.{Cursor, Reads, field_part_at, own_map_at, body_at, named_at, head_at, closing, message_at, in_template}
 use Rattle.fast_walk.specs.OpenSegments.{Reading, body_on, cursor, ended_on, message_of, named_on}
 use Rattle.fast_walk.specs.Received.{Took}
 use Rattle.fast_walk.specs.Traversals.{identifier_on}
-use Rattle.fast_walk.proofs.Steps.{part_goes, part_stops, closed_on, from_none, end_passes, clear_goes, set_stops, with_none}
+use Rattle.fast_walk.proofs.Steps.{part_goes, closed_on, from_none, end_passes, clear_goes, set_stops}
 
-abbrev value_read : Option Scalar → List ℕ → Result (Option Scalar × List ℕ) FieldFault
+abbrev pub value_read : Option Scalar → List ℕ → Result (Option Scalar × List ℕ) FieldFault
 value_read v rest = Ok (v, rest)
 
-abbrev own_bit : List Bool → Bool
+abbrev pub own_bit : List Bool → Bool
 own_bit bits = bit_for (part_needs_bit identifier) bits
 
 module _ (level : Level) where
@@ -47,16 +46,6 @@ module _ (level : Level) where
       → identifier_on level set d bits (bytes ++ more) ≡ message_of level id (body_on level (record { rest = members; done = [] }) (cursor e (after_bit (part_needs_bit identifier) bits) node_limit (rest ++ more)))
   identifier_goes set d e bits bytes rest more id members took named =
       rw (part_goes level identifier d bits node_limit (bytes ++ more) (rest ++ more) (Some (U32 id)) (took.value more), named, took.entry) (begins id members _)
-
-  pub identifier_stops : (set : List Resolved) (d : Dictionary) (bits : List Bool) (bytes : List ℕ) (f : FieldFault) → field_at level identifier (entry_at d identifier.key) (own_bit bits) bytes ≡ Err f
-      → identifier_on level set d bits bytes ≡ Err (record { template = 0; stop = record { cause = cause_of_field f; instruction = 0; left = length bytes } })
-  identifier_stops set d bits bytes f h = rw (part_stops level identifier d bits node_limit bytes f h) refl
-
-  pub unknown_stops : (set : List Resolved) (d e : Dictionary) (bits : List Bool) (bytes rest : List ℕ) (id : ℕ) → Took level identifier (own_bit bits) d e (Some (U32 id)) bytes rest → members_of set id ≡ None
-      → identifier_on level set d bits bytes ≡ Err (record { template = 0; stop = record { cause = D9; instruction = 0; left = length bytes } })
-  unknown_stops set d e bits bytes rest id took none =
-      let value = with_none (field_at level identifier (entry_at d identifier.key) (own_bit bits)) (value_read (Some (U32 id))) bytes rest took.value in
-      rw (part_goes level identifier d bits node_limit bytes rest (Some (U32 id)) value, none) refl
 
   -- the end of a message
   pub content_goes : (id : ℕ) (ns : Items) (c : Cursor) → IsLeftClear level c.bits → message_of level id (Ok (ns, c)) ≡ Ok (record { template = id; items = ns }, c.dictionary, c.bytes)

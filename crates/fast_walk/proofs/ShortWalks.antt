@@ -16,7 +16,7 @@ use Rattle.fast_stream.specs.Reading.{Cursor, Reads, field_part_at, decimal_of, 
 use Rattle.fast_walk.specs.OpenSegments.{Body, Inside, in_group, in_sequence, Waiting, ended_on, Next, at_instruction, at_mantissa, at_element, Sequel, body_on, elements_on, top_on, behind_inside, all_around, cursor}
 use Rattle.fast_walk.specs.Received.{Received, moved, opened}
 use Rattle.fast_walk.specs.Traversals.{identifier_on, stop_of}
-use Rattle.fast_walk.specs.Walks.{IsAt, HaltsAs, bare, bare_next, bare_inside, next_of, inside_of, frame_of}
+use Rattle.fast_walk.specs.Walks.{HaltsAs, bare, bare_next, bare_inside, next_of, inside_of, frame_of}
 use Rattle.fast_walk.specs.declared.walk.Next.{Next as NextNow}
 use Rattle.fast_walk.specs.declared.walk.Next.TheVariants as next
 use Rattle.fast_walk.specs.declared.walk.Inside.{Inside as InsideNow}
@@ -41,9 +41,6 @@ frames_are_bare (f ∷ fs) = rw (inside_is_bare f.inside, frames_are_bare fs) re
 
 abbrev something : WalkNow → Received
 something w = moved (opened [] [] 0 no_instructions finite.empty) (next_of w.next) (record { rest = list_of w.rest.now; done = [] }) (map frame_of w.around.items)
-
-is_at_something : (w : WalkNow) → IsAt w (something w)
-is_at_something w = record { next = next_is_bare w.next; rest = refl; around = frames_are_bare w.around.items }
 
 -- ---- places
 
@@ -90,7 +87,7 @@ module _ (level : Level) where
   walk_few w d bytes h halts t =
       let o = something w in
       all_short o.around (top_on level o.next o.body (cursor d w.bits w.spare bytes)) (top_short o.next o.body (cursor d w.bits w.spare bytes))
-      (record { cause = h.cause; instruction = h.number; left = length bytes }) (halts o (is_at_something w)) t
+      (record { cause = h.cause; instruction = h.number; left = length bytes }) (halts o (record { next = next_is_bare w.next; rest = refl; around = frames_are_bare w.around.items })) t
 
   -- ---- messages
 

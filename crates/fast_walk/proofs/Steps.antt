@@ -235,10 +235,6 @@ module _ (level : Level) where
       let one : s.left ≡ suc (s.left - 1) = omega (arith, some) in
       ap (λ (m : ℕ). elements_on level (record { number = s.number; own_map = s.own_map; members = s.members; left = m; done = s.done }) b c) one
 
-  -- no element more
-  pub no_more_goes : (s : Sequel) (b : Body) (c : Cursor) → s.left ≡ 0 → elements_on level s b c ≡ body_on level (with_item b (sequence_elements (elements_of s.done))) c
-  no_more_goes s b c is = rw is (ap (λ (es : Elements). body_on level (with_item b (sequence_elements es)) c) (elements_before-end s.done))
-
   -- the end of the message's own body
   pub whole_goes : (done : List Item) (c : Cursor) → body_on level (record { rest = no_instructions; done = done }) c ≡ Ok (items_of done, c)
   whole_goes done c = ap (λ (ns : Items). Ok (ns, c)) (items_before-end done)

@@ -12,7 +12,7 @@ use Rattle.fast_wire.specs.declared.level.Level.{Level}
 use Rattle.fast_wire.specs.declared.level.Level.TheVariants.{Strict}
 use Rattle.fast_stream.specs.declared.fault.Cause.TheVariants.{R8}
 use Rattle.fast_dictionary.specs.Dictionary.{Dictionary}
-use Rattle.fast_stream.specs.Nodes.{single, Items, items_of, sequence_elements, elements_of}
+use Rattle.fast_stream.specs.Nodes.{single, Elements, Items, items_of, sequence_elements, elements_of}
 use Rattle.fast_stream.specs.Faults.{Stop}
 use Rattle.fast_stream.specs.Reading.{Cursor, Reads, node_at, field_part_at, own_map_at, piece_at, stopped}
 use Rattle.fast_walk.specs.OpenSegments.{Body, Sequel, Waiting, Inside, in_group, in_sequence, Next, at_instruction, at_mantissa, at_element, with_item, with_element, cursor, fewer, under_bits, body_on, mantissa_on, top_on, behind_inside, all_around}
@@ -25,7 +25,7 @@ use Rattle.fast_walk.specs.declared.walk.Sequel.{Sequel as SequelNow}
 use Rattle.fast_walk.specs.declared.walk.Walk.{Walk as WalkNow}
 use Rattle.std.proofs.Math.Seq.{get_or-append_seam, set-append_seam}
 use Rattle.std.proofs.Common.{length-append}
-use Rattle.fast_walk.proofs.Steps.{after_piece, all_around-more, all_around-stops, count_goes, end_goes, end_stops, items_on, no_more_goes, set_stops, some_left, whole_goes}
+use Rattle.fast_walk.proofs.Steps.{after_piece, all_around-more, elements_before-end, all_around-stops, count_goes, end_goes, end_stops, items_on, set_stops, some_left, whole_goes}
 use Rattle.fast_walk.proofs.Steps.{element_on as element_around_on}
 
 -- ---- what is next
@@ -244,7 +244,7 @@ module _ (level : Level) where
 
   pub no_more_on : (ws : List Waiting) (n : Next) (b : Body) (s : Sequel) (c : Cursor) → n ≡ at_element s → s.left ≡ 0
       → all_around level ws (top_on level n b c) ≡ all_around level ws (body_on level (with_item b (sequence_elements (elements_of s.done))) c)
-  no_more_on ws n b s c next none = ap (λ (n : Next). all_around level ws (top_on level n b c)) next ∙ ap (λ (r : Reads Items). all_around level ws r) (no_more_goes level s b c none)
+  no_more_on ws n b s c next none = rw (next, none) (ap (λ (es : Elements). all_around level ws (body_on level (with_item b (sequence_elements es)) c)) (elements_before-end s.done))
 
   -- ---- the end of a segment
 

@@ -1,3 +1,4 @@
+use Rattle.fast_decoder.specs.declared.input.Reached.TheVariants as reached
 use Rattle.std.proofs.Common.{ℕ, ◌<◌, ◌++◌, [], take, refl, arith, append-nil, length-append, length-take}
 use Rattle.fast_decoder.specs.Calls.{reader_of}
 use Rattle.fast_decoder.specs.Inputs.{Reader, reader_by, waiting_in}
@@ -72,7 +73,7 @@ returns-in-Err-fed-clause-reads g c =
           let refused = (rw (c.in-Err-fed.ensures.answer) at e.2.at).0 in
           rw (c.requires.reached, same) (
             refused_by_bytes f _ _ c.args.self.now.turns _ _ _ (λ is. absurd (more is)) refused,
-            caused_by_feed f (reader_of c.args.self.now) (read_by g c.pull.new.self) (of_bytes f _ _ _ refused.2 more),
+            caused_by_feed (reached.Fault f) (reader_of c.args.self.now) (read_by g c.pull.new.self) (λ e. absurd cc) (of_bytes f _ _ _ refused.2 more) p.error (p.end.1 some),
           );
     }
 

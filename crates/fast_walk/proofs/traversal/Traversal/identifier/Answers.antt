@@ -9,8 +9,12 @@ use Rattle.fast_stream.specs.Faults.{cause_of_field}
 use Rattle.fast_walk.specs.OpenSegments.{message_of}
 use Rattle.fast_walk.specs.Received.{opened}
 use Rattle.fast_walk.specs.Walks.{next_of, reads_on, frame_of}
-use Rattle.fast_walk.proofs.Heads.{identifier_goes, unknown_stops}
-use Rattle.fast_walk.proofs.Heads.{identifier_stops as part_stops}
+use Rattle.fast_walk.proofs.Heads.{identifier_goes, own_bit, value_read}
+use Rattle.fast_walk.proofs.Steps.{part_goes, part_stops, with_none}
+use Rattle.fast_field.specs.FieldReading.{field_at}
+use Rattle.fast_dictionary.specs.Dictionary.{entry_at}
+use Rattle.fast_stream.specs.Nodes.{node_limit}
+use Rattle.fast_stream.specs.Streams.{identifier}
 use Rattle.fast_walk.proofs.Messages.{identifier_stops}
 use Rattle.fast_walk.proofs.Serving.{found_members, members_served}
 use Rattle.fast_value.specs.declared.kind.Kind.TheVariants as kind
@@ -31,9 +35,13 @@ returns-in-Err-clause-reads g c =
     let stops = c.in-Err.ensures.stops in
     let field = λ (other : c.part_halt.result.cause ≢ Memory) (e : c.in-Err.fault ≡ FieldMemory). other (c.part_halt.ensures.cause ∙ ap cause_of_field e) in
     identifier_stops c.requires.stage c.requires.place c.requires.can c.begin.ensures.same_keys c.begin.ensures.keeps
-    (λ other. rw (c.part_halt.ensures.cause, c.part_halt.ensures.number, old.identifier_is)
-    (part_stops old.level (templates_in old.set.now) d old.walk.bits (drop c.args.at c.args.bytes.now) c.in-Err.fault
-    (rw (c.level-level.ensures, c.first_for-bit.ensures, c.part_needs_bit-needs.ensures, old.identifier_is) at (stops (field other)).0)))
+    (λ other. rw (
+      c.part_halt.ensures.cause,
+      c.part_halt.ensures.number,
+      old.identifier_is,
+      part_stops old.level identifier d old.walk.bits node_limit (drop c.args.at c.args.bytes.now) c.in-Err.fault
+          (rw (c.level-level.ensures, c.first_for-bit.ensures, c.part_needs_bit-needs.ensures, old.identifier_is) at (stops (field other)).0),
+    ) refl)
     (λ wanted. let f = stops (field (want_of_bytes c.part_halt.result.cause wanted)) in (f.1, f.2))
 
 pub returns-in-None-clause-reads : goal.returns-in-None-clause-reads
@@ -44,7 +52,10 @@ returns-in-None-clause-reads g c =
     let took = rw (c.level-level.ensures, c.first_for-bit.ensures, c.part_needs_bit-needs.ensures, old.identifier_is) at c.in-Ok.ensures.goes.0 in
     let none = found_members old.set.now c.in-Ok.id ∙ ap members_found (sym (rw (c.in-None.is) at c.find.ensures.value)) in
     identifier_stops c.requires.stage c.requires.place c.requires.can c.begin.ensures.same_keys c.begin.ensures.keeps
-    (λ other. rw (c.new.ensures.cause, c.new.ensures.number) (unknown_stops old.level (templates_in old.set.now) d e old.walk.bits (drop c.args.at c.args.bytes.now) (drop c.in-Ok.next c.args.bytes.now) c.in-Ok.id took none))
+    (λ other.
+    let bytes = drop c.args.at c.args.bytes.now in
+    let value = with_none (field_at old.level identifier (entry_at d identifier.key) (own_bit old.walk.bits)) (value_read (Some (U32 c.in-Ok.id))) bytes (drop c.in-Ok.next c.args.bytes.now) took.value in
+    rw (c.new.ensures.cause, c.new.ensures.number, part_goes old.level identifier d old.walk.bits node_limit bytes (drop c.in-Ok.next c.args.bytes.now) (Some (U32 c.in-Ok.id)) value, none) refl)
     (λ wanted. let k : D9 ≡ Truncated = sym c.new.ensures.cause ∙ wanted in absurd cc)
 
 pub returns-in-Some-clause-reads : goal.returns-in-Some-clause-reads
