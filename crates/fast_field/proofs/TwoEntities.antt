@@ -34,10 +34,10 @@ use Rattle.fast_field.proofs.OneEntity as one
 
 -- ---- one reading and then another
 
-first : {A B : Type 0} (r s : Result A FieldFault) (k : A → Result B FieldFault) → r ≡ s → (r >>= k) ≡ (s >>= k)
+pub first : {A B : Type 0} (r s : Result A FieldFault) (k : A → Result B FieldFault) → r ≡ s → (r >>= k) ≡ (s >>= k)
 first r s k same = rw same refl
 
-after : {A B : Type 0} (r : Result A FieldFault) (k l : A → Result B FieldFault) → ((x : A) → k x ≡ l x) → (r >>= k) ≡ (r >>= l)
+pub after : {A B : Type 0} (r : Result A FieldFault) (k l : A → Result B FieldFault) → ((x : A) → k x ≡ l x) → (r >>= k) ≡ (r >>= l)
 after (Ok x) k l h = h x
 after (Err f) k l h = refl
 
@@ -45,7 +45,7 @@ null : {A : Type 0} (z : Nullable A) (rest : List ℕ) (f g : A → List ℕ →
 null Null rest f g h = refl
 null (Value a) rest f g h = h a
 
-behind : {A : Type 0} (s u : Result (Nullable A × List ℕ) FieldFault) (z : Nullable A) (rest : List ℕ) (f g : A → List ℕ → Result (Option Scalar × List ℕ) FieldFault) → s ≡ u → u ≡ Ok (z, rest)
+pub behind : {A : Type 0} (s u : Result (Nullable A × List ℕ) FieldFault) (z : Nullable A) (rest : List ℕ) (f g : A → List ℕ → Result (Option Scalar × List ℕ) FieldFault) → s ≡ u → u ≡ Ok (z, rest)
     → ((a : A) → f a rest ≡ g a rest) → (s >>= λ x. unless_null x f) ≡ (u >>= λ x. unless_null x g)
 behind s u z rest f g same is h = rw same (rw is (null z rest f g h))
 

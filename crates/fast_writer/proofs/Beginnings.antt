@@ -9,7 +9,7 @@ use Rattle.fast_wire.specs.Reading.{◌>>=◌, entity_at, signed_at, signed_null
 use Rattle.fast_wire.specs.declared.fault.WireFault.{WireFault}
 use Rattle.fast_wire.specs.declared.level.Level.TheVariants.{Usual, Strict}
 use Rattle.fast_wire.specs.declared.nullable.Nullable.{Nullable}
-use Rattle.fast_wire.specs.declared.nullable.Nullable.TheVariants.{Null, Value}
+use Rattle.fast_wire.specs.declared.nullable.Nullable.TheVariants.{Value}
 use Rattle.fast_value.specs.Scalar.{exponent_in_range}
 use Rattle.fast_value.specs.declared.kind.Kind.{Kind}
 use Rattle.fast_value.specs.declared.kind.Kind.TheVariants as kind
@@ -31,6 +31,7 @@ use Rattle.fast_field.specs.Spelled.{overlong_number}
 use Rattle.fast_field.specs.Values.{is_unsigned, exponent_of}
 use Rattle.fast_field.proofs.LevelsAgree.{integer_starts, mantissa_starts}
 use Rattle.fast_field.proofs.OneEntity as one
+use Rattle.fast_field.proofs.TwoEntities.{after, behind, first}
 use Rattle.fast_writer.specs.Beginnings.{BeginsField, BeginsShort, BeginsShortBehind, BeginsNumber}
 
 -- ---- judging an entity that begins with two such bytes changes nothing
@@ -59,20 +60,6 @@ integer u p b c cs short = judging u fault.R6 b c cs (integer_usually_at u p (b 
 
 mantissa_entity : (b c : ℕ) (cs : List ℕ) → overlong_number false (b ∷ c ∷ []) ≡ false → mantissa_entity_at Strict (b ∷ c ∷ cs) ≡ mantissa_entity_at Usual (b ∷ c ∷ cs)
 mantissa_entity b c cs short = judging false fault.R6 b c cs (in_field (signed_at (b ∷ c ∷ cs))) short (mantissa_starts (b ∷ c ∷ cs))
-
--- ---- one reading and then another
-
-first : {A B : Type 0} (r s : Result A FieldFault) (k : A → Result B FieldFault) → r ≡ s → (r >>= k) ≡ (s >>= k)
-first r s k same = rw same refl
-
-after : {A B : Type 0} (r : Result A FieldFault) (k l : A → Result B FieldFault) → ((x : A) → k x ≡ l x) → (r >>= k) ≡ (r >>= l)
-after (Ok x) k l h = h x
-after (Err f) k l h = refl
-
-behind : {A : Type 0} (s u : Result (Nullable A × List ℕ) FieldFault) (z : Nullable A) (rest : List ℕ) (f g : A → List ℕ → Result (Option Scalar × List ℕ) FieldFault) → s ≡ u → u ≡ Ok (z, rest)
-    → ((a : A) → f a rest ≡ g a rest) → (s >>= λ x. unless_null x f) ≡ (u >>= λ x. unless_null x g)
-behind s u Null rest f g same is h = rw same (rw is refl)
-behind s u (Value a) rest f g same is h = rw same (rw is (h a))
 
 -- ---- the exponent of one byte
 
