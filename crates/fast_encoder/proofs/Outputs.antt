@@ -1,5 +1,5 @@
 -- What is written to a writer, and of which messages it is.
-use Rattle.std.proofs.Common.{◌≡◌, ℕ, List, [], ◌∷◌, ◌++◌, refl, ap, ◌∙◌, append_assoc, append-nil, sym, subst}
+use Rattle.std.proofs.Common.{◌≡◌, ℕ, List, [], ◌∷◌, ◌++◌, refl, ap, ◌∙◌, append_assoc, append-nil, sym}
 use Rattle.std.specs.FinMap as map
 use Rattle.fast_template.specs.Resolved.{Resolved}
 use Rattle.fast_dictionary.specs.Dictionary.{Dictionary}
@@ -11,9 +11,9 @@ use Rattle.fast_writer.proofs.Writers.{canon_more}
 -- ---- messages
 
 -- one message more
-pub sent_more : (set : List Resolved) (runs : List (List Content)) (messages : List Content) (m : Content) (sent bytes : List ℕ) (d e : Dictionary)
+pub sent_more : {set : List Resolved} {runs : List (List Content)} {messages : List Content} {m : Content} {sent bytes : List ℕ} {d e : Dictionary}
     → AreSent set runs messages sent d → CanonMessage set d bytes m e → AreSent set runs (messages ++ m ∷ []) (sent ++ bytes) e
-sent_more set runs messages m sent bytes d e s form = record {
+sent_more {set} {messages = messages} {m} {bytes = bytes} {d} {e} s form = record {
   before = s.before;
   now = s.now ++ bytes;
   parts = ap (λ (l : List ℕ). l ++ bytes) s.parts ∙ append_assoc s.before s.now bytes;
@@ -22,10 +22,9 @@ sent_more set runs messages m sent bytes d e s form = record {
 }
 
 -- of which the last bytes are not out
-pub sent_part : (set : List Resolved) (runs : List (List Content)) (messages : List Content) (m : Content) (sent bytes front rest : List ℕ) (d e : Dictionary) → bytes ≡ front ++ rest
+pub sent_part : {set : List Resolved} {runs : List (List Content)} {messages : List Content} {m : Content} {sent bytes : List ℕ} {d e : Dictionary} (front rest : List ℕ) → bytes ≡ front ++ rest
     → AreSent set runs messages sent d → CanonMessage set d bytes m e → AreSent set runs (messages ++ m ∷ []) ((sent ++ front) ++ rest) e
-sent_part set runs messages m sent bytes front rest d e parts s form =
-    subst (λ (l : List ℕ). AreSent set runs (messages ++ m ∷ []) l e) (ap (λ (l : List ℕ). sent ++ l) parts ∙ sym (append_assoc sent front rest)) (sent_more set runs messages m sent bytes d e s form)
+sent_part {sent = sent} front rest parts s form = rw (append_assoc sent front rest, sym parts) (sent_more s form)
 
 runs_more : (set : List Resolved) (runs : List (List Content)) (messages : List Content) (before now : List ℕ) → CanonRuns set runs before → IsCanonical set messages now → CanonRuns set (runs ++ messages ∷ []) (before ++ now)
 runs_more set [] messages before now h k = (now, [], ap (λ (l : List ℕ). l ++ now) h ∙ sym (append-nil now), k, refl)

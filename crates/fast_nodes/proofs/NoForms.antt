@@ -89,10 +89,8 @@ record PassesWhole (judged : Result Dictionary EncodeFault) (after : Dictionary)
   holds : HoldScalars after
 
 -- It is also of its shape, and not too large.
-record Allowed (fits large : Bool) (P : Type 0) : Type 0 where
-  shape : fits ≡ true
-  size : large ≡ false
-  passes : P
+abbrev Allowed : Bool → Bool → Type 0 → Type 0
+Allowed fits large P = (fits ≡ true) × (large ≡ false) × P
 
 passes_then : {p q : State → Result State EncodeFault} {s u t : State} → Passes p s u → Passes q u t → Passes (λ x. p x >>= λ y. q y) s t
 passes_then {s = s} {u = u} {t = t} h k = record {
@@ -140,10 +138,10 @@ segment_allowed : (fits large has : Bool) (Inside : State → List ℕ → State
     → SegmentBy (MapAt Usual) has Inside d b after → Allowed fits large (PassesWhole (segment_judged has judge d) after)
 segment_allowed fits large true Inside judge d b after holds inside m =
     let k = inside (state d m.bits) m.body (state after m.left) holds m.inside in
-    record { shape = k.shape; size = k.size; passes = with_map_passes Inside judge d b after m k.passes }
+    (k.0, k.1, with_map_passes Inside judge d b after m k.2)
 segment_allowed fits large false Inside judge d b after holds inside h =
     let k = inside (state d []) b (state after []) holds h in
-    record { shape = k.shape; size = k.size; passes = record { is = rw (k.passes.judged []) refl; holds = k.passes.holds } }
+    (k.0, k.1, record { is = rw (k.2.judged []) refl; holds = k.2.holds })
 
 -- ---- instructions
 
@@ -187,59 +185,47 @@ mutual
       → Allowed (item_fits i n) (item_is_large n) (Passes (λ u. item_judged i n u) s t)
   piece_allowed (whole_field name number presence whole) is (single v) few s b t holds h =
       let r = value_allowed whole v (part_value whole v s b t is holds h) in
-      record { shape = r.0; size = r.1; passes = part_passes whole v s b t is holds h }
+      (r.0, r.1, part_passes whole v s b t is holds h)
   piece_allowed (field_in_parts name number presence exponent mantissa) is (single None) few s b t holds h =
-      record { shape = rw (part_value exponent None s b t is.0 holds h) refl; size = refl; passes = part_passes exponent None s b t is.0 holds h }
+      (rw (part_value exponent None s b t is.0 holds h) refl, refl, part_passes exponent None s b t is.0 holds h)
   piece_allowed (field_in_parts name number presence exponent mantissa) is (single (Some (Decimal e m))) few s b t holds h =
       let first = part_passes exponent (Some (I32 e)) s h.front h.between is.0 holds h.first in
       let second = part_passes mantissa (Some (I64 m)) h.between h.back t is.1 first.holds h.second in
-      record { shape = refl; size = refl; passes = passes_then first second }
+      (refl, refl, passes_then first second)
   piece_allowed (group_of name number presence members) is (single None) few s b t holds h =
-      record { shape = left_out_optional presence s.bits h.0; size = refl; passes = group_passes presence false (λ d. Ok d) s t h.0 (ap (λ t. t.bits) h.2) (same_passes (ap (λ t. t.dictionary) h.2) holds) }
+      (left_out_optional presence s.bits h.0, refl, group_passes presence false (λ d. Ok d) s t h.0 (ap (λ t. t.bits) h.2) (same_passes (ap (λ t. t.dictionary) h.2) holds))
   piece_allowed (group_of name number presence members) is (group_items ns) few s b t holds h =
       let k = segment_allowed (items_fit members ns) (has_large ns) (has_map members) (λ u x v. BodyBy (Form Usual) (MapAt Usual) members u x ns v) (λ u. items_judged members ns u) s.dictionary b t.dictionary holds
       (λ u x v inner o. body_allowed members is ns (omega (arith, few)) u x v inner o) h.2 in
-      record { shape = k.shape; size = k.size; passes = group_passes presence true (λ d. segment_judged (has_map members) (λ u. items_judged members ns u) d) s t h.0 h.1 k.passes }
+      (k.0, k.1, group_passes presence true (λ d. segment_judged (has_map members) (λ u. items_judged members ns u) d) s t h.0 h.1 k.2)
   piece_allowed (sequence_of name number presence length members) is (single None) few s b t holds h =
-      record { shape = rw (part_value length None s b t is.0 holds h) refl; size = refl; passes = part_passes length None s b t is.0 holds h }
+      (rw (part_value length None s b t is.0 holds h) refl, refl, part_passes length None s b t is.0 holds h)
   piece_allowed (sequence_of name number presence length members) is (sequence_elements es) few s b t holds h =
       let count : Option Scalar = Some (U32 (element_count es)) in
       let first = part_passes length count s h.front h.between is.0 holds h.first in
       let k = elements_allowed members is.1 es (omega (arith, few)) h.between.dictionary h.back t.dictionary first.holds h.second.1 in
-      record {
-        shape = k.shape;
-        size = sequence_small es few k.size;
-        passes = passes_then first (elements_pass (λ d. elements_judged members es d) h.between t h.second.0 k.passes);
-      }
+      (k.0, sequence_small es few k.1, passes_then first (elements_pass (λ d. elements_judged members es d) h.between t h.second.0 k.2))
   piece_allowed i is n few s b t holds h = absurd h
 
   body_allowed : (members : Instructions) → EachPartIn IsFieldPart members → (ns : Items) → nodes_in ns ≤ 65536 → (s : State) (b : List ℕ) (t : State) → HoldScalars s.dictionary → BodyBy (Form Usual) (MapAt Usual) members s b ns t
       → Allowed (items_fit members ns) (has_large ns) (Passes (λ u. items_judged members ns u) s t)
   body_allowed no_instructions is no_items few s b t holds h =
-      record { shape = refl; size = refl; passes = elements_pass (λ d. Ok d) s t (ap (λ t. t.bits) h.1) (same_passes (ap (λ t. t.dictionary) h.1) holds) }
+      (refl, refl, elements_pass (λ d. Ok d) s t (ap (λ t. t.bits) h.1) (same_passes (ap (λ t. t.dictionary) h.1) holds))
   body_allowed (then_instruction i is) are (then_item n ns) few s b t holds h =
       let first = piece_allowed i are.0 n (omega (arith, few)) s h.front h.between holds h.first in
-      let second = body_allowed is are.1 ns (omega (arith, few)) h.between h.back t first.passes.holds h.second in
-      record {
-        shape = rw (first.shape, second.shape) refl;
-        size = rw (first.size, second.size) refl;
-        passes = passes_then first.passes second.passes;
-      }
+      let second = body_allowed is are.1 ns (omega (arith, few)) h.between h.back t first.2.holds h.second in
+      (rw (first.0, second.0) refl, rw (first.1, second.1) refl, passes_then first.2 second.2)
   body_allowed members is ns few s b t holds h = absurd h
 
   elements_allowed : (members : Instructions) → EachPartIn IsFieldPart members → (es : Elements) → nodes_in_elements es ≤ 65536 → (d : Dictionary) (b : List ℕ) (after : Dictionary) → HoldScalars d → Each (Segments members) d b es after
       → Allowed (elements_fit members es) (has_large_in es) (PassesWhole (elements_judged members es d) after)
   elements_allowed members is no_elements few d b after holds h =
-      record { shape = refl; size = refl; passes = same_passes h.1 holds }
+      (refl, refl, same_passes h.1 holds)
   elements_allowed members is (then_element ns es) few d b after holds h =
       let first = segment_allowed (items_fit members ns) (has_large ns) (has_map members) (λ u x v. BodyBy (Form Usual) (MapAt Usual) members u x ns v) (λ u. items_judged members ns u) d h.front h.between holds
       (λ u x v inner o. body_allowed members is ns (omega (arith, few)) u x v inner o) h.first in
-      let second = elements_allowed members is es (omega (arith, few)) h.between h.back after first.passes.holds h.second in
-      record {
-        shape = rw (first.shape, second.shape) refl;
-        size = rw (first.size, second.size) refl;
-        passes = record { is = rw (first.passes.is) second.passes.is; holds = second.passes.holds };
-      }
+      let second = elements_allowed members is es (omega (arith, few)) h.between h.back after first.2.holds h.second in
+      (rw (first.0, second.0) refl, rw (first.1, second.1) refl, record { is = rw (first.2.is) second.2.is; holds = second.2.holds })
 
 -- ---- messages
 
@@ -254,9 +240,9 @@ no_refusal (Some members) d m b after parts holds few h =
     let o = h.inside in
     let first = part_passes identifier id (state d h.bits) o.front o.between identifier_is holds o.first in
     let second = body_allowed members (parts members refl) m.items few o.between o.back (state after h.left) first.holds o.second in
-    let all = passes_then first second.passes in
+    let all = passes_then first second.2 in
     let whole = with_map_passes (MessageStandsBy (Some members) m) (λ s. part_judged identifier s id >>= λ u. items_judged members m.items u) d b after h all in
-    let fits : whole_refusal members m.items ≡ None = rw (second.shape, le-ltb 65536 (nodes_in m.items) few, second.size) refl in
+    let fits : whole_refusal members m.items ≡ None = rw (second.0, le-ltb 65536 (nodes_in m.items) few, second.1) refl in
     rw (fits, whole.is) refl
 
 -- what is refused has no form

@@ -63,28 +63,19 @@ within_pop form g (v ∷ ws) w J c = (c.0, c.1, within_pop form c.0 ws w J c.2)
 abbrev pub begun : Line → Instructions → Opening
 begun k members = record { start = k.text; led = false; members = members }
 
-new_segment : (form : Form) (k : Line) (members : Instructions) → k.led ≡ false → Tells form (begun k members) k (record { rest = members; done = [] })
+pub new_segment : (form : Form) (k : Line) (members : Instructions) → k.led ≡ false → Tells form (begun k members) k (record { rest = members; done = [] })
 new_segment form k members led = record { so_far = λ ns. rw (led) refl }
 
 -- a text in braces, behind a label or a space
 in_braces : (x a t : List ℕ) → (x ++ (a ++ codes "{")) ++ (t ++ codes "}") ≡ x ++ (a ++ (codes "{" ++ t ++ codes "}"))
 in_braces x a t = append_assoc x (a ++ codes "{") (t ++ codes "}") ∙ ap (λ y. x ++ y) (append_assoc a (codes "{") (t ++ codes "}"))
 
-group_waits : (form : Form) (g : Opening) (l k : Line) (b : Body) (name : List ℕ) (number : ℕ) (presence : Presence) (members is : Instructions) (bits : List Bool)
+pub group_waits : (form : Form) (g : Opening) (l k : Line) (b : Body) (name : List ℕ) (number : ℕ) (presence : Presence) (members is : Instructions) (bits : List Bool)
     → b.rest ≡ then_instruction (group_of name number presence members) is → k.text ≡ l.text ++ ((lead form l.led ++ label_text form name) ++ codes "{")
     → Tells form g l b → Waits form g (record { bits = bits; number = number; body = record { rest = is; done = b.done }; inside = in_group }) (begun k members)
 group_waits form g l k b name number presence members is bits first told t ns text there =
     item_told form g l (behind_brace k.text text) (group_of name number presence members) is b.done (group_items ns) (codes "{" ++ text ++ codes "}") (ap braced there)
     (ap (λ x. x ++ (text ++ codes "}")) told ∙ in_braces l.text (lead form l.led ++ label_text form name) text) refl (body_is form g l b _ first t)
-
-pub group_entered : (form : Form) (g : Opening) (ws : List Waiting) (l k : Line) (b : Body) (name : List ℕ) (number : ℕ) (presence : Presence) (members is : Instructions) (bits : List Bool)
-    → b.rest ≡ then_instruction (group_of name number presence members) is → k.text ≡ l.text ++ ((lead form l.led ++ label_text form name) ++ codes "{") → k.led ≡ false
-    → Within form g ws (λ h. Tells form h l b)
-    → Within form g (ws ++ record { bits = bits; number = number; body = record { rest = is; done = b.done }; inside = in_group } ∷ []) (λ h. Tells form h k (record { rest = members; done = [] }))
-group_entered form g ws l k b name number presence members is bits first told led c =
-    let w : Waiting = record { bits = bits; number = number; body = record { rest = is; done = b.done }; inside = in_group } in
-    let J : Opening → Type 0 = λ h. Tells form h k (record { rest = members; done = [] }) in
-    within_push form g ws w J (within_on form g ws (λ h. Tells form h l b) (Inner form w J) (λ h t. (begun k members, group_waits form h l k b name number presence members is bits first told t, new_segment form k members led)) c)
 
 -- ---- the end of a segment
 
@@ -141,7 +132,7 @@ element_behind x a t (Some s) (Some u) =
     ∙ sym (append_assoc x e ((s ++ codes "]") ++ u))
     ∙ ap (λ y. y ++ ((s ++ codes "]") ++ u)) (sym (append_assoc x (a ++ codes "{") (t ++ codes "}") ∙ ap (λ y. x ++ y) (append_assoc a (codes "{") (t ++ codes "}")))))
 
-element_waits : (form : Form) (g : Opening) (l k : Line) (b : Body) (s : Sequel) (bits : List Bool) → k.text ≡ l.text ++ (lead form l.led ++ codes "{")
+pub element_waits : (form : Form) (g : Opening) (l k : Line) (b : Body) (s : Sequel) (bits : List Bool) → k.text ≡ l.text ++ (lead form l.led ++ codes "{")
     → TellsElements form g l b s → Waits form g (record { bits = bits; number = s.number; body = b; inside = in_sequence (fewer s) }) (begun k s.members)
 element_waits form g l k b s bits told t ns text there = record {
   so_far = λ es more.
@@ -153,11 +144,3 @@ element_waits form g l k b s bits told t ns text there = record {
       ∙ element_behind l.text (lead form l.led) text o r
       ∙ ap (λ x. behind_text (x ++ (text ++ codes "}")) (joined (option_map (λ y. y ++ codes "]") o) r)) (sym told);
 }
-
-pub element_entered : (form : Form) (g : Opening) (ws : List Waiting) (l k : Line) (b : Body) (s : Sequel) (bits : List Bool) → k.text ≡ l.text ++ (lead form l.led ++ codes "{") → k.led ≡ false
-    → Within form g ws (λ h. TellsElements form h l b s)
-    → Within form g (ws ++ record { bits = bits; number = s.number; body = b; inside = in_sequence (fewer s) } ∷ []) (λ h. Tells form h k (record { rest = s.members; done = [] }))
-element_entered form g ws l k b s bits told led c =
-    let w : Waiting = record { bits = bits; number = s.number; body = b; inside = in_sequence (fewer s) } in
-    let J : Opening → Type 0 = λ h. Tells form h k (record { rest = s.members; done = [] }) in
-    within_push form g ws w J (within_on form g ws (λ h. TellsElements form h l b s) (Inner form w J) (λ h t. (begun k s.members, element_waits form h l k b s bits told t, new_segment form k s.members led)) c)

@@ -9,13 +9,13 @@ use Rattle.fast_template.specs.Resolved.{Instructions, Resolved, field_in_parts,
 use Rattle.fast_template.specs.TemplateSets.{has_id}
 use Rattle.fast_stream.specs.Nodes.{single, Items, items_of, Content, Item, elements_of, no_elements, sequence_elements, then_item}
 use Rattle.fast_stream.specs.Streams.{members_of}
-use Rattle.fast_walk.specs.OpenSegments.{Sequel, Inside, in_group, in_sequence, Waiting, Next, at_instruction, at_mantissa, at_element, Body, items_before, with_item}
+use Rattle.fast_walk.specs.OpenSegments.{fewer, Sequel, Inside, in_group, in_sequence, Waiting, Next, at_instruction, at_mantissa, at_element, Body, items_before, with_item}
 use Rattle.fast_walk.specs.Received.{Received, passed, entered, after_exponent, after_length, in_element, after_sequence, ended_in, content_received, bytes_in, moved}
 use Rattle.fast_lines.specs.declared.form.Form.{Form}
 use Rattle.fast_lines.specs.Signs.{ending, head_text, is_led, label_text, lead, between}
 use Rattle.fast_lines.specs.Lines.{absent_text, decimal_text, joined, members_text, elements_text, label, node_text}
-use Rattle.fast_told.specs.Told.{IsTold, line_as, line_of_set, lines_of_set, Line, Opening, Tells, IsTop, IsBehind, Within, IsOpened, head_in, message_opening, name_if, Puts, Said, behind_text, whole_text}
-use Rattle.fast_told.proofs.Telling.{body_is, bracket_behind, item_told, joined_behind, within_on, group_entered, ended, segment_left, element_entered}
+use Rattle.fast_told.specs.Told.{Waits, IsTold, line_as, line_of_set, lines_of_set, Line, Opening, Tells, IsTop, IsBehind, Within, IsOpened, head_in, message_opening, name_if, Puts, Said, behind_text, whole_text}
+use Rattle.fast_told.proofs.Telling.{body_is, bracket_behind, item_told, joined_behind, within_on, within_push, Inner, begun, element_waits, ended, group_waits, new_segment, segment_left}
 use Rattle.fast_walk.proofs.Steps.{elements_before-end, items_before-more}
 
 abbrev message_of : Form → Received → Opening
@@ -87,17 +87,27 @@ pub has_left_out : (form : Form) (z : ℤ) (l k : Line) (o : Received) (name : L
 has_left_out form z l k o name number Optional members is next first optional s = has_said z o (group_of name number Optional members) is (single None) next first refl s
 has_left_out form z l k o name number presence members is next first optional s = absurd cc
 
+-- in a segment that has just begun
+has_inner : (form : Form) (z : ℤ) (l k : Line) (o : Received) (w : Waiting) (members : Instructions) (next : Next) → o.next ≡ next → k.led ≡ false → ((g : Opening) → IsTop form z next g l o.body → Waits form g w (begun k members))
+    → IsOpened form z l o → IsOpened form z k (moved o at_instruction (record { rest = members; done = [] }) (o.around ++ w ∷ []))
+has_inner form z l k o w members next is led waits c =
+    let J : Opening → Type 0 = λ h. Tells form h k (record { rest = members; done = [] }) in
+    within_push form (message_of form o) o.around w J
+    (within_on form (message_of form o) o.around (λ g. IsTop form z next g l o.body) (Inner form w J) (λ h t. (begun k members, waits h t, new_segment form k members led)) (at_next form z l o next is c))
+
 pub has_entered : {l k : Line} (form : Form) (z : ℤ) (o : Received) (name : List ℕ) (number : ℕ) (presence : Presence) (members is : Instructions) (bits : List Bool)
     → o.next ≡ at_instruction → o.body.rest ≡ then_instruction (group_of name number presence members) is
     → Puts ((lead form l.led ++ label_text form name) ++ codes "{") false l k
     → IsOpened form z l o → IsOpened form z k (entered o number bits members is)
-has_entered {l} {k} form z o name number presence members is bits next first put c =
-    group_entered form (message_of form o) o.around l k o.body name number presence members is bits first put.told put.led_is (at_next form z l o at_instruction next c)
+has_entered {l} {k} form z o name number presence members is bits next first put =
+    has_inner form z l k o (record { bits = bits; number = number; body = record { rest = is; done = o.body.done }; inside = in_group }) members at_instruction next put.led_is
+    (λ g t. group_waits form g l k o.body name number presence members is bits first put.told t)
 
 pub has_element : {l k : Line} (form : Form) (z : ℤ) (o : Received) (s : Sequel) (bits : List Bool)
     → o.next ≡ at_element s → Puts (lead form l.led ++ codes "{") false l k
     → IsOpened form z l o → IsOpened form z k (in_element o bits s)
-has_element {l} {k} form z o s bits next put c = element_entered form (message_of form o) o.around l k o.body s bits put.told put.led_is (at_next form z l o (at_element s) next c)
+has_element {l} {k} form z o s bits next put =
+    has_inner form z l k o (record { bits = bits; number = s.number; body = o.body; inside = in_sequence (fewer s) }) s.members (at_element s) next put.led_is (λ g t. element_waits form g l k o.body s bits put.told t)
 
 ends_in : (form : Form) (inside : Inside) (z : ℤ) (k : Line) (o : Received) (ws : List Waiting) (w : Waiting)
     → Within form (message_of form o) ws (λ h. IsBehind form inside h k w.body (items_of o.body.done)) → IsOpened form z k (ended_in o ws w.body inside)

@@ -2,7 +2,6 @@
 
 ghost use Rattle.std.specs.Prelude.{◌≡◌, ◌≤◌, ◌<◌, ◌+◌, ℕ, true, false, None, IsSome, IfOk, OnOk, length, drop};
 ghost use Rattle.fast_template.specs.Resolved.{list_of, then_instruction, whole_field};
-ghost use Rattle.fast_stream.specs.Bits.{after_bit, bit_for};
 ghost use Rattle.fast_walk.specs.Passing.{next_behind};
 ghost use Rattle.fast_walk.specs.Told.{KeepScalars};
 ghost use Rattle.fast_walk.specs.Walks.{AreServed, IsNextServed};
@@ -14,27 +13,9 @@ use fast_dictionary::Entries;
 use fast_field::FieldFault;
 use fast_lines::Signs;
 use fast_template::{FieldPart, Flat, Name, Presence, part_needs_bit};
-use fast_walk::Fields;
+use fast_walk::{Fields, first_for, take_for};
 use fast_wire::{Bits, Level};
 use std::alloc::{AllocError, Global};
-
-// The bit of a part that needs one, or else 1; it stays the next.
-#[inline(always)]
-fn first_for(bits: &Bits, needed: bool) -> bool
-    ensures { result ≡ bit_for needed bits.now }
-{
-    if needed { bits.first() } else { true }
-}
-
-// Takes the bit of a part that needs one.
-#[inline(always)]
-fn take_for(bits: &mut Bits, needed: bool)
-    ensures { bits.new ≡ after_bit needed bits.old }
-{
-    if needed {
-        bits.take();
-    }
-}
 
 // Goes on behind a field, whose node is counted.
 #[inline(always)]

@@ -34,7 +34,7 @@ use Rattle.fast_field.specs.FieldReading.{entity_limit, overlong_fault, part_usu
 use Rattle.fast_walk.specs.declared.lack.Lack.{Lack}
 use Rattle.fast_walk.specs.Lacks.{EntityLacks, FieldLacks, HasSecond, SecondLacks, SecondWaits, VectorLacks, takes_two, whole_limit}
 use Rattle.fast_walk.proofs.Lacking.{entity_wants, units_wait}
-use Rattle.fast_field.proofs.ValueFaults.{done, other_then, part_allowed}
+use Rattle.fast_field.proofs.ValueFaults.{never, never_then, part_allowed}
 
 -- ---- steps
 
@@ -121,7 +121,7 @@ abbrev with_rest : List ℕ → Option Scalar → Result (Option Scalar × List 
 with_rest rest v = Ok (v, rest)
 
 checked_waits : (p : Part) (r : Result (Option Scalar × List ℕ) FieldFault) → (r >>= λ x. part_checked p x.0 >>= with_rest x.1) ≡ Err fault.NeedMore → r ≡ Err fault.NeedMore
-checked_waits p (Ok x) h = absurd (other_then fault.NeedMore (part_checked p x.0) _ (part_allowed fault.NeedMore tt p x.0) (λ v. done fault.NeedMore _) h)
+checked_waits p (Ok x) h = absurd (never_then (part_checked p x.0) _ (never (part_checked p x.0) (part_allowed p x.0)) (λ v. tt) h)
 checked_waits p (Err f) h = h
 
 -- the entity behind the first, or the vector there

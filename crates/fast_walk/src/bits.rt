@@ -18,7 +18,7 @@ use std::alloc::Global;
 
 /// The next bit where one is needed, or else 1; it stays the next.
 #[inline(always)]
-pub(crate) fn first_for(bits: &Bits, needed: bool) -> bool
+pub fn first_for(bits: &Bits, needed: bool) -> bool
     ensures { result ≡ bit_for needed bits.now }
 {
     if needed { bits.first() } else { true }
@@ -26,7 +26,7 @@ pub(crate) fn first_for(bits: &Bits, needed: bool) -> bool
 
 /// Takes the next bit where one is needed.
 #[inline(always)]
-pub(crate) fn take_for(bits: &mut Bits, needed: bool)
+pub fn take_for(bits: &mut Bits, needed: bool)
     ensures { bits.new ≡ after_bit needed bits.old }
 {
     if needed {

@@ -16,6 +16,7 @@ mod receiver;
 mod traversal;
 mod walk;
 
+pub use bits::{first_for, take_for};
 pub use halt::{Halt, HaltedBy, wire_cause};
 pub use lack::{Lack, has_stop};
 pub use leveled::{Leveled, Strictly, Usually};

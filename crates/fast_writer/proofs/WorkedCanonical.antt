@@ -4,9 +4,10 @@ use Rattle.std.specs.Prelude.{ℤ, ◌+ℤ◌, codes, nat_lt, if◌then◌else�
 use Rattle.std.proofs.Math.IntN.{+ℤ_idl}
 use Rattle.std.specs.FinMap as finite
 use Rattle.std.specs.Ordering.{eq_by_cmp}
-use Rattle.fast_wire.specs.Entity.{IsEntity, groups}
+use Rattle.fast_wire.specs.Entity.{groups}
 use Rattle.fast_wire.specs.Integer.{unsigned_of, magnitude, IsSigned}
 use Rattle.fast_wire.specs.Sizes.{groups_from, signed_size, ascii_size}
+use Rattle.fast_wire.proofs.UnsignedForms.{entity_some}
 use Rattle.fast_wire.proofs.FormSizes.{signed_sizes, ascii_sizes}
 use Rattle.fast_wire.specs.declared.nullable.Nullable.TheVariants.{Value}
 use Rattle.fast_wire.specs.PresenceMap.{bits_of, bit_at}
@@ -41,10 +42,6 @@ use Rattle.fast_stream.specs.Streams.{identifier}
 use Rattle.fast_stream.proofs.Hex.{hex}
 use Rattle.fast_stream.proofs.Rows.{message, quote, u32}
 use Rattle.fast_writer.specs.Canonical.{IsShortestMap, CanonMessage, IsCanonical}
-
-entity_some : (b : List ℕ) → IsEntity b → 1 ≤ length b
-entity_some [] h = absurd h
-entity_some (x ∷ xs) h = omega arith
 
 -- ---- one behind the other
 

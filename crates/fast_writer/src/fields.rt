@@ -4,7 +4,7 @@ ghost use Rattle.std.specs.Prelude.{◌≡◌, ◌≤◌, ◌<◌, ◌+◌, ◌&
 ghost use Rattle.fast_template.specs.Resolved.{instruction_of, list_of, part_needs_bit as part_needs_bit_of};
 ghost use Rattle.fast_value.specs.declared.scalar.Scalar.{Scalar as ScalarOf};
 ghost use Rattle.fast_dictionary.specs.declared.entry.Entry.{Entry as EntryOf};
-ghost use Rattle.fast_stream.specs.Bits.{after_bit, bit_for};
+ghost use Rattle.fast_stream.specs.Bits.{bit_for};
 ghost use Rattle.fast_field.specs.Parts.{IsFieldPart};
 ghost use Rattle.fast_field.specs.Passed.{Passes};
 ghost use Rattle.fast_field.specs.AsUsual.{ReadsAsUsual};
@@ -31,7 +31,7 @@ use fast_dictionary::{Entries, Entry};
 use fast_field::Passed;
 use fast_relay::{Best, Judged, best_of, judge_field, judge_other, pass_quickly};
 use fast_template::{FieldPart, Flat, Kind, Part, part_needs_bit};
-use fast_walk::{Fields, Leveled};
+use fast_walk::{Fields, Leveled, take_for};
 use fast_wire::{Bits, Level};
 use std::alloc::{AllocError, Global};
 
@@ -43,16 +43,6 @@ pub(crate) enum Taken {
     Elsewhere,
     /// Memory was refused.
     Refused,
-}
-
-// Takes the bit of a part that needs one.
-#[inline(always)]
-fn take_for(bits: &mut Bits, needed: bool)
-    ensures { bits.new ≡ after_bit needed bits.old }
-{
-    if needed {
-        bits.take();
-    }
 }
 
 // Takes the bit of a part that was taken, and asks for the one of its best form.

@@ -2,7 +2,7 @@ use Rattle.std.proofs.Common.{rules, ◌≡◌, ◌++◌}
 use Rattle.std.specs.Prelude.{codes, decimal}
 use Rattle.fast_lines.specs.declared.form.Form.TheVariants.{Json}
 use Rattle.fast_lines.specs.Signs.{quoted}
-use Rattle.fast_lines.proofs.Written.{appended_more, writes_behind}
+use Rattle.fast_lines.proofs.Written.{writes_behind}
 use Rattle.fast_lines.proofs.form.JsonSignsSigns.push_head.Goals as goal
 
 pub returns : goal.returns
@@ -12,9 +12,6 @@ returns c =
     let id = decimal c.args.id in
     let told_name : c.push_quoted.new.out.items ≡ c.push.new.out.items ++ name = search rules in
     let told_id : c.push_unsigned.new.out.items ≡ c.push-2.new.out.items ++ id = search rules in
-    let front = codes "{\"template\":" in
-    let middle = codes ",\"id\":" in
-    let named = appended_more a c.push.new.out.items c.push_quoted.new.out.items front name c.in_ok-push.ensures told_name in
-    let between = appended_more a c.push_quoted.new.out.items c.push-2.new.out.items (front ++ name) middle named c.in_ok-push-2.ensures in
-    let all = appended_more a c.push-2.new.out.items c.push_unsigned.new.out.items (front ++ name ++ middle) id between told_id in
-    writes_behind (front ++ name ++ middle ++ id) (codes ",\"fields\":{") a c.push_unsigned.new.out.items c.push-3.new.out.items c.push-3.result all c.push-3.ensures
+    let text = codes "{\"template\":" ++ name ++ codes ",\"id\":" ++ id in
+    let all : c.push_unsigned.new.out.items ≡ a ++ text = rw (told_id, c.in_ok-push-2.ensures, told_name, c.in_ok-push.ensures) (simp append_assoc) in
+    writes_behind text (codes ",\"fields\":{") a c.push_unsigned.new.out.items c.push-3.new.out.items c.push-3.result all c.push-3.ensures
