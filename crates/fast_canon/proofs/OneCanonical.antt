@@ -60,21 +60,6 @@ one_whole_then First Second first second d e after later b c same h k =
 
 -- ---- a part, and a group's bit
 
-one_part : (i : FieldPart) (v : Option Scalar) → IsOne (λ s b t. PartBy IsBest i s b v t)
-one_part i v s t p q b c same h k =
-    let needs = part_needs_bit i in
-    let one = best_is_one i (entry_at s.dictionary i.key) (bit_for needs s.bits) (bit_for needs p.bits) b c v h.0
-    (subst (λ (d : Dictionary). IsBest i (entry_at d i.key) (bit_for needs p.bits) c v) (sym same) k.0) in
-    let bit = bit_for needs s.bits in record {
-      bytes = one.1;
-      dictionary = ap (λ t. t.dictionary) h.1 ∙ ap (λ d. written i d v) same ∙ sym (ap (λ t. t.dictionary) k.1);
-      asked = one_asked needs bit;
-      begins = asked_begins needs bit s.bits refl;
-      left = ap (λ t. t.bits) h.1 ∙ sym (asked_left needs bit s.bits);
-      begins_other = asked_begins needs bit p.bits one.0;
-      left_other = ap (λ t. t.bits) k.1 ∙ sym (asked_left needs bit p.bits);
-    }
-
 one_under_bit : (takes bit : Bool) (Best : Dictionary → List ℕ → Dictionary → Type 0) → IsOneWhole Best
     → IsOne (λ s b t. (bit_for takes s.bits ≡ bit) × (t.bits ≡ after_bit takes s.bits) × Best s.dictionary b t.dictionary)
 one_under_bit takes bit Best one s t p q b c same h k =
@@ -88,13 +73,21 @@ one_under_bit takes bit Best one s t p q b c same h k =
       left_other = k.1 ∙ sym (asked_left takes bit p.bits);
     }
 
--- where nothing stands
-one_empty : IsOneWhole (λ d b after. (b ≡ []) × (after ≡ d))
-one_empty d e after later b c same h k = (h.0 ∙ sym k.0, h.1 ∙ same ∙ sym k.1)
+-- where these bytes stand
+one_fixed : (x : List ℕ) (f : Dictionary → Dictionary) → IsOneWhole (λ d b after. (b ≡ x) × (after ≡ f d))
+one_fixed x f d e after later b c same h k = (h.0 ∙ sym k.0, h.1 ∙ ap f same ∙ sym k.1)
+
+one_part : (i : FieldPart) (v : Option Scalar) → IsOne (λ s b t. PartBy IsBest i s b v t)
+one_part i v s t p q b c same h k =
+    let needs = part_needs_bit i in
+    let one = best_is_one i (entry_at s.dictionary i.key) (bit_for needs s.bits) (bit_for needs p.bits) b c v h.0
+    (subst (λ (d : Dictionary). IsBest i (entry_at d i.key) (bit_for needs p.bits) c v) (sym same) k.0) in
+    one_under_bit needs (bit_for needs s.bits) (λ d x after. (x ≡ b) × (after ≡ written i d v)) (one_fixed b (λ d. written i d v)) s t p q b c same
+    (refl, ap (λ t. t.bits) h.1, (refl, ap (λ t. t.dictionary) h.1)) (sym one.0, ap (λ t. t.bits) k.1, (sym one.1, ap (λ t. t.dictionary) k.1))
 
 one_left_out : (takes : Bool) → IsOne (λ s b t. (bit_for takes s.bits ≡ false) × (b ≡ []) × (t ≡ record s { bits = after_bit takes s.bits }))
 one_left_out takes s t p q b c same h k =
-    one_under_bit takes false (λ d b after. (b ≡ []) × (after ≡ d)) one_empty s t p q b c same (h.0, ap (λ t. t.bits) h.2, (h.1, ap (λ t. t.dictionary) h.2)) (k.0, ap (λ t. t.bits) k.2, (k.1, ap (λ t. t.dictionary) k.2))
+    one_under_bit takes false (λ d b after. (b ≡ []) × (after ≡ d)) (one_fixed [] (λ d. d)) s t p q b c same (h.0, ap (λ t. t.bits) h.2, (h.1, ap (λ t. t.dictionary) h.2)) (k.0, ap (λ t. t.bits) k.2, (k.1, ap (λ t. t.dictionary) k.2))
 
 one_without_bits : (Best : Dictionary → List ℕ → Dictionary → Type 0) → IsOneWhole Best → IsOne (λ s b t. (t.bits ≡ s.bits) × Best s.dictionary b t.dictionary)
 one_without_bits Best one s t p q b c same h k = one_under_bit false true Best one s t p q b c same (refl, h.0, h.1) (refl, k.0, k.1)
@@ -115,7 +108,7 @@ one_segment false Inside one d e after later b c same h k =
     let x = one (with_bits d []) (with_bits after []) (with_bits e []) (with_bits later []) b c same h k in (x.bytes, x.dictionary)
 
 one_each : (One : Dictionary → List ℕ → Items → Dictionary → Type 0) → ((ns : Items) → IsOneWhole (λ d x e. One d x ns e)) → (es : Elements) → IsOneWhole (λ d b after. Each One d b es after)
-one_each One one no_elements d e after later b c same h k = one_empty d e after later b c same h k
+one_each One one no_elements d e after later b c same h k = one_fixed [] (λ d. d) d e after later b c same h k
 one_each One one (then_element ns es) d e after later b c same h k =
     one_whole_then (λ d x e. One d x ns e) (λ e y after. Each One e y es after) (one ns) (one_each One one es) d e after later b c same h k
 
@@ -145,7 +138,7 @@ mutual
 
   one_body : (members : Instructions) (ns : Items) → IsOne (λ s b t. CanonBody members s b ns t)
   one_body no_instructions no_items s t p q b c same h k =
-      one_without_bits (λ d b after. (b ≡ []) × (after ≡ d)) one_empty s t p q b c same (ap (λ t. t.bits) h.1, (h.0, ap (λ t. t.dictionary) h.1)) (ap (λ t. t.bits) k.1, (k.0, ap (λ t. t.dictionary) k.1))
+      one_without_bits (λ d b after. (b ≡ []) × (after ≡ d)) (one_fixed [] (λ d. d)) s t p q b c same (ap (λ t. t.bits) h.1, (h.0, ap (λ t. t.dictionary) h.1)) (ap (λ t. t.bits) k.1, (k.0, ap (λ t. t.dictionary) k.1))
   one_body (then_instruction i is) (then_item n ns) s t p q b c same h k =
       one_then (λ s x u. PieceBy IsBest IsShortestMap i s x n u) (λ u y t. CanonBody is u y ns t)
       (λ s t p q b c same h k. one_piece i n s t p q b c same h k) (λ s t p q b c same h k. one_body is ns s t p q b c same h k) s t p q b c same h k
@@ -165,7 +158,7 @@ one_message set m d e after later b c same h k =
     one_with_map (λ s x t. Then (First s) (λ u z. Second u z t) x) (one_then First Second (one_part identifier id) (one_body_of (members_of set m.template) m.items)) d e after later b c same h.segment k.segment
 
 pub one_canonical : (set : List Resolved) (ms : List Content) (d e after later : Dictionary) (b c : List ℕ) → d ≡ e → CanonFrom set d b ms after → CanonFrom set e c ms later → (b ≡ c) × (after ≡ later)
-one_canonical set [] d e after later b c same h k = one_empty d e after later b c same h k
+one_canonical set [] d e after later b c same h k = one_fixed [] (λ d. d) d e after later b c same h k
 one_canonical set (m ∷ ms) d e after later b c same h k =
     one_whole_then (λ d x e. CanonMessage set d x m e) (λ e y after. CanonFrom set e y ms after) (one_message set m)
     (λ d e after later b c same h k. one_canonical set ms d e after later b c same h k) d e after later b c same h k

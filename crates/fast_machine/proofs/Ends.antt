@@ -6,15 +6,12 @@ use Rattle.fast_walk.specs.Walks.{reads_on}
 use Rattle.fast_walk.specs.declared.lack.Lack.{Lack}
 use Rattle.fast_walk.specs.declared.traversal.Traversal.{Traversal}
 use Rattle.fast_walk.proofs.Lacking.{both_unstopped}
-use Rattle.fast_machine.specs.Ends.{IsLong, lack_of}
-
-less_lacks : (t : Traversal) (d : Dictionary) (bytes : List ℕ) (l : Lack) (most : ℕ) → most ≤ l.most → Lacks t d bytes l → Lacks t d bytes (lack_of most l.until_stop l.number)
-less_lacks t d bytes l most few lacks = (lacks.0, λ o more lacking at. let short = lacking.few in lacks.1 o more (record { few = omega (arith, few, short); unstopped = lacking.unstopped }) at)
+use Rattle.fast_machine.specs.Ends.{IsLong}
 
 -- what is lacking is kept as an end
 pub long_of : (end : ℕ) (t : Traversal) (d : Dictionary) (held : List ℕ) (l : Lack) → Lacks t d held l → end ≡ length held + l.most + 1 → IsLong end t d held l.until_stop l.number
 long_of zero t d held l lacks is = tt
-long_of (suc n) t d held l lacks is = (omega (arith, is), less_lacks t d held l (n - length held) (omega (arith, is)) lacks)
+long_of (suc n) t d held l lacks is = (omega (arith, is), (lacks.0, λ o more lacking at. lacks.1 o more (record { few = omega (arith, is); unstopped = lacking.unstopped }) at))
 
 -- and told again behind some bytes more
 pub still_lacks : (end : ℕ) (t : Traversal) (d : Dictionary) (held chunk : List ℕ) (until_stop : Bool) (number : ℕ) → length (held ++ chunk) < end → (until_stop ≡ true → AreUnstopped chunk) → IsLong end t d held until_stop number

@@ -30,9 +30,6 @@ module _ {R : Type 0} (has : Having R) (stands keeps : Standing R) (t : Traversa
   abbrev halt : Halt
   halt = record { cause = Truncated; number = l.number; by = halted.Walk }
 
-  inside : t.stage ≡ stage.Body → t.stage ≡ stage.Map → ⊥
-  inside body map = let same : stage.Body ≡ stage.Map = sym body ∙ map in absurd cc
-
   message_stops : (unread : List ℕ) (start : Dictionary) (rest : List ℕ) → Lacks t d unread l → Unfinished Goes t unread start rest → RunStops t.level (templates_in t.set.now) start rest [] (stop_of t.template halt unread)
   message_stops unread start rest lacks u = record {
     front = [];
@@ -41,7 +38,7 @@ module _ {R : Type 0} (has : Having R) (stands keeps : Standing R) (t : Traversa
     parts = refl;
     carried = (refl, refl);
     ends = (
-      u.some (inside lacks.0),
+      u.some (λ map. let same : stage.Body ≡ stage.Map = sym lacks.0 ∙ map in absurd cc),
       u.fits,
       now_reads u ∙ lacking_stops has stands keeps t r (templates_in t.set.now) d start before u.read unread l u.goes lacks,
     );
