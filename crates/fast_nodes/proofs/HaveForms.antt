@@ -1,5 +1,5 @@
 -- A message that is not refused has canonical bytes.
-use Rattle.std.proofs.Common.{true≢false, ◌≡◌, ◌+◌, ℕ, Bool, true, false, ◌&&◌, List, [], ◌++◌, length, drop, Option, Some, None, Result, Ok, Err, refl, sym, ◌∙◌, arith}
+use Rattle.std.proofs.Common.{true≢false, ◌≡◌, ℕ, Bool, true, false, ◌&&◌, List, [], ◌++◌, length, drop, Option, Some, None, Result, Ok, Err, refl, sym, ◌∙◌, arith}
 use Rattle.std.specs.Prelude.{if◌then◌else◌}
 use Rattle.std.proofs.lemmas.Bool.{and_parts}
 use Rattle.fast_value.specs.declared.scalar.Scalar.{Scalar}

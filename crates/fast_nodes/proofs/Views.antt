@@ -3,7 +3,6 @@ use Rattle.std.proofs.Common.{◌≡◌, ◌≢◌, false, suc, sym, List, [], �
 use Rattle.std.proofs.lemmas.Bool.{and_right}
 use Rattle.std.specs.Global.{Vec}
 use Rattle.fast_template.specs.declared.resolved.Flat.{Flat}
-use Rattle.fast_template.specs.declared.resolved.Flat.TheVariants.{Group, Sequence}
 use Rattle.fast_template.specs.Resolved.{instruction_of, list_of}
 use Rattle.fast_value.specs.declared.scalar.Scalar.{Scalar}
 use Rattle.fast_stream.specs.declared.message.Node.{Node, fold_out-Node}

@@ -7,7 +7,6 @@ use Rattle.fast_template.specs.Resolved.{part_needs_bit}
 use Rattle.fast_dictionary.specs.declared.entry.Entry.{Entry}
 use Rattle.fast_dictionary.specs.Dictionary.{Dictionary, entry_at, set_entry, set_entry-there}
 use Rattle.fast_wire.specs.declared.level.Level.{Level}
-use Rattle.fast_field.specs.Bases.{next}
 use Rattle.fast_field.specs.AsUsual.{ReadsAsUsual}
 use Rattle.fast_relay.specs.Relayed.{Judges}
 use Rattle.fast_relay.specs.OneByte.{RelaysByte}

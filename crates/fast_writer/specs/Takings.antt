@@ -10,7 +10,6 @@ use Rattle.fast_template.specs.Resolved.{Instruction, Instructions, whole_field,
 use Rattle.fast_value.specs.declared.scalar.Scalar.{Scalar}
 use Rattle.fast_dictionary.specs.Dictionary.{Dictionary}
 use Rattle.fast_dictionary.specs.declared.entry.Entry.{Entry}
-use Rattle.fast_field.specs.Bases.{next}
 use Rattle.fast_stream.specs.Bits.{after_bit, bit_for}
 use Rattle.fast_wire.specs.declared.level.Level.{Level}
 use Rattle.fast_walk.specs.declared.receiver.Fields.{Fields}

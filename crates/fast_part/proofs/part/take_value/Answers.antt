@@ -1,5 +1,4 @@
-use Rattle.std.proofs.Common.{Option, drop, arith, ap, ◌∙◌}
-use Rattle.fast_value.specs.declared.scalar.Scalar.{Scalar}
+use Rattle.std.proofs.Common.{drop, arith, ap, ◌∙◌}
 use Rattle.fast_dictionary.specs.declared.entry.Entry.{Entry}
 use Rattle.fast_field.specs.Found.{value_found}
 use Rattle.fast_part.proofs.TakenKinds.{took_as_usual}

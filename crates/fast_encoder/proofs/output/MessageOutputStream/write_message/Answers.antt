@@ -1,6 +1,4 @@
 use Rattle.std.proofs.Common.{◌≡◌, ◌++◌, ℕ, List, ap, sym, ◌∙◌}
-use Rattle.fast_template.specs.TemplateSets.{templates_in}
-use Rattle.fast_stream.specs.Nodes.{content_of}
 use Rattle.fast_encoder.proofs.Outputs.{sent_more, sent_part}
 use Rattle.fast_encoder.proofs.output.MessageOutputStream.write_message.Goals as goal
 

@@ -1,4 +1,4 @@
-use Rattle.std.proofs.Common.{rules, ◌≡◌, ◌++◌}
+use Rattle.std.proofs.Common.{rules, append_assoc, ◌≡◌, ◌++◌}
 use Rattle.std.specs.Prelude.{codes, decimal}
 use Rattle.fast_lines.specs.declared.form.Form.TheVariants.{Json}
 use Rattle.fast_lines.specs.Signs.{quoted}
