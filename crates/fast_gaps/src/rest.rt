@@ -137,6 +137,10 @@ impl Rest {
     }
 
     /// Makes all of it ready.
+    ///
+    /// # Errors
+    ///
+    /// As `tell_on`.
     pub fn tell_all<S: Signs>(
         &mut self,
         signs: S,

@@ -15,6 +15,10 @@ pub trait Escape: Copy {
     ghost form: { FormOf };
 
     /// Appends a byte of a string, as it is or escaped.
+    ///
+    /// # Errors
+    ///
+    /// An allocation was refused.
     fn push_unit(self, byte: u8, out: &mut Vec<u8>) -> Result<(), AllocError>
         ensures { Writes (unit_text form byte) result out.old.items out.new.items };
 
@@ -44,6 +48,10 @@ pub trait Signs: Escape {
         ensures { result.now ≡ ending Self.form };
 
     /// Appends a byte vector in hex digits.
+    ///
+    /// # Errors
+    ///
+    /// An allocation was refused.
     fn push_vector(self, bytes: &[u8], out: &mut Vec<u8>) -> Result<(), AllocError>
         ensures { Writes (vector_text Self.form bytes.now) result out.old.items out.new.items };
 
@@ -56,6 +64,10 @@ pub trait Signs: Escape {
             ≡ vector_text Self.form bytes.now ++ laid piece.old.bytes start) };
 
     /// Appends what stands in front of the value of a field of a name.
+    ///
+    /// # Errors
+    ///
+    /// An allocation was refused.
     fn push_label(self, name: &str, out: &mut Vec<u8>) -> Result<(), AllocError>
         ensures { Writes (label_text Self.form name.now) result out.old.items out.new.items };
 
@@ -68,6 +80,10 @@ pub trait Signs: Escape {
             ≡ label_text Self.form name.now ++ laid piece.old.bytes start) };
 
     /// Appends what stands in front of the fields of a message of a template.
+    ///
+    /// # Errors
+    ///
+    /// An allocation was refused.
     fn push_head(self, id: u32, name: &str, out: &mut Vec<u8>) -> Result<(), AllocError>
         ensures { Writes (head_text Self.form id name.now) result out.old.items out.new.items };
 

@@ -172,6 +172,10 @@ fn mantissa_in(value: &Option<Scalar>) -> i64
 }
 
 /// Takes a template's identifier, which it answers with the place behind it.
+///
+/// # Errors
+///
+/// As `take_part`.
 #[inline(always)]
 pub fn take_identifier<E: Entries>(
     alloc: Global,
@@ -198,6 +202,10 @@ pub fn take_identifier<E: Entries>(
 }
 
 /// Takes the length of a sequence, none where that is absent, and the place behind it.
+///
+/// # Errors
+///
+/// As `take_part`.
 #[inline(always)]
 pub fn take_length<E: Entries>(
     alloc: Global,
@@ -221,6 +229,10 @@ pub fn take_length<E: Entries>(
 }
 
 /// Takes the exponent of a decimal in parts, none where that is absent, and the place behind it.
+///
+/// # Errors
+///
+/// As `take_part`.
 #[inline(always)]
 pub fn take_exponent<E: Entries>(
     alloc: Global,
@@ -244,6 +256,10 @@ pub fn take_exponent<E: Entries>(
 }
 
 /// Takes the mantissa of a decimal whose exponent is there, and the place behind it.
+///
+/// # Errors
+///
+/// As `take_part`.
 #[inline(always)]
 pub fn take_mantissa<E: Entries>(
     alloc: Global,
