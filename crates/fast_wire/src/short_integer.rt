@@ -1,7 +1,7 @@
 //! Integers in 64 bits: an entity of one byte is read and written inline, one of at most nine is read in one
 //! register, and the rest is done by `integer` and `nullable`.
 
-ghost use Rattle.std.specs.Prelude.{◌≡◌, ◌+◌, ◌%◌, ◌<◌, ◌≤◌, nat_le, length, slice_index, drop, take, Ok, IfOk, IfSome, MatchOption};
+ghost use Rattle.std.specs.Prelude.{◌≡◌, ◌+◌, ◌%◌, ◌<◌, ◌≤◌, nat_le, length, slice_index, drop, take, Ok, IfNone, IfOk, IfSome, MatchOption};
 ghost use Rattle.fast_wire.specs.Entity.{HasNoStop};
 ghost use Rattle.fast_wire.specs.Nullable.{IsNullOr, IsSignedNullable, IsUnsignedNullable, received_unsigned, sent_signed};
 ghost use Rattle.fast_wire.specs.Nullable as nullable;
@@ -73,13 +73,14 @@ pub(crate) fn short_unsigned(bytes: &[u8], at: usize) -> Option<(u64, usize)>
     Some((number as u64, next))
 }
 
-/// Reads an unsigned integer of at most nine bytes as `read_u64` does. None: it has more bytes, or there is none.
+/// Reads an unsigned integer of at most nine bytes as `read_u64` does. None: there is no stop bit in nine bytes.
 #[inline(always)]
 #[tactic(auto, using(crate::proofs::ShortIntegers::short_given))]
 pub fn short_u64(bytes: &[u8], at: usize) -> Option<(u64, usize)>
     requires { at ≤ length bytes.now }
     ensures place { IfSome result (λ x. (at < x.1) × (x.1 ≤ length bytes.now)) }
     ensures gives { IfSome result (λ x. unsigned_at (drop at bytes.now) ≡ Ok (x.0, drop x.1 bytes.now)) }
+    ensures none { IfNone result (HasNoStop (take 9 (drop at bytes.now))) }
 {
     short_unsigned(bytes, at)
 }
@@ -124,13 +125,14 @@ fn received(sent: u64) -> Nullable<u64>
     }
 }
 
-/// Reads a nullable unsigned integer of at most nine bytes as `read_u64_nullable` does. None: it has more bytes, or there is none.
+/// Reads a nullable unsigned integer of at most nine bytes as `read_u64_nullable` does. None: there is no stop bit in nine bytes.
 #[inline(always)]
 #[tactic(auto, using(crate::proofs::ShortIntegers::short_nullable_given))]
 pub fn short_u64_nullable(bytes: &[u8], at: usize) -> Option<(Nullable<u64>, usize)>
     requires { at ≤ length bytes.now }
     ensures place { IfSome result (λ x. (at < x.1) × (x.1 ≤ length bytes.now)) }
     ensures gives { IfSome result (λ x. unsigned_nullable_at (drop at bytes.now) ≡ Ok (x.0, drop x.1 bytes.now)) }
+    ensures none { IfNone result (HasNoStop (take 9 (drop at bytes.now))) }
 {
     let (sent, next) = short_unsigned(bytes, at)?;
     Some((received(sent), next))
@@ -187,13 +189,14 @@ fn short_signed(bytes: &[u8], at: usize) -> Option<(i64, usize)>
     longer_entity(bytes, at, group >= 64)
 }
 
-/// Reads a signed integer of at most nine bytes as `read_i64` does. None: it has more bytes, or there is none.
+/// Reads a signed integer of at most nine bytes as `read_i64` does. None: there is no stop bit in nine bytes.
 #[inline(always)]
 #[tactic(auto, using(crate::proofs::ShortIntegers::short_signed_given))]
 pub fn short_i64(bytes: &[u8], at: usize) -> Option<(i64, usize)>
     requires { at ≤ length bytes.now }
     ensures place { IfSome result (λ x. (at < x.1) × (x.1 ≤ length bytes.now)) }
     ensures gives { IfSome result (λ x. signed_at (drop at bytes.now) ≡ Ok (x.0, drop x.1 bytes.now)) }
+    ensures none { IfNone result (HasNoStop (take 9 (drop at bytes.now))) }
 {
     short_signed(bytes, at)
 }
@@ -239,13 +242,14 @@ fn received_signed(sent: i64) -> Nullable<i64>
     }
 }
 
-/// Reads a nullable signed integer of at most nine bytes as `read_i64_nullable` does. None: it has more bytes, or there is none.
+/// Reads a nullable signed integer of at most nine bytes as `read_i64_nullable` does. None: there is no stop bit in nine bytes.
 #[inline(always)]
 #[tactic(auto, using(crate::proofs::ShortIntegers::short_signed_nullable_given))]
 pub fn short_i64_nullable(bytes: &[u8], at: usize) -> Option<(Nullable<i64>, usize)>
     requires { at ≤ length bytes.now }
     ensures place { IfSome result (λ x. (at < x.1) × (x.1 ≤ length bytes.now)) }
     ensures gives { IfSome result (λ x. signed_nullable_at (drop at bytes.now) ≡ Ok (x.0, drop x.1 bytes.now)) }
+    ensures none { IfNone result (HasNoStop (take 9 (drop at bytes.now))) }
 {
     let (sent, next) = short_signed(bytes, at)?;
     Some((received_signed(sent), next))
