@@ -1,6 +1,5 @@
 -- The bits that instructions ask for, one after the other, and lists of bits that begin with them.
-use Rattle.std.proofs.Common.{◌≡◌, ℕ, zero, suc, Bool, true, false, List, [], ◌∷◌, ◌++◌, refl, sym, ◌∙◌}
-use Rattle.fast_wire.specs.PresenceMap.{bit_at, next_bit, later_bits}
+use Rattle.fast_canon.proofs.Common.{◌≡◌, ℕ, zero, suc, Bool, true, false, List, [], ◌∷◌, ◌++◌, refl, sym, ◌∙◌, bit_at, next_bit, later_bits}
 
 -- the first bits of the list are those asked for, and 0 past its end
 abbrev pub Begins : List Bool → List Bool → Type 0

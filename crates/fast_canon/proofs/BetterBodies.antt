@@ -1,24 +1,5 @@
 -- What a stream carries has canonical bytes, which are no longer.
-use Rattle.std.proofs.Common.{◌≡◌, ℕ, Bool, true, false, List, [], ◌∷◌, length, Option, Some, None, refl, sym, ap, subst}
-use Rattle.std.specs.List.{AllByRecursion}
-use Rattle.fast_wire.specs.declared.level.Level.TheVariants.{Usual}
-use Rattle.fast_value.specs.declared.kind.Presence.{Presence}
-use Rattle.fast_value.specs.declared.kind.Presence.TheVariants.{Mandatory, Optional}
-use Rattle.fast_value.specs.declared.scalar.Scalar.{Scalar}
-use Rattle.fast_value.specs.declared.scalar.Scalar.TheVariants.{U32, I32, I64, Decimal}
-use Rattle.fast_template.specs.Resolved.{Instruction, Instructions, whole_field, field_in_parts, group_of, sequence_of, no_instructions, then_instruction, is_optional, has_map, Resolved}
-use Rattle.fast_dictionary.specs.Dictionary.{Dictionary}
-use Rattle.fast_field.specs.Fields.{Form}
-use Rattle.fast_field.specs.Best.{IsBest}
-use Rattle.fast_field.specs.Parts.{IsFieldPart, EachPart, EachPartIn}
-use Rattle.fast_stream.specs.Bits.{bit_for, after_bit}
-use Rattle.fast_stream.specs.Bodies.{State, Then, Each, SegmentBy, PartBy, PieceBy, BodyBy}
-use Rattle.fast_stream.specs.Nodes.{Item, single, group_items, sequence_elements, Items, no_items, then_item, element_count, Content}
-use Rattle.fast_stream.specs.Streams.{members_of, identifier, MapAt, BodyOfBy, MessageForm, CarriesFrom}
-use Rattle.fast_stream.proofs.FoundMembers.{members_have}
-use Rattle.fast_writer.specs.Canonical.{IsShortestMap, CanonMessage, CanonFrom}
-use Rattle.fast_walk.specs.Told.{HoldScalars}
-use Rattle.fast_walk.proofs.Telling.{identifier_is}
+use Rattle.fast_canon.proofs.Common.{◌≡◌, ℕ, Bool, true, false, List, [], ◌∷◌, length, Option, Some, None, refl, sym, ap, subst, AllByRecursion, Usual, Presence, Mandatory, Optional, Scalar, U32, I32, I64, Decimal, Instruction, Instructions, whole_field, field_in_parts, group_of, sequence_of, no_instructions, then_instruction, is_optional, has_map, Resolved, Dictionary, Form, IsBest, IsFieldPart, EachPart, EachPartIn, bit_for, after_bit, State, Then, Each, SegmentBy, PartBy, PieceBy, BodyBy, Item, single, group_items, sequence_elements, Items, no_items, then_item, element_count, Content, members_of, identifier, MapAt, BodyOfBy, MessageForm, CarriesFrom, members_have, IsShortestMap, CanonMessage, CanonFrom, HoldScalars, identifier_is}
 use Rattle.fast_canon.proofs.Stages.{with_bits}
 use Rattle.fast_canon.proofs.BetterParts.{IsBetter, IsBetterWhole, better_as, better_under, better_then, whole_then, whole_none, better_part, better_with_map, better_segment, better_each}
 

@@ -1,23 +1,6 @@
 -- Canonical bytes in place of given ones: they are no longer, and ask for no bit 1 where the given ones have bit 0.
-use Rattle.std.proofs.Common.{◌≡◌, ℕ, ◌+◌, ◌≤◌, Bool, true, false, List, [], ◌++◌, length, Option, refl, sym, ap, subst, ◌∙◌, arith}
-use Rattle.std.proofs.lemmas.List.{length-append}
-use Rattle.fast_wire.specs.declared.level.Level.TheVariants.{Usual}
-use Rattle.fast_template.specs.Resolved.{part_needs_bit}
-use Rattle.fast_template.specs.declared.resolved.FieldPart.{FieldPart}
-use Rattle.fast_value.specs.declared.scalar.Scalar.{Scalar}
-use Rattle.fast_dictionary.specs.Dictionary.{Dictionary, entry_at}
-use Rattle.fast_field.specs.Fields.{Form}
-use Rattle.fast_field.specs.Best.{IsBest}
-use Rattle.fast_field.specs.Parts.{IsFieldPart}
-use Rattle.fast_field.proofs.BestValues.{form_has_best, none_shorter}
-use Rattle.fast_stream.specs.Bits.{after_bit, bit_for}
-use Rattle.fast_stream.specs.Bodies.{State, Then, Each, WithMap, SegmentBy, PartBy, written}
-use Rattle.fast_stream.specs.Nodes.{Items, Elements, no_elements, then_element}
-use Rattle.fast_stream.specs.Streams.{MapAt}
-use Rattle.fast_writer.specs.Canonical.{IsShortestMap}
+use Rattle.fast_canon.proofs.Common.{◌≡◌, ℕ, ◌+◌, ◌≤◌, Bool, true, false, List, [], ◌++◌, length, Option, refl, sym, ap, subst, ◌∙◌, arith, length-append, Usual, part_needs_bit, FieldPart, Scalar, Dictionary, entry_at, Form, IsBest, IsFieldPart, form_has_best, none_shorter, after_bit, bit_for, State, Then, Each, WithMap, SegmentBy, PartBy, written, Items, Elements, no_elements, then_element, MapAt, IsShortestMap, HoldScalars, form_holds}
 use Rattle.fast_canon.proofs.AskedBits.{Begins, behind, AreBelow, begins_front, begins_back, behind_both, below_both, below_none, behind_none}
-use Rattle.fast_walk.specs.Told.{HoldScalars}
-use Rattle.fast_walk.proofs.Telling.{form_holds}
 use Rattle.fast_canon.proofs.PartBits.{one_asked, asked_is, asked_left, asked_below, form_bit}
 use Rattle.fast_canon.proofs.Stages.{Stage, with_bits}
 use Rattle.fast_canon.proofs.ShortestMaps.{shorter_map, map_of_asked}

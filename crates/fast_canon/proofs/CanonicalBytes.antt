@@ -1,22 +1,7 @@
 -- Lemmas on a stream on its way to canonical bytes.
 use Rattle.std.proofs.Common.{◌≡◌, ◌≤◌, ℕ, List, length, length-append, arith, Option, None, Result, Ok, Err, OnOk, ap, ◌∙◌}
-use Rattle.fast_template.specs.Resolved.{Resolved}
-use Rattle.fast_template.specs.TemplateSets.{IsSound, TemplateList, templates_in}
-use Rattle.fast_stream.specs.declared.mode.Mode.{Mode}
-use Rattle.fast_stream.specs.Blocks.{at_start}
-use Rattle.fast_stream.proofs.Framings.{as_messages_from}
-use Rattle.fast_stream.specs.Nodes.{Content}
-use Rattle.fast_machine.specs.Standing.{Carried}
-use Rattle.fast_io.specs.Counts.{counted_by}
-use Rattle.fast_machine.proofs.Followings.{all_carried}
-use Rattle.fast_pass.specs.declared.summary.Summary.{Summary}
-use Rattle.fast_pass.proofs.Relayings.{summary_by}
-use Rattle.fast_pass.specs.declared.fault.CanonFault.{CanonFault}
-use Rattle.fast_pass.specs.declared.fault.CanonFault.TheVariants as refusal
-use Rattle.fast_pass.specs.Passed.{Passes, errors_after}
-use Rattle.fast_canon.specs.Canonicalised.{Canonicalises, Checks}
+use Rattle.fast_canon.proofs.Common.{Resolved, IsSound, TemplateList, templates_in, Mode, at_start, as_messages_from, Content, Carried, counted_by, all_carried, Summary, summary_by, CanonFault, Passes, errors_after, Canonicalises, Checks, IsCanonical}
 use Rattle.fast_canon.proofs.StreamLaws.{none_shorter_alone}
-use Rattle.fast_writer.specs.Canonical.{IsCanonical}
 
 -- The canonical bytes of messages that a front of the bytes read carries are no more than these.
 pub no_longer : (mode : Mode) (set : TemplateList) → IsSound set → (input bytes : List ℕ) (messages : List Content) → Carried mode (templates_in set) input messages → IsCanonical (templates_in set) messages bytes → length bytes ≤ length input
@@ -38,14 +23,14 @@ canonicalised mode set turns left a b input (Ok summary) sound exact p =
       counts = p.counts ∙ ap (λ (n : ℕ). summary_by (length p.messages) (length input) n) (exact (length p.out) less);
       no_longer = less;
     }
-canonicalised mode set turns left a b input (Err (refusal.Stream f)) sound exact p = p
-canonicalised mode set turns left a b input (Err refusal.Write) sound exact p = p
-canonicalised mode set turns left a b input (Err refusal.Memory) sound exact p = p
+canonicalised mode set turns left a b input (Err (CanonFault.Stream f)) sound exact p = p
+canonicalised mode set turns left a b input (Err CanonFault.Write) sound exact p = p
+canonicalised mode set turns left a b input (Err CanonFault.Memory) sound exact p = p
 
 -- Where nothing is written no write fails.
 pub checked : (mode : Mode) (set : List Resolved) (turns : ℕ) (left : Option (List ℕ)) (input : List ℕ) (r : Result Summary CanonFault) → 0 ≡ errors_after r 0
     → Canonicalises mode set turns left None None input r → Checks mode set turns left input r
 checked mode set turns left input (Ok summary) none p = p
-checked mode set turns left input (Err (refusal.Stream f)) none p = p
-checked mode set turns left input (Err refusal.Write) none p = absurd (omega (arith, none))
-checked mode set turns left input (Err refusal.Memory) none p = p
+checked mode set turns left input (Err (CanonFault.Stream f)) none p = p
+checked mode set turns left input (Err CanonFault.Write) none p = absurd (omega (arith, none))
+checked mode set turns left input (Err CanonFault.Memory) none p = p

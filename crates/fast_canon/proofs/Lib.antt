@@ -1,3 +1,4 @@
+mod Common
 pub mod CanonicalBytes
 pub mod AskedBits
 pub mod PartBits

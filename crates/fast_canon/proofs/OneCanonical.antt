@@ -1,17 +1,5 @@
 -- Messages have one list of canonical bytes.
-use Rattle.std.proofs.Common.{◌≡◌, ℕ, Bool, true, false, List, [], ◌∷◌, ◌++◌, Option, Some, None, refl, sym, ap, ap₂, subst, ◌∙◌}
-use Rattle.fast_value.specs.declared.scalar.Scalar.{Scalar}
-use Rattle.fast_value.specs.declared.scalar.Scalar.TheVariants.{U32, I32, I64, Decimal}
-use Rattle.fast_template.specs.declared.resolved.FieldPart.{FieldPart}
-use Rattle.fast_template.specs.Resolved.{Instruction, Instructions, whole_field, field_in_parts, group_of, sequence_of, no_instructions, then_instruction, part_needs_bit, is_optional, has_map, Resolved}
-use Rattle.fast_dictionary.specs.Dictionary.{Dictionary, entry_at}
-use Rattle.fast_field.specs.Best.{IsBest}
-use Rattle.fast_field.proofs.OneBest.{best_is_one}
-use Rattle.fast_stream.specs.Bits.{bit_for, after_bit}
-use Rattle.fast_stream.specs.Bodies.{State, Then, Each, WithMap, SegmentBy, PartBy, PieceBy, written}
-use Rattle.fast_stream.specs.Nodes.{Item, single, group_items, sequence_elements, Items, no_items, then_item, Elements, no_elements, then_element, element_count, Content}
-use Rattle.fast_stream.specs.Streams.{members_of, identifier, BodyOfBy}
-use Rattle.fast_writer.specs.Canonical.{IsShortestMap, CanonBody, CanonMessage, CanonFrom}
+use Rattle.fast_canon.proofs.Common.{◌≡◌, ℕ, Bool, true, false, List, [], ◌∷◌, ◌++◌, Option, Some, None, refl, sym, ap, ap₂, subst, ◌∙◌, Scalar, U32, I32, I64, Decimal, FieldPart, Instruction, Instructions, whole_field, field_in_parts, group_of, sequence_of, no_instructions, then_instruction, part_needs_bit, is_optional, has_map, Resolved, Dictionary, entry_at, IsBest, best_is_one, bit_for, after_bit, State, Then, Each, WithMap, SegmentBy, PartBy, PieceBy, written, Item, single, group_items, sequence_elements, Items, no_items, then_item, Elements, no_elements, then_element, element_count, Content, members_of, identifier, BodyOfBy, IsShortestMap, CanonBody, CanonMessage, CanonFrom}
 use Rattle.fast_canon.proofs.AskedBits.{Begins, behind, begins_both, behind_both}
 use Rattle.fast_canon.proofs.Stages.{Stage, with_bits}
 use Rattle.fast_canon.proofs.PartBits.{one_asked, asked_left, asked_begins}

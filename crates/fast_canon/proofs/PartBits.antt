@@ -1,16 +1,5 @@
 -- The bit of a part or a group, as a list of none or one.
-use Rattle.std.proofs.Common.{◌≡◌, ℕ, Bool, true, false, List, [], ◌∷◌, Option, refl, sym, ap}
-use Rattle.fast_wire.specs.declared.level.Level.TheVariants.{Usual}
-use Rattle.fast_value.specs.declared.kind.Operator.{Operator}
-use Rattle.fast_value.specs.declared.kind.Operator.TheVariants as operator
-use Rattle.fast_template.specs.declared.resolved.FieldPart.{FieldPart}
-use Rattle.fast_value.specs.declared.scalar.Scalar.{Scalar}
-use Rattle.fast_template.specs.Resolved.{operator_needs_bit}
-use Rattle.fast_dictionary.specs.declared.entry.Entry.{Entry}
-use Rattle.fast_field.specs.Deltas.{Cut}
-use Rattle.fast_field.specs.Fields.{FormOf, FormBy}
-use Rattle.fast_field.specs.Parts.{IsBitOf}
-use Rattle.fast_stream.specs.Bits.{bit_for, after_bit}
+use Rattle.fast_canon.proofs.Common.{◌≡◌, ℕ, Bool, true, false, List, [], ◌∷◌, Option, refl, sym, ap, Usual, Operator, FieldPart, Scalar, operator_needs_bit, Entry, Cut, FormOf, FormBy, IsBitOf, bit_for, after_bit}
 use Rattle.fast_canon.proofs.AskedBits.{Begins, behind, AreBelow}
 
 -- the bit, where one is taken
@@ -37,13 +26,13 @@ asked_begins false bit bits h = tt
 -- a form stands under bit 1 where its part takes no bit
 row_bit : (o : Operator) (i : FieldPart) (e : Entry) (bit : Bool) (cut : Cut) (b : List ℕ) (v : Option Scalar) → FormOf Usual o i e bit cut b v → operator_needs_bit o i.presence ≡ false → bit ≡ true
 row_bit o i e true cut b v h none = refl
-row_bit operator.Plain i e false cut b v h none = absurd h
-row_bit operator.Constant i e false cut b v h none = let asks : operator_needs_bit operator.Constant i.presence ≡ true = ap (operator_needs_bit operator.Constant) h.2 in absurd cc
-row_bit operator.Default i e false cut b v h none = absurd cc
-row_bit operator.Copy i e false cut b v h none = absurd cc
-row_bit operator.Increment i e false cut b v h none = absurd cc
-row_bit operator.Delta i e false cut b v h none = absurd h
-row_bit operator.Tail i e false cut b v h none = absurd cc
+row_bit Operator.Plain i e false cut b v h none = absurd h
+row_bit Operator.Constant i e false cut b v h none = let asks : operator_needs_bit Operator.Constant i.presence ≡ true = ap (operator_needs_bit Operator.Constant) h.2 in absurd cc
+row_bit Operator.Default i e false cut b v h none = absurd cc
+row_bit Operator.Copy i e false cut b v h none = absurd cc
+row_bit Operator.Increment i e false cut b v h none = absurd cc
+row_bit Operator.Delta i e false cut b v h none = absurd h
+row_bit Operator.Tail i e false cut b v h none = absurd cc
 
 pub form_bit : (i : FieldPart) (e : Entry) (bit : Bool) (cut : Cut) (b : List ℕ) (v : Option Scalar) → FormBy Usual i e bit cut b v → IsBitOf i bit
 form_bit i e bit cut b v h = row_bit i.operator i e bit cut b v h.row

@@ -1,17 +1,5 @@
 -- The shortest map of the bits asked for.
-use Rattle.std.proofs.Common.{◌≡◌, ℕ, zero, suc, ◌-◌, ◌*◌, ◌%◌, ◌<◌, ◌≤◌, Bool, true, false, List, length, refl, sym, ap, ◌∙◌, arith, inl, inr}
-use Rattle.std.proofs.lemmas.Bool.{cases_lt, true≢false}
-use Rattle.std.proofs.lemmas.List.{get_or_past, length-map}
-use Rattle.fast_wire.specs.Entity.{groups}
-use Rattle.fast_wire.specs.PresenceMap.{bit_at, bits_of, IsMap, IsWholeMap}
-use Rattle.fast_wire.specs.Writing.{IsShortest}
-use Rattle.fast_wire.specs.Spellings.{map_of, IsMapSize}
-use Rattle.fast_wire.proofs.MapBits.{length_bits}
-use Rattle.fast_wire.proofs.MapForms.{map_length, map_shortest}
-use Rattle.fast_wire.proofs.SameMaps.{one_map}
-use Rattle.fast_wire.proofs.ShortestForms.{groups_for, used_in}
-use Rattle.fast_wire.proofs.UnsignedForms.{entity_some}
-use Rattle.fast_writer.specs.Canonical.{IsShortestMap}
+use Rattle.fast_canon.proofs.Common.{◌≡◌, ℕ, zero, suc, ◌-◌, ◌*◌, ◌%◌, ◌<◌, ◌≤◌, Bool, true, false, List, length, refl, sym, ap, ◌∙◌, arith, inl, inr, cases_lt, true≢false, get_or_past, length-map, groups, bit_at, bits_of, IsMap, IsWholeMap, IsShortest, map_of, IsMapSize, length_bits, map_length, map_shortest, one_map, groups_for, used_in, entity_some, IsShortestMap}
 use Rattle.fast_canon.proofs.AskedBits.{Begins, behind, AreBelow, begins_at, none_behind, bits_are, below_at}
 
 -- ---- a map of the bits asked for

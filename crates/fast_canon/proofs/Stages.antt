@@ -1,7 +1,5 @@
 -- What leads from one dictionary and list of bits to another.
-use Rattle.std.proofs.Common.{ℕ, Bool, List}
-use Rattle.fast_dictionary.specs.Dictionary.{Dictionary}
-use Rattle.fast_stream.specs.Bodies.{State}
+use Rattle.fast_canon.proofs.Common.{ℕ, Bool, List, Dictionary, State}
 
 -- bytes that lead from one state to another
 abbrev pub Stage : Type 1

@@ -1,23 +1,7 @@
 -- Laws of canonical bytes: they exist, are one, stay, and no stream of the same messages is shorter.
-use Rattle.std.proofs.Common.{◌≡◌, ◌≤◌, ◌↔◌, ℕ, List, arith, length, refl, sym, subst}
+use Rattle.fast_canon.proofs.Common.{◌≡◌, ◌≤◌, ◌↔◌, ℕ, List, arith, length, refl, sym, subst, Level, Usual, TemplateList, IsSound, templates_in, Dictionary, parts_of_sets, Mode, Content, CarriesFrom, Carries, plainly, as_messages, in_mode, message_reader, next_reader, one_list, IsCanonical, canonical_carries, empty_holds}
 use Rattle.std.specs.FinMap as map
-use Rattle.fast_wire.specs.declared.level.Level.{Level}
-use Rattle.fast_wire.specs.declared.level.Level.TheVariants.{Usual}
-use Rattle.fast_template.specs.TemplateSets.{TemplateList, IsSound, templates_in}
-use Rattle.fast_dictionary.specs.Dictionary.{Dictionary}
-use Rattle.fast_field.proofs.PartsOfSets.{parts_of_sets}
-use Rattle.fast_stream.specs.declared.mode.Mode.{Mode}
-use Rattle.fast_stream.specs.Nodes.{Content}
-use Rattle.fast_stream.specs.Streams.{CarriesFrom}
-use Rattle.fast_stream.specs.Modes.{Carries, plainly}
-use Rattle.fast_stream.proofs.Framings.{as_messages, in_mode}
-use Rattle.fast_stream.proofs.MessageReaders.{message_reader}
-use Rattle.fast_stream.proofs.ModeReaders.{next_reader}
-use Rattle.fast_stream.proofs.ModeStreams.{one_list}
-use Rattle.fast_writer.specs.Canonical.{IsCanonical}
-use Rattle.fast_writer.proofs.LawProofs.{canonical_carries}
 use Rattle.fast_canon.proofs.BetterBodies.{better_stream}
-use Rattle.fast_walk.proofs.Telling.{empty_holds}
 use Rattle.fast_canon.proofs.OneCanonical.{one_canonical}
 
 module _ (set : TemplateList) (sound : IsSound set) where

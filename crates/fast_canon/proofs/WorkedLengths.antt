@@ -1,15 +1,7 @@
 -- Worked streams beside the canonical bytes of what they carry. Some are longer and some as long, so no law can say
 -- that a stream is its own canonical bytes, or that these are fewer.
-use Rattle.std.proofs.Common.{◌≡◌, ◌≢◌, ◌<◌, ℕ, List, [], ◌∷◌, length, get_or, refl, ap, lit<, arith}
-use Rattle.fast_wire.specs.declared.level.Level.TheVariants.{Usual}
-use Rattle.fast_template.proofs.WorkedSet.{worked_set}
-use Rattle.fast_stream.specs.Nodes.{Content}
+use Rattle.fast_canon.proofs.Common.{◌≡◌, ◌≢◌, ◌<◌, ℕ, List, [], ◌∷◌, length, get_or, refl, ap, lit<, arith, Usual, worked_set, Content, hex, quote, u32, message, spelled_out, overlong_integer, overlong_map, unasked_bit, copied, carried, IsCanonical, canonical_first, quote_one, canonical_quotes}
 use Rattle.fast_stream.specs.Streams.{Carries}
-use Rattle.fast_stream.proofs.Hex.{hex}
-use Rattle.fast_stream.proofs.Rows.{quote, u32, message, spelled_out, overlong_integer, overlong_map, unasked_bit, copied}
-use Rattle.fast_stream.proofs.WorkedStreams.{carried}
-use Rattle.fast_writer.specs.Canonical.{IsCanonical}
-use Rattle.fast_writer.proofs.WorkedCanonical.{canonical_first, quote_one, canonical_quotes}
 
 -- a stream and the canonical bytes of its messages
 record AreOf (messages : List Content) (stream bytes : List ℕ) : Type 0 where

@@ -8,7 +8,6 @@ use Rattle.fast_stream.specs.Nodes.{Content}
 use Rattle.fast_decoder.specs.Inputs.{EndsWith}
 use Rattle.fast_writer.specs.Canonical.{IsCanonical}
 use Rattle.fast_pass.specs.declared.fault.CanonFault.{CanonFault}
-use Rattle.fast_pass.specs.declared.fault.CanonFault.TheVariants as refusal
 use Rattle.fast_pass.specs.declared.summary.Summary.{Summary}
 use Rattle.fast_pass.specs.Passed.{PassesBefore, PassesFront}
 
@@ -33,7 +32,7 @@ Breaks = PassesFront IsCanonical
 
 abbrev pub Canonicalises : Mode → List Resolved → ℕ → Option (List ℕ) → Option (List ℕ) → Option (List ℕ) → List ℕ → Result Summary CanonFault → Type 0
 Canonicalises mode set turns left taken_old taken_new input (Ok summary) = Ends mode set left taken_old taken_new input summary
-Canonicalises mode set turns left taken_old taken_new input (Err (refusal.Stream fault)) = Stops mode set turns left taken_old taken_new input fault
+Canonicalises mode set turns left taken_old taken_new input (Err (CanonFault.Stream fault)) = Stops mode set turns left taken_old taken_new input fault
 Canonicalises mode set turns left taken_old taken_new input (Err f) = Breaks mode set taken_old taken_new input
 
 -- ---- where nothing is written
@@ -41,6 +40,6 @@ Canonicalises mode set turns left taken_old taken_new input (Err f) = Breaks mod
 -- The same of a check: it never answers a failed write.
 abbrev pub Checks : Mode → List Resolved → ℕ → Option (List ℕ) → List ℕ → Result Summary CanonFault → Type 0
 Checks mode set turns left input (Ok summary) = Ends mode set left None None input summary
-Checks mode set turns left input (Err (refusal.Stream fault)) = Stops mode set turns left None None input fault
-Checks mode set turns left input (Err refusal.Write) = ⊥
-Checks mode set turns left input (Err refusal.Memory) = Breaks mode set None None input
+Checks mode set turns left input (Err (CanonFault.Stream fault)) = Stops mode set turns left None None input fault
+Checks mode set turns left input (Err CanonFault.Write) = ⊥
+Checks mode set turns left input (Err CanonFault.Memory) = Breaks mode set None None input

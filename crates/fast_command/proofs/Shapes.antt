@@ -4,11 +4,8 @@ use Rattle.std.specs.Prelude.{if◌then◌else◌, is_some, length, nat_lt, opti
 use Rattle.fast_value.specs.Scalar.{is_of}
 use Rattle.fast_value.specs.contracts.scalar.ScalarPartialEq.TheImpl as scalar_eq
 use Rattle.fast_value.specs.declared.kind.Kind.{Kind}
-use Rattle.fast_value.specs.declared.kind.Kind.TheVariants as kind
 use Rattle.fast_value.specs.declared.kind.Operator.{Operator}
-use Rattle.fast_value.specs.declared.kind.Operator.TheVariants as operator
 use Rattle.fast_value.specs.declared.kind.Part.{Part}
-use Rattle.fast_value.specs.declared.kind.Part.TheVariants as part
 use Rattle.fast_value.specs.declared.kind.Presence.{Presence}
 use Rattle.fast_value.specs.declared.kind.Presence.TheVariants.{Mandatory, Optional}
 use Rattle.fast_value.specs.declared.scalar.Scalar.{Scalar}
@@ -21,9 +18,7 @@ use Rattle.fast_dictionary.specs.Dictionary.{Dictionary, entry_at}
 use Rattle.fast_dictionary.specs.declared.entry.Entry.{Entry}
 use Rattle.fast_wire.specs.Reading.{◌>>=◌}
 use Rattle.fast_field.specs.declared.fault.FieldFault.{FieldFault}
-use Rattle.fast_field.specs.declared.fault.FieldFault.TheVariants as fault
 use Rattle.fast_field.specs.declared.fault.FieldRefusal.{FieldRefusal}
-use Rattle.fast_field.specs.declared.fault.FieldRefusal.TheVariants as refusal
 use Rattle.fast_field.specs.Bases.{delta_base, tail_base}
 use Rattle.fast_field.specs.Refusals.{absent_refusal, base_refusal, constant_refusal, delta_refusal, has_characters, has_too_many, is_far, operator_refusal, other_than_constant, refusal_of, tail_refusal, value_refusal}
 use Rattle.fast_field.specs.Values.{units_of}
@@ -34,7 +29,6 @@ use Rattle.fast_stream.proofs.FoundMembers.{members_have}
 use Rattle.fast_walk.proofs.Serving.{found_members}
 use Rattle.fast_writer.specs.Written.{state}
 use Rattle.fast_nodes.specs.declared.fault.EncodeCause.{EncodeCause}
-use Rattle.fast_nodes.specs.declared.fault.EncodeCause.TheVariants as cause
 use Rattle.fast_nodes.specs.declared.fault.EncodeFault.{EncodeFault}
 use Rattle.fast_nodes.specs.FirstRefusal.{elements_fit, elements_judged, error_in, first_refusal, is_too_large, item_fits, item_judged, items_fit, items_judged, judged, message_refusal, or_else, part_judged, refused, segment_judged, value_fits}
 use Rattle.fast_lines.specs.declared.form.Form.{Form}
@@ -61,7 +55,7 @@ some_if true s = refl
 some_if false s = refl
 
 decimal_is : (form : Form) (v : Scalar) (name : List ℕ) (number : ℕ) (presence : Presence) (exponent mantissa : FieldPart)
-    → is_some (value_text form kind.Decimal v) ≡ item_fits (field_in_parts name number presence exponent mantissa) (single (Some v))
+    → is_some (value_text form Kind.Decimal v) ≡ item_fits (field_in_parts name number presence exponent mantissa) (single (Some v))
 decimal_is form (U32 n) name number presence exponent mantissa = refl
 decimal_is form (I32 z) name number presence exponent mantissa = refl
 decimal_is form (U64 n) name number presence exponent mantissa = refl
@@ -107,8 +101,8 @@ module _ (form : Form) where
 -- ---- what is refused later is of another cause
 
 abbrev of_shape : EncodeCause → Bool
-of_shape cause.D9 = true
-of_shape cause.Mismatch = true
+of_shape EncodeCause.D9 = true
+of_shape EncodeCause.Mismatch = true
 of_shape c = false
 
 abbrev IsLater : {A : Type 0} → Result A EncodeFault → Type 0
@@ -123,79 +117,79 @@ both : (a b : Bool) → (a && b) ≡ true → (a ≡ true) × (b ≡ true)
 both true b e = (refl, e)
 both false b e = absurd cc
 
-judged_later : (p : FieldPart) (s : State) (v : Option Scalar) (r : Option FieldRefusal) → (r ≡ Some refusal.Mismatch → ⊥) → IsLater (judged p s v r)
+judged_later : (p : FieldPart) (s : State) (v : Option Scalar) (r : Option FieldRefusal) → (r ≡ Some FieldRefusal.Mismatch → ⊥) → IsLater (judged p s v r)
 judged_later p s v None other = tt
-judged_later p s v (Some refusal.D3) other = refl
-judged_later p s v (Some refusal.D4) other = refl
-judged_later p s v (Some refusal.D6) other = refl
-judged_later p s v (Some refusal.R1) other = refl
-judged_later p s v (Some refusal.NotConstant) other = refl
-judged_later p s v (Some refusal.TooShort) other = refl
-judged_later p s v (Some refusal.Mismatch) other = absurd (other refl)
-judged_later p s v (Some refusal.Limit) other = refl
-judged_later p s v (Some refusal.Memory) other = refl
+judged_later p s v (Some FieldRefusal.D3) other = refl
+judged_later p s v (Some FieldRefusal.D4) other = refl
+judged_later p s v (Some FieldRefusal.D6) other = refl
+judged_later p s v (Some FieldRefusal.R1) other = refl
+judged_later p s v (Some FieldRefusal.NotConstant) other = refl
+judged_later p s v (Some FieldRefusal.TooShort) other = refl
+judged_later p s v (Some FieldRefusal.Mismatch) other = absurd (other refl)
+judged_later p s v (Some FieldRefusal.Limit) other = refl
+judged_later p s v (Some FieldRefusal.Memory) other = refl
 
-other_constant : (p : Part) → Some (other_than_constant p) ≡ Some refusal.Mismatch → ⊥
-other_constant part.Whole e = absurd cc
-other_constant part.Exponent e = absurd cc
-other_constant part.Mantissa e = absurd cc
-other_constant part.Length e = absurd cc
+other_constant : (p : Part) → Some (other_than_constant p) ≡ Some FieldRefusal.Mismatch → ⊥
+other_constant Part.Whole e = absurd cc
+other_constant Part.Exponent e = absurd cc
+other_constant Part.Mantissa e = absurd cc
+other_constant Part.Length e = absurd cc
 
-constant_by : (p : Part) (b : Bool) → (if b then None else Some (other_than_constant p)) ≡ Some refusal.Mismatch → ⊥
+constant_by : (p : Part) (b : Bool) → (if b then None else Some (other_than_constant p)) ≡ Some FieldRefusal.Mismatch → ⊥
 constant_by p true e = absurd cc
 constant_by p false e = other_constant p e
 
-constant_other : (p : Part) (initial : Option Scalar) (v : Scalar) → constant_refusal p initial v ≡ Some refusal.Mismatch → ⊥
+constant_other : (p : Part) (initial : Option Scalar) (v : Scalar) → constant_refusal p initial v ≡ Some FieldRefusal.Mismatch → ⊥
 constant_other p None v e = other_constant p e
 constant_other p (Some w) v e = constant_by p ((scalar_eq.eq-value).it v w) e
 
-base_other : (f : FieldFault) → Some (base_refusal f) ≡ Some refusal.Mismatch → ⊥
-base_other fault.D2 e = absurd cc
-base_other fault.D4 e = absurd cc
-base_other fault.D5 e = absurd cc
-base_other fault.D6 e = absurd cc
-base_other fault.D7 e = absurd cc
-base_other fault.R1 e = absurd cc
-base_other fault.R2 e = absurd cc
-base_other fault.R6 e = absurd cc
-base_other fault.R9 e = absurd cc
-base_other fault.Limit e = absurd cc
-base_other fault.NeedMore e = absurd cc
-base_other fault.Memory e = absurd cc
+base_other : (f : FieldFault) → Some (base_refusal f) ≡ Some FieldRefusal.Mismatch → ⊥
+base_other FieldFault.D2 e = absurd cc
+base_other FieldFault.D4 e = absurd cc
+base_other FieldFault.D5 e = absurd cc
+base_other FieldFault.D6 e = absurd cc
+base_other FieldFault.D7 e = absurd cc
+base_other FieldFault.R1 e = absurd cc
+base_other FieldFault.R2 e = absurd cc
+base_other FieldFault.R6 e = absurd cc
+base_other FieldFault.R9 e = absurd cc
+base_other FieldFault.Limit e = absurd cc
+base_other FieldFault.NeedMore e = absurd cc
+base_other FieldFault.Memory e = absurd cc
 
-delta_other : (r : Result Scalar FieldFault) → delta_refusal r ≡ Some refusal.Mismatch → ⊥
+delta_other : (r : Result Scalar FieldFault) → delta_refusal r ≡ Some FieldRefusal.Mismatch → ⊥
 delta_other (Ok base) e = absurd cc
 delta_other (Err f) e = base_other f e
 
-short_other : (b : Bool) → (if b then Some refusal.TooShort else None) ≡ Some refusal.Mismatch → ⊥
+short_other : (b : Bool) → (if b then Some FieldRefusal.TooShort else None) ≡ Some FieldRefusal.Mismatch → ⊥
 short_other true e = absurd cc
 short_other false e = absurd cc
 
-tail_other : (r : Result Scalar FieldFault) (v : Scalar) → tail_refusal r v ≡ Some refusal.Mismatch → ⊥
+tail_other : (r : Result Scalar FieldFault) (v : Scalar) → tail_refusal r v ≡ Some FieldRefusal.Mismatch → ⊥
 tail_other (Ok base) v e = short_other (nat_lt (length (units_of v)) (length (units_of base))) e
 tail_other (Err f) v e = base_other f e
 
-operator_other : (o : Operator) (i : FieldPart) (e : Entry) (v : Scalar) → operator_refusal o i e v ≡ Some refusal.Mismatch → ⊥
-operator_other operator.Plain i e v is = absurd cc
-operator_other operator.Constant i e v is = constant_other i.part i.initial v is
-operator_other operator.Default i e v is = absurd cc
-operator_other operator.Copy i e v is = absurd cc
-operator_other operator.Increment i e v is = absurd cc
-operator_other operator.Delta i e v is = delta_other (delta_base i e) is
-operator_other operator.Tail i e v is = tail_other (tail_base i e) v is
+operator_other : (o : Operator) (i : FieldPart) (e : Entry) (v : Scalar) → operator_refusal o i e v ≡ Some FieldRefusal.Mismatch → ⊥
+operator_other Operator.Plain i e v is = absurd cc
+operator_other Operator.Constant i e v is = constant_other i.part i.initial v is
+operator_other Operator.Default i e v is = absurd cc
+operator_other Operator.Copy i e v is = absurd cc
+operator_other Operator.Increment i e v is = absurd cc
+operator_other Operator.Delta i e v is = delta_other (delta_base i e) is
+operator_other Operator.Tail i e v is = tail_other (tail_base i e) v is
 
-by_checks : (fits many far : Bool) (o : Option FieldRefusal) → fits ≡ true → (o ≡ Some refusal.Mismatch → ⊥)
-    → (if not fits then Some refusal.Mismatch else if many then Some refusal.Limit else if far then Some refusal.R1 else o) ≡ Some refusal.Mismatch → ⊥
+by_checks : (fits many far : Bool) (o : Option FieldRefusal) → fits ≡ true → (o ≡ Some FieldRefusal.Mismatch → ⊥)
+    → (if not fits then Some FieldRefusal.Mismatch else if many then Some FieldRefusal.Limit else if far then Some FieldRefusal.R1 else o) ≡ Some FieldRefusal.Mismatch → ⊥
 by_checks false many far o is other e = absurd cc
 by_checks true true far o is other e = absurd cc
 by_checks true false true o is other e = absurd cc
 by_checks true false false o is other e = other e
 
-absent_other : (p : Presence) → is_optional p ≡ true → absent_refusal p ≡ Some refusal.Mismatch → ⊥
+absent_other : (p : Presence) → is_optional p ≡ true → absent_refusal p ≡ Some FieldRefusal.Mismatch → ⊥
 absent_other Mandatory is e = absurd cc
 absent_other Optional is e = absurd cc
 
-refusal_other : (p : FieldPart) (e : Entry) (v : Option Scalar) → value_fits p v ≡ true → refusal_of p e v ≡ Some refusal.Mismatch → ⊥
+refusal_other : (p : FieldPart) (e : Entry) (v : Option Scalar) → value_fits p v ≡ true → refusal_of p e v ≡ Some FieldRefusal.Mismatch → ⊥
 unfolding value_refusal
 refusal_other p e None fits is = absent_other p.presence fits is
 refusal_other p e (Some v) fits is =
@@ -207,7 +201,7 @@ part_later p s v fits = judged_later p s v (refusal_of p (entry_at s.dictionary 
 of_kind : (p : FieldPart) (k : Kind) (v : Scalar) → p.kind ≡ k → (is_of k v && has_characters v) ≡ true → value_fits p (Some v) ≡ true
 of_kind p k v is fits = ap (λ l. is_of l v && has_characters v) is ∙ fits
 
-room_later : (b : Bool) (d : Dictionary) → IsLater (if b then Err (refused cause.Limit) else Ok d)
+room_later : (b : Bool) (d : Dictionary) → IsLater (if b then Err (refused EncodeCause.Limit) else Ok d)
 room_later true d = refl
 room_later false d = tt
 
@@ -221,8 +215,8 @@ mutual
   item_later (whole_field name number presence whole) (sequence_elements es) s h fits = absurd cc
   item_later (field_in_parts name number presence exponent mantissa) (single None) s h fits = part_later exponent s None fits
   item_later (field_in_parts name number presence exponent mantissa) (single (Some (Decimal e m))) s h fits =
-      later_then (part_judged exponent s (Some (I32 e))) _ (part_later exponent s (Some (I32 e)) (of_kind exponent kind.Int32 (I32 e) h.0.kind_is refl))
-      (λ t. part_later mantissa t (Some (I64 m)) (of_kind mantissa kind.Int64 (I64 m) h.1.kind_is refl))
+      later_then (part_judged exponent s (Some (I32 e))) _ (part_later exponent s (Some (I32 e)) (of_kind exponent Kind.Int32 (I32 e) h.0.kind_is refl))
+      (λ t. part_later mantissa t (Some (I64 m)) (of_kind mantissa Kind.Int64 (I64 m) h.1.kind_is refl))
   item_later (field_in_parts name number presence exponent mantissa) (single (Some (U32 n))) s h fits = absurd cc
   item_later (field_in_parts name number presence exponent mantissa) (single (Some (I32 z))) s h fits = absurd cc
   item_later (field_in_parts name number presence exponent mantissa) (single (Some (U64 n))) s h fits = absurd cc
@@ -243,7 +237,7 @@ mutual
   item_later (sequence_of name number presence length members) (group_items ns) s h fits = absurd cc
   item_later (sequence_of name number presence length members) (sequence_elements es) s h fits =
       later_then (part_judged length s (Some (U32 (element_count es)))) _
-      (part_later length s (Some (U32 (element_count es))) (of_kind length kind.UInt32 (U32 (element_count es)) h.0.kind_is refl))
+      (part_later length s (Some (U32 (element_count es))) (of_kind length Kind.UInt32 (U32 (element_count es)) h.0.kind_is refl))
       (λ t. later_then (elements_judged members es t.dictionary) _ (elements_later members es t.dictionary h.1 fits) (λ d. tt))
 
   items_later : (is : Instructions) (ns : Items) (s : State) → HaveTypedParts is → items_fit is ns ≡ true → IsLater (items_judged is ns s)
@@ -265,7 +259,7 @@ mutual
 
 -- a message is refused for its template, its shape or its types
 abbrev pub IsOfShape : EncodeFault → Type 0
-IsOfShape f = (f ≡ refused cause.D9) ⊎ (f ≡ refused cause.Mismatch)
+IsOfShape f = (f ≡ refused EncodeCause.D9) ⊎ (f ≡ refused EncodeCause.Mismatch)
 
 not_later : (f : EncodeFault) → IsOfShape f → of_shape f.cause ≡ false → ⊥
 not_later f (inl is) e = absurd (cc (sym (ap (λ g. of_shape g.cause) is) ∙ e))
@@ -275,12 +269,12 @@ error_later : {A : Type 0} (r : Result A EncodeFault) (f : EncodeFault) → IsLa
 error_later (Ok x) f h e = absurd cc
 error_later (Err g) f h e = let same : g ≡ f = cc in subst (λ x. of_shape x.cause ≡ false) same h
 
-limit_later : (f : EncodeFault) → Some (refused cause.Limit) ≡ Some f → of_shape f.cause ≡ false
-limit_later f e = let same : refused cause.Limit ≡ f = cc in subst (λ x. of_shape x.cause ≡ false) same refl
+limit_later : (f : EncodeFault) → Some (refused EncodeCause.Limit) ≡ Some f → of_shape f.cause ≡ false
+limit_later f e = let same : refused EncodeCause.Limit ≡ f = cc in subst (λ x. of_shape x.cause ≡ false) same refl
 
 -- of a message that fits
 fits_later : (fits large : Bool) (later : Option EncodeFault) (f : EncodeFault) → fits ≡ true → (later ≡ Some f → of_shape f.cause ≡ false)
-    → or_else (if not fits then Some (refused cause.Mismatch) else if large then Some (refused cause.Limit) else None) later ≡ Some f → of_shape f.cause ≡ false
+    → or_else (if not fits then Some (refused EncodeCause.Mismatch) else if large then Some (refused EncodeCause.Limit) else None) later ≡ Some f → of_shape f.cause ≡ false
 fits_later false large later f is rest e = absurd cc
 fits_later true true later f is rest e = limit_later f e
 fits_later true false later f is rest e = rest e
@@ -319,15 +313,15 @@ module _ (form : Form) (set : TemplateList) (d : Dictionary) (m : Content) (soun
       let named = found_members set m.template in
       none_by (template_of m.template set) f named (ap (λ o. message_refusal o d m) (sym named) ∙ why) shape
 
-  misfit : (members : Instructions) → items_fit members m.items ≡ false → message_refusal (Some members) d m ≡ Some (refused cause.Mismatch)
+  misfit : (members : Instructions) → items_fit members m.items ≡ false → message_refusal (Some members) d m ≡ Some (refused EncodeCause.Mismatch)
   misfit members is =
-      ap (λ b. or_else (if not b then Some (refused cause.Mismatch) else if is_too_large m.items then Some (refused cause.Limit) else None)
+      ap (λ b. or_else (if not b then Some (refused EncodeCause.Mismatch) else if is_too_large m.items then Some (refused EncodeCause.Limit) else None)
       (error_in (segment_judged true (λ s. part_judged identifier s (Some (U32 m.template)) >>= λ t. items_judged members m.items t) d))) is
 
   refused_by : (o : Option FlatTemplate) → members_of (templates_in set) m.template ≡ option_map (λ (t : FlatTemplate). list_of t.members.items) o → line_if form o m ≡ None
       → (f : EncodeFault) × (message_refusal (option_map (λ (t : FlatTemplate). list_of t.members.items) o) d m ≡ Some f) × IsOfShape f
-  refused_by None named none = (refused cause.D9, refl, inl refl)
-  refused_by (Some t) named none = (refused cause.Mismatch, misfit (list_of t.members.items) (sym (line_is t named) ∙ ap is_some none), inr refl)
+  refused_by None named none = (refused EncodeCause.D9, refl, inl refl)
+  refused_by (Some t) named none = (refused EncodeCause.Mismatch, misfit (list_of t.members.items) (sym (line_is t named) ∙ ap is_some none), inr refl)
 
   -- and what has no line is refused for its shape
   pub refused_for_shape : line_in form set m ≡ None → (f : EncodeFault) × (first_refusal (templates_in set) d m ≡ Some f) × IsOfShape f

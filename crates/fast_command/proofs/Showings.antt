@@ -6,7 +6,6 @@ use Rattle.fast_stream.specs.declared.mode.Mode.{Mode}
 use Rattle.fast_stream.specs.Nodes.{Content}
 use Rattle.fast_pass.specs.Passed.{Passes}
 use Rattle.fast_pass.specs.declared.fault.CanonFault.{CanonFault}
-use Rattle.fast_pass.specs.declared.fault.CanonFault.TheVariants as refusal
 use Rattle.fast_pass.specs.declared.summary.Summary.{Summary}
 use Rattle.fast_pass.specs.Relays.{Making}
 use Rattle.fast_lines.specs.declared.form.Form.{Form}
@@ -26,9 +25,9 @@ lines_are form set messages out e = sym (same_lines form set messages) ∙ e
 
 pub shows : (mode : Mode) (form : Form) (set : TemplateList) (turns : ℕ) (left a b : Option (List ℕ)) (input : List ℕ) (r : Result Summary CanonFault) → Passes (are_lines form) mode (templates_in set) turns left a b input r → Shows mode form set turns left a b input r
 shows mode form set turns left a b input (Ok summary) p = record { messages = p.messages; out = p.out; ends = p.ends; made = lines_are form set p.messages p.out p.made; written = p.written; counts = p.counts }
-shows mode form set turns left a b input (Err (refusal.Stream f)) p = record { messages = p.messages; out = p.out; refuses = p.refuses; made = lines_are form set p.messages p.out p.made; written = p.written }
-shows mode form set turns left a b input (Err refusal.Write) p = record { messages = p.messages; front = p.front; rest = p.rest; carried = p.carried; made = lines_are form set p.messages (p.front ++ p.rest) p.made; written = p.written }
-shows mode form set turns left a b input (Err refusal.Memory) p = record { messages = p.messages; front = p.front; rest = p.rest; carried = p.carried; made = lines_are form set p.messages (p.front ++ p.rest) p.made; written = p.written }
+shows mode form set turns left a b input (Err (CanonFault.Stream f)) p = record { messages = p.messages; out = p.out; refuses = p.refuses; made = lines_are form set p.messages p.out p.made; written = p.written }
+shows mode form set turns left a b input (Err CanonFault.Write) p = record { messages = p.messages; front = p.front; rest = p.rest; carried = p.carried; made = lines_are form set p.messages (p.front ++ p.rest) p.made; written = p.written }
+shows mode form set turns left a b input (Err CanonFault.Memory) p = record { messages = p.messages; front = p.front; rest = p.rest; carried = p.carried; made = lines_are form set p.messages (p.front ++ p.rest) p.made; written = p.written }
 
 -- ---- what a check says
 

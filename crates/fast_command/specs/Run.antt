@@ -7,7 +7,6 @@ use Rattle.fast_pass.specs.Passed.{Passes}
 use Rattle.fast_canon.specs.Canonicalised.{Canonicalises, Ends, Stops}
 use Rattle.fast_pass.specs.Relays.{Making}
 use Rattle.fast_pass.specs.declared.fault.CanonFault.{CanonFault}
-use Rattle.fast_pass.specs.declared.fault.CanonFault.TheVariants as refusal
 use Rattle.fast_pass.specs.declared.summary.Summary.{Summary}
 use Rattle.fast_lines.specs.declared.form.Form.{Form}
 use Rattle.fast_lines.specs.Lines.{lines_in, ok_text}
@@ -42,7 +41,7 @@ pub record TellsFront (mode : Mode) (set : TemplateList) (left taken_old taken_n
 abbrev pub Tells : Mode → TemplateList → ℕ → Option (List ℕ) → Option (List ℕ) → Option (List ℕ) → List ℕ → Result Summary CanonFault → Type 0
 Tells mode set turns left taken_old taken_new input (Ok summary) =
     Ends mode (templates_in set) left None None input summary × Appends taken_old taken_new (ok_line summary)
-Tells mode set turns left taken_old taken_new input (Err (refusal.Stream fault)) =
+Tells mode set turns left taken_old taken_new input (Err (CanonFault.Stream fault)) =
     Stops mode (templates_in set) turns left None None input fault × Appends taken_old taken_new []
 Tells mode set turns left taken_old taken_new input (Err f) = TellsFront mode set left taken_old taken_new input
 

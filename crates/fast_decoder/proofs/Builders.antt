@@ -1,19 +1,5 @@
 -- What holds of a builder whose finished messages are exchanged.
-use Rattle.std.proofs.Common.{◌≡◌, ℕ, List, map, Option, inl, inr, refl, subst}
-use Rattle.std.specs.Global.{Vec}
-use Rattle.fast_template.specs.Resolved.{Resolved}
-use Rattle.fast_dictionary.specs.Dictionary.{Dictionary}
-use Rattle.fast_stream.specs.declared.mode.Framing.{Framing}
-use Rattle.fast_messages.specs.declared.builder.Builder.{Builder}
-use Rattle.fast_stream.specs.declared.fault.Fault.{Fault}
-use Rattle.fast_stream.specs.declared.message.Message.{Message}
-use Rattle.fast_walk.specs.declared.traversal.Traversal.{Traversal}
-use Rattle.fast_stream.specs.Nodes.{Content, content_of}
-use Rattle.fast_walk.specs.OpenSegments.{Next, at_instruction}
-use Rattle.fast_walk.specs.Received.{Received, behind}
-use Rattle.fast_messages.specs.Built.{IsBuilt, IsNextBuilt, with_whole}
-use Rattle.fast_machine.specs.Following.{FollowsAt}
-use Rattle.fast_machine.proofs.Followings.{follows_behind, has_kept}
+use Rattle.fast_decoder.proofs.Common.{◌≡◌, ℕ, List, map, Option, inl, inr, refl, subst, Vec, Resolved, Dictionary, Framing, Builder, Fault, Message, Traversal, Content, content_of, Next, at_instruction, Received, behind, IsBuilt, IsNextBuilt, with_whole, FollowsAt, follows_behind, has_kept}
 
 abbrev pub BuilderHas : Builder → Received → Dictionary → Type 0
 BuilderHas b o d = IsBuilt b o

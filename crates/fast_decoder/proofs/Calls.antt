@@ -1,10 +1,6 @@
 -- How a stream of messages goes on from call to call.
-use Rattle.std.proofs.Common.{◌≡◌, ◌+◌, ◌++◌, ◌∙◌, ℕ, [], refl, arith, append_assoc, append-nil}
+use Rattle.fast_decoder.proofs.Common.{◌≡◌, ◌+◌, ◌++◌, ◌∙◌, ℕ, [], refl, arith, append_assoc, append-nil, Ghosts, MessageInputStream, Reached, IsSameStream, ReadsOn}
 use Rattle.fast_io.specs.declared.input.ByteInput.{Ghosts as Giving}
-use Rattle.fast_dictionary.specs.declared.entries.Entries.{Ghosts}
-use Rattle.fast_decoder.specs.declared.input.MessageInputStream.{MessageInputStream}
-use Rattle.fast_decoder.specs.declared.input.Reached.TheVariants as reached
-use Rattle.fast_decoder.specs.Calls.{IsSameStream, ReadsOn}
 use Rattle.fast_decoder.proofs.Inputs.{causes_none, causes_on, more_read, none_read}
 
 module _ {R E : Type 0} {input : Giving R} {entries : Ghosts E} where
@@ -17,7 +13,7 @@ module _ {R E : Type 0} {input : Giving R} {entries : Ghosts E} where
   pub reads_none : (s : MessageInputStream R E input entries) → ReadsOn s s 0
   reads_none s = record { got = []; gave = none_read _; counted = omega arith; stands = λ bytes answered stands. (rw (append-nil bytes) stands, causes_none _ _) }
 
-  pub reads_on : {a b c : MessageInputStream R E input entries} {count : ℕ} → ReadsOn a b count → b.reached ≡ reached.Open → ReadsOn b c 1 → ReadsOn a c (count + 1)
+  pub reads_on : {a b c : MessageInputStream R E input entries} {count : ℕ} → ReadsOn a b count → b.reached ≡ Reached.Open → ReadsOn b c 1 → ReadsOn a c (count + 1)
   reads_on {a = a} {b = b} {c = c} {count = count} i is r = record {
     got = i.got ++ r.got;
     gave = more_read _ _ _ count i.got r.got i.gave r.gave;

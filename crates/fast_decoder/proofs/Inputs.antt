@@ -1,40 +1,16 @@
 -- How a stream of messages follows its reader.
-use Rattle.std.proofs.Common.{◌≡◌, ◌≢◌, ◌≤◌, ℕ, ◌+◌, List, [], ◌∷◌, ◌++◌, length, take, map, reverse, Option, None, Some, Result, refl, sym, ap, subst, ◌∙◌, arith, append_assoc, length-append, length-take}
-use Rattle.std.proofs.lemmas.List.{reverse-reverse, reverse-append}
-use Rattle.std.specs.Io.KnownBytes.{Consumes, Keeps, IsAtEnd}
-use Rattle.fast_io.specs.Counts.{counted}
-use Rattle.fast_template.specs.Resolved.{Resolved}
-use Rattle.fast_decoder.specs.declared.input.Reached.{Reached}
-use Rattle.fast_decoder.specs.declared.input.Reached.TheVariants as reached
-use Rattle.fast_stream.specs.declared.fault.Cause.{Cause}
-use Rattle.fast_stream.specs.declared.fault.Cause.TheVariants as cause
-use Rattle.fast_stream.specs.declared.fault.Fault.{Fault}
-use Rattle.fast_stream.specs.declared.mode.Mode.{Mode}
-use Rattle.fast_stream.specs.declared.place.Place.{Place}
-use Rattle.fast_decoder.specs.declared.decoder.Decoder.{Decoder}
-use Rattle.fast_stream.specs.declared.message.Message.{Message}
-use Rattle.fast_template.specs.TemplateSets.{templates_in}
-use Rattle.fast_dictionary.specs.declared.entries.Entries.{Ghosts}
-use Rattle.fast_stream.specs.Nodes.{Content, content_of}
-use Rattle.fast_machine.specs.Following.{IsCutAt, Refused, mode_of}
-use Rattle.fast_stream.specs.Blocks.{Stand, at_start}
-use Rattle.fast_stream.specs.Modes.{CarriesFrom, FirstFault}
-use Rattle.fast_machine.specs.Standing.{Carried}
-use Rattle.fast_decoder.specs.Inputs.{Causes, Follows, HasReached, IsCaused, IsFaultOf, OnFault, Reader, Reads, RefusedBy, Refuses, Repeats, Stands, waiting_in}
-use Rattle.fast_machine.proofs.Runs.{carried_of}
-use Rattle.fast_machine.proofs.Followings.{all_carried}
-use Rattle.fast_stream.proofs.Causes.{IsOfBytes, of_mode}
+use Rattle.fast_decoder.proofs.Common.{◌≡◌, ◌≢◌, ◌≤◌, ℕ, ◌+◌, List, [], ◌∷◌, ◌++◌, length, take, map, reverse, Option, None, Some, Result, refl, sym, ap, subst, ◌∙◌, arith, append_assoc, length-append, length-take, reverse-reverse, reverse-append, Consumes, Keeps, IsAtEnd, counted, Resolved, Reached, Cause, Fault, Mode, Place, Decoder, Message, templates_in, Ghosts, Content, content_of, IsCutAt, Refused, mode_of, Stand, at_start, CarriesFrom, FirstFault, Carried, Causes, Follows, HasReached, IsCaused, IsFaultOf, OnFault, Reader, Reads, RefusedBy, Refuses, Repeats, Stands, waiting_in, carried_of, all_carried, IsOfBytes, of_mode}
 
-by_bytes : (c : Cause) (mode : Mode) (set : List Resolved) (turns : ℕ) (left : Option (List ℕ)) (bytes : List ℕ) (place : Place) → (c ≡ cause.Truncated → IsAtEnd left) → (c ≢ cause.Memory → FirstFault mode set bytes place c)
-    → (c ≡ cause.Memory → (place.offset ≡ 0) × (place.template ≡ 0) × (place.instruction ≡ 0)) → RefusedBy c mode set turns left bytes place
-by_bytes cause.Truncated mode set turns left bytes place more first memory = (first (λ e. absurd cc), more refl)
-by_bytes cause.Read mode set turns left bytes place more first memory = absurd (of_mode mode set bytes place cause.Read (first (λ e. absurd cc)))
-by_bytes cause.Turns mode set turns left bytes place more first memory = absurd (of_mode mode set bytes place cause.Turns (first (λ e. absurd cc)))
-by_bytes cause.Memory mode set turns left bytes place more first memory = memory refl
+by_bytes : (c : Cause) (mode : Mode) (set : List Resolved) (turns : ℕ) (left : Option (List ℕ)) (bytes : List ℕ) (place : Place) → (c ≡ Cause.Truncated → IsAtEnd left) → (c ≢ Cause.Memory → FirstFault mode set bytes place c)
+    → (c ≡ Cause.Memory → (place.offset ≡ 0) × (place.template ≡ 0) × (place.instruction ≡ 0)) → RefusedBy c mode set turns left bytes place
+by_bytes Cause.Truncated mode set turns left bytes place more first memory = (first (λ e. absurd cc), more refl)
+by_bytes Cause.Read mode set turns left bytes place more first memory = absurd (of_mode mode set bytes place Cause.Read (first (λ e. absurd cc)))
+by_bytes Cause.Turns mode set turns left bytes place more first memory = absurd (of_mode mode set bytes place Cause.Turns (first (λ e. absurd cc)))
+by_bytes Cause.Memory mode set turns left bytes place more first memory = memory refl
 by_bytes c mode set turns left bytes place more first memory = first (λ e. absurd cc)
 
 -- a fault of the bytes, inside a message only where the reader has ended, or want of memory
-pub refused_by_bytes : (f : Fault) (mode : Mode) (set : List Resolved) (turns : ℕ) (left : Option (List ℕ)) (bytes : List ℕ) (messages : List Content) → (f.cause ≡ cause.Truncated → IsAtEnd left) → Refused f mode set bytes messages → Refuses mode set turns left bytes messages f
+pub refused_by_bytes : (f : Fault) (mode : Mode) (set : List Resolved) (turns : ℕ) (left : Option (List ℕ)) (bytes : List ℕ) (messages : List Content) → (f.cause ≡ Cause.Truncated → IsAtEnd left) → Refused f mode set bytes messages → Refuses mode set turns left bytes messages f
 refused_by_bytes f mode set turns left bytes messages more r = record { carried = r.0; behind = r.1; refused = by_bytes f.cause mode set turns left bytes f.place more r.2 r.3 }
 
 -- ---- what waits
@@ -44,8 +20,8 @@ pushed_waits old out new pushed none turned grown =
     ap waiting_in turned ∙ ap (map content_of) (reverse-reverse out) ∙ grown ∙ ap (λ (xs : List Message). map content_of xs ++ pushed) none
 
 -- a first fault is none that bytes cannot have
-pub of_bytes : (f : Fault) (mode : Mode) (set : List Resolved) (bytes : List ℕ) → (f.cause ≢ cause.Memory → FirstFault mode set bytes f.place f.cause) → f.cause ≢ cause.Truncated
-    → (f.cause ≢ cause.Truncated) × (f.cause ≢ cause.Read) × (f.cause ≢ cause.Turns)
+pub of_bytes : (f : Fault) (mode : Mode) (set : List Resolved) (bytes : List ℕ) → (f.cause ≢ Cause.Memory → FirstFault mode set bytes f.place f.cause) → f.cause ≢ Cause.Truncated
+    → (f.cause ≢ Cause.Truncated) × (f.cause ≢ Cause.Read) × (f.cause ≢ Cause.Turns)
 of_bytes f mode set bytes first more =
     (more, (λ e. subst (IsOfBytes mode.level) e (of_mode mode set bytes f.place f.cause (first (λ m. absurd cc)))), (λ e. subst (IsOfBytes mode.level) e (of_mode mode set bytes f.place f.cause (first (λ m. absurd cc)))))
 
@@ -89,27 +65,27 @@ more_read a b c k got more r one = record {
 
 pub reached_with : (at : Reached) (P Q : Type 0) (mode : Mode) (set : List Resolved) (turns : ℕ) (left : Option (List ℕ)) (bytes : List ℕ) (messages : List Content) → (P → Q) → HasReached at P mode set turns left bytes messages
     → HasReached at Q mode set turns left bytes messages
-reached_with reached.Open P Q mode set turns left bytes messages f h = f h
+reached_with Reached.Open P Q mode set turns left bytes messages f h = f h
 reached_with at P Q mode set turns left bytes messages f h = h
 
-pub refused_by_read : (f : Fault) (mode : Mode) (set : List Resolved) (turns : ℕ) (left : Option (List ℕ)) (bytes : List ℕ) (messages : List Content) → f.cause ≡ cause.Read → IsCutAt mode set bytes messages f.place → Refuses mode set turns left bytes messages f
+pub refused_by_read : (f : Fault) (mode : Mode) (set : List Resolved) (turns : ℕ) (left : Option (List ℕ)) (bytes : List ℕ) (messages : List Content) → f.cause ≡ Cause.Read → IsCutAt mode set bytes messages f.place → Refuses mode set turns left bytes messages f
 refused_by_read f mode set turns left bytes messages is cut =
     record { carried = cut.carried; behind = cut.behind; refused = subst (λ (c : Cause). RefusedBy c mode set turns left bytes f.place) (sym is) cut.at }
 
-pub refused_by_turns : (f : Fault) (mode : Mode) (set : List Resolved) (turns : ℕ) (left : Option (List ℕ)) (bytes : List ℕ) (messages : List Content) → f.cause ≡ cause.Turns → IsCutAt mode set bytes messages f.place → turns ≤ length bytes
+pub refused_by_turns : (f : Fault) (mode : Mode) (set : List Resolved) (turns : ℕ) (left : Option (List ℕ)) (bytes : List ℕ) (messages : List Content) → f.cause ≡ Cause.Turns → IsCutAt mode set bytes messages f.place → turns ≤ length bytes
     → Refuses mode set turns left bytes messages f
 refused_by_turns f mode set turns left bytes messages is cut many =
     record { carried = cut.carried; behind = cut.behind; refused = subst (λ (c : Cause). RefusedBy c mode set turns left bytes f.place) (sym is) (cut.at, many) }
 
-pub caused_by_feed : (at : Reached) (old new : Reader) → at ≢ reached.End → OnFault at (λ c. (c ≢ cause.Truncated) × (c ≢ cause.Read) × (c ≢ cause.Turns)) → new.errors ≡ old.errors → new.ends ≡ old.ends → IsCaused at ⊥ old new
-caused_by_feed reached.Open old new some of same none = (same, none)
-caused_by_feed reached.End old new some of same none = absurd (some refl)
-caused_by_feed (reached.Fault f) old new some of same none = ((λ e. absurd (of.1 e)), (λ e. absurd (of.0 e)), (λ e. absurd (of.2 e)))
+pub caused_by_feed : (at : Reached) (old new : Reader) → at ≢ Reached.End → OnFault at (λ c. (c ≢ Cause.Truncated) × (c ≢ Cause.Read) × (c ≢ Cause.Turns)) → new.errors ≡ old.errors → new.ends ≡ old.ends → IsCaused at ⊥ old new
+caused_by_feed Reached.Open old new some of same none = (same, none)
+caused_by_feed Reached.End old new some of same none = absurd (some refl)
+caused_by_feed (Reached.Fault f) old new some of same none = ((λ e. absurd (of.1 e)), (λ e. absurd (of.0 e)), (λ e. absurd (of.2 e)))
 
-pub caused_by_end : (f : Fault) (old new : Reader) → f.cause ≡ cause.Truncated → new.ends ≡ counted old.ends → IsCaused (reached.Fault f) ⊥ old new
+pub caused_by_end : (f : Fault) (old new : Reader) → f.cause ≡ Cause.Truncated → new.ends ≡ counted old.ends → IsCaused (Reached.Fault f) ⊥ old new
 caused_by_end f old new of met = ((λ e. absurd cc), (λ e. met), (λ e. absurd cc))
 
-pub caused_by_read : (f : Fault) (old new : Reader) → f.cause ≡ cause.Read → new.errors ≡ counted old.errors → IsCaused (reached.Fault f) ⊥ old new
+pub caused_by_read : (f : Fault) (old new : Reader) → f.cause ≡ Cause.Read → new.errors ≡ counted old.errors → IsCaused (Reached.Fault f) ⊥ old new
 caused_by_read f old new is failed = ((λ e. failed), (λ e. absurd cc), (λ e. absurd cc))
 
 -- ---- what was answered
@@ -133,11 +109,11 @@ front_carried mode set bytes xs ys c =
 
 reached_carried : {E : Type 0} {ghosts : Ghosts E} (at : Reached) (d : Decoder E ghosts) (reads turns : ℕ) (left : Option (List ℕ)) (bytes : List ℕ) (messages : List Content)
     → HasReached at (Follows d bytes messages × (reads ≤ length bytes)) (mode_of d.machine) (templates_in d.machine.traversal.set.now) turns left bytes messages → Carried (mode_of d.machine) (templates_in d.machine.traversal.set.now) bytes messages
-reached_carried reached.Open d reads turns left bytes messages h =
+reached_carried Reached.Open d reads turns left bytes messages h =
     let at = rw (h.0.goes_on) at h.0.follows.at in
     carried_of at.0
-reached_carried reached.End d reads turns left bytes messages h = all_carried (mode_of d.machine) (templates_in d.machine.traversal.set.now) bytes messages h.carried
-reached_carried (reached.Fault f) d reads turns left bytes messages h = h.carried
+reached_carried Reached.End d reads turns left bytes messages h = all_carried (mode_of d.machine) (templates_in d.machine.traversal.set.now) bytes messages h.carried
+reached_carried (Reached.Fault f) d reads turns left bytes messages h = h.carried
 
 -- the message that waited last in the list is answered
 popped : (answered : List Content) (old rest : List Message) (m : Message) → old ≡ rest ++ m ∷ [] → answered ++ waiting_in old ≡ (answered ++ content_of m ∷ []) ++ waiting_in rest
@@ -155,38 +131,38 @@ stands_popped at d old rest m turns reads left bytes answered is stands =
 -- ---- causes
 
 pub causes_none : (at : Reached) (a : Reader) → Causes at at ⊥ a a
-causes_none reached.Open a = (refl, refl)
+causes_none Reached.Open a = (refl, refl)
 causes_none at a = (refl, refl)
 
 caused_from : (at : Reached) (P Q : Type 0) (a b c : Reader) → (P → Q) → b.errors ≡ a.errors → b.ends ≡ a.ends → IsCaused at P b c → IsCaused at Q a c
-caused_from reached.Open P Q a b c f same none h = (h.0 ∙ same, h.1 ∙ none)
-caused_from reached.End P Q a b c f same none h = (h.0 ∙ ap counted none, h.1 ∙ same)
-caused_from (reached.Fault g) P Q a b c f same none h = ((λ e. h.0 e ∙ ap counted same), (λ e. h.1 e ∙ ap counted none), (λ e. (f (h.2 e).0, (h.2 e).1 ∙ none)))
+caused_from Reached.Open P Q a b c f same none h = (h.0 ∙ same, h.1 ∙ none)
+caused_from Reached.End P Q a b c f same none h = (h.0 ∙ ap counted none, h.1 ∙ same)
+caused_from (Reached.Fault g) P Q a b c f same none h = ((λ e. h.0 e ∙ ap counted same), (λ e. h.1 e ∙ ap counted none), (λ e. (f (h.2 e).0, (h.2 e).1 ∙ none)))
 
-pub causes_on : (before now next : Reached) (a b c : Reader) → now ≡ reached.Open → Causes before now ⊥ a b → IsCaused next ⊥ b c → Causes before next ⊥ a c
-causes_on reached.Open now next a b c is h one = let both = rw is at h in caused_from next ⊥ ⊥ a b c (λ e. e) both.0 both.1 one
+pub causes_on : (before now next : Reached) (a b c : Reader) → now ≡ Reached.Open → Causes before now ⊥ a b → IsCaused next ⊥ b c → Causes before next ⊥ a c
+causes_on Reached.Open now next a b c is h one = let both = rw is at h in caused_from next ⊥ ⊥ a b c (λ e. e) both.0 both.1 one
 causes_on before now next a b c is h one = absurd cc
 
 pub causes_weaker : (before now : Reached) (P : Type 0) (a b : Reader) → Causes before now ⊥ a b → Causes before now P a b
-causes_weaker reached.Open now P a b h = caused_from now ⊥ P a a b (λ e. absurd e) refl refl h
+causes_weaker Reached.Open now P a b h = caused_from now ⊥ P a a b (λ e. absurd e) refl refl h
 causes_weaker before now P a b h = h
 
-used_from : (before next : Reached) (P : Type 0) (a b : Reader) → Causes before reached.Open ⊥ a b → IsFaultOf cause.Turns next → P → Causes before next P a b
-used_from reached.Open (reached.Fault f) P a b h is p = ((λ e. absurd cc), (λ e. absurd cc), (λ e. (p, h.1)))
-used_from reached.Open next P a b h is p = absurd is
+used_from : (before next : Reached) (P : Type 0) (a b : Reader) → Causes before Reached.Open ⊥ a b → IsFaultOf Cause.Turns next → P → Causes before next P a b
+used_from Reached.Open (Reached.Fault f) P a b h is p = ((λ e. absurd cc), (λ e. absurd cc), (λ e. (p, h.1)))
+used_from Reached.Open next P a b h is p = absurd is
 used_from before next P a b h is p = absurd cc
 
 -- where no message waits and no read is to be made
-pub causes_end : (before now next : Reached) (P : Type 0) (a b : Reader) → Causes before now ⊥ a b → (now ≡ reached.Open → P) → (now ≡ reached.Open → IsFaultOf cause.Turns next) → (now ≢ reached.Open → next ≡ now)
+pub causes_end : (before now next : Reached) (P : Type 0) (a b : Reader) → Causes before now ⊥ a b → (now ≡ Reached.Open → P) → (now ≡ Reached.Open → IsFaultOf Cause.Turns next) → (now ≢ Reached.Open → next ≡ now)
     → Causes before next P a b
-causes_end before reached.Open next P a b h p used same = used_from before next P a b h (used refl) (p refl)
+causes_end before Reached.Open next P a b h p used same = used_from before next P a b h (used refl) (p refl)
 causes_end before now next P a b h p used same = subst (λ (r : Reached). Causes before r P a b) (sym (same (λ e. absurd cc))) (causes_weaker before now P a b h)
 
 -- what is answered once more of a stream that stayed as it was, if it is not open
-pub repeats_kept : (before now : Reached) (r : Result (Option Message) Fault) → (before ≢ reached.Open → now ≡ before) → Repeats now r → Repeats before r
-repeats_kept reached.Open now r same h = tt
+pub repeats_kept : (before now : Reached) (r : Result (Option Message) Fault) → (before ≢ Reached.Open → now ≡ before) → Repeats now r → Repeats before r
+repeats_kept Reached.Open now r same h = tt
 repeats_kept before now r same h = subst (λ (at : Reached). Repeats at r) (same (λ e. absurd cc)) h
 
-pub repeats_open : (before : Reached) (r : Result (Option Message) Fault) → (before ≢ reached.Open → ⊥) → Repeats before r
-repeats_open reached.Open r never = tt
+pub repeats_open : (before : Reached) (r : Result (Option Message) Fault) → (before ≢ Reached.Open → ⊥) → Repeats before r
+repeats_open Reached.Open r never = tt
 repeats_open before r never = absurd (never (λ e. absurd cc))

@@ -1,3 +1,4 @@
+mod Common
 pub mod Builders
 pub mod Calls
 pub mod Inputs

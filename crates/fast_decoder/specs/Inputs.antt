@@ -5,13 +5,11 @@ use Rattle.fast_io.specs.Counts.{counted, counted_by}
 use Rattle.fast_template.specs.Resolved.{Resolved}
 use Rattle.fast_template.specs.TemplateSets.{templates_in}
 use Rattle.fast_stream.specs.declared.fault.Cause.{Cause}
-use Rattle.fast_stream.specs.declared.fault.Cause.TheVariants as cause
 use Rattle.fast_stream.specs.declared.fault.Fault.{Fault}
 use Rattle.fast_stream.specs.declared.mode.Mode.{Mode}
 use Rattle.fast_stream.specs.declared.place.Place.{Place}
 use Rattle.fast_stream.specs.declared.message.Message.{Message}
 use Rattle.fast_decoder.specs.declared.input.Reached.{Reached}
-use Rattle.fast_decoder.specs.declared.input.Reached.TheVariants as reached
 use Rattle.fast_dictionary.specs.declared.entries.Entries.{Ghosts}
 use Rattle.fast_decoder.specs.declared.decoder.Decoder.{Decoder}
 use Rattle.fast_stream.specs.Nodes.{Content, content_of}
@@ -41,10 +39,10 @@ pub record Reads (old new : Reader) (count : ℕ) (got : List ℕ) : Type 0 wher
 -- two blocks; each of the reads that are used up gave a byte, so none met the end; and want of memory has no place but
 -- the message.
 abbrev pub RefusedBy : Cause → Mode → List Resolved → ℕ → Option (List ℕ) → List ℕ → Place → Type 0
-RefusedBy cause.Truncated mode set turns left bytes place = FirstFault mode set bytes place cause.Truncated × IsAtEnd left
-RefusedBy cause.Read mode set turns left bytes place = FirstFault mode set bytes place cause.Truncated ⊎ EndsBetween mode set bytes place
-RefusedBy cause.Turns mode set turns left bytes place = (FirstFault mode set bytes place cause.Truncated ⊎ EndsBetween mode set bytes place) × (turns ≤ length bytes)
-RefusedBy cause.Memory mode set turns left bytes place = (place.offset ≡ 0) × (place.template ≡ 0) × (place.instruction ≡ 0)
+RefusedBy Cause.Truncated mode set turns left bytes place = FirstFault mode set bytes place Cause.Truncated × IsAtEnd left
+RefusedBy Cause.Read mode set turns left bytes place = FirstFault mode set bytes place Cause.Truncated ⊎ EndsBetween mode set bytes place
+RefusedBy Cause.Turns mode set turns left bytes place = (FirstFault mode set bytes place Cause.Truncated ⊎ EndsBetween mode set bytes place) × (turns ≤ length bytes)
+RefusedBy Cause.Memory mode set turns left bytes place = (place.offset ≡ 0) × (place.template ≡ 0) × (place.instruction ≡ 0)
 RefusedBy c mode set turns left bytes place = FirstFault mode set bytes place c
 
 -- a prefix of the bytes carries the messages, and behind them is the fault
@@ -65,18 +63,18 @@ pub record Follows {E : Type 0} {ghosts : Ghosts E} (d : Decoder E ghosts) (byte
 
 -- How far a stream came, that has found these messages in these bytes; while it is open its decoder goes on from them.
 abbrev pub HasReached : Reached → Type 0 → Mode → List Resolved → ℕ → Option (List ℕ) → List ℕ → List Content → Type 0
-HasReached reached.Open GoesOn mode set turns left bytes messages = GoesOn
-HasReached reached.End GoesOn mode set turns left bytes messages = EndsWith mode set left bytes messages
-HasReached (reached.Fault f) GoesOn mode set turns left bytes messages = Refuses mode set turns left bytes messages f
+HasReached Reached.Open GoesOn mode set turns left bytes messages = GoesOn
+HasReached Reached.End GoesOn mode set turns left bytes messages = EndsWith mode set left bytes messages
+HasReached (Reached.Fault f) GoesOn mode set turns left bytes messages = Refuses mode set turns left bytes messages f
 
 -- a fact on the cause of a fault, where one was reached
 abbrev pub OnFault : Reached → (Cause → Type 0) → Type 0
-OnFault (reached.Fault f) Is = Is f.cause
+OnFault (Reached.Fault f) Is = Is f.cause
 OnFault at Is = Unit {0}
 
 -- a fault of this cause was reached
 abbrev pub IsFaultOf : Cause → Reached → Type 0
-IsFaultOf c (reached.Fault f) = f.cause ≡ c
+IsFaultOf c (Reached.Fault f) = f.cause ≡ c
 IsFaultOf c at = ⊥
 
 -- the messages that wait, the next one last
@@ -105,19 +103,19 @@ Tells (Err f) mode set turns left bytes answered = Refuses mode set turns left b
 -- What the counts of a reader show of a stream that was open: none failed or met the end while it is open; and there
 -- is a cause where it is not: a failed read, one that met the end with none that failed, or all reads made of which none met it.
 abbrev pub IsCaused : Reached → Type 0 → Reader → Reader → Type 0
-IsCaused reached.Open UsedUp old new = (new.errors ≡ old.errors) × (new.ends ≡ old.ends)
-IsCaused reached.End UsedUp old new = (new.ends ≡ counted old.ends) × (new.errors ≡ old.errors)
-IsCaused (reached.Fault f) UsedUp old new =
-    (f.cause ≡ cause.Read → new.errors ≡ counted old.errors) × (f.cause ≡ cause.Truncated → new.ends ≡ counted old.ends)
-    × (f.cause ≡ cause.Turns → UsedUp × (new.ends ≡ old.ends))
+IsCaused Reached.Open UsedUp old new = (new.errors ≡ old.errors) × (new.ends ≡ old.ends)
+IsCaused Reached.End UsedUp old new = (new.ends ≡ counted old.ends) × (new.errors ≡ old.errors)
+IsCaused (Reached.Fault f) UsedUp old new =
+    (f.cause ≡ Cause.Read → new.errors ≡ counted old.errors) × (f.cause ≡ Cause.Truncated → new.ends ≡ counted old.ends)
+    × (f.cause ≡ Cause.Turns → UsedUp × (new.ends ≡ old.ends))
 
 -- The same of a call on any stream: one that is not open reads nothing more, and stays.
 abbrev pub Causes : Reached → Reached → Type 0 → Reader → Reader → Type 0
-Causes reached.Open now UsedUp old new = IsCaused now UsedUp old new
+Causes Reached.Open now UsedUp old new = IsCaused now UsedUp old new
 Causes before now UsedUp old new = (now ≡ before) × (new ≡ old)
 
 -- What is answered, where no message waits, once the stream has ended or met a fault: that, again and again.
 abbrev pub Repeats : Reached → Result (Option Message) Fault → Type 0
-Repeats reached.Open r = Unit {0}
-Repeats reached.End r = r ≡ Ok None
-Repeats (reached.Fault f) r = r ≡ Err f
+Repeats Reached.Open r = Unit {0}
+Repeats Reached.End r = r ≡ Ok None
+Repeats (Reached.Fault f) r = r ≡ Err f

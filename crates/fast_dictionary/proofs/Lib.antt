@@ -1,2 +1,3 @@
+mod Common
 pub mod OrderedMaps
 pub mod SlotMaps

@@ -1,14 +1,5 @@
 -- An ordered map of the program as a finite map.
-use Rattle.std.proofs.Common.{◌≡◌, Bool, true, false, List, [], ◌∷◌, ◌++◌, Option, Some, None, cond, unwrap_or, refl, sym, ap, ◌∙◌}
-use Rattle.std.specs.Ordering.{eq_by_cmp}
-use Rattle.std.specs.Cmp.{eq_by_cmp_equiv}
-use Rattle.std.specs.Map.{lookup}
-use Rattle.std.specs.BTreeMap.{BTreeMap, is_at, Updates}
-use Rattle.fast_value.specs.Key.{key_cmp, key_cmp-total}
-use Rattle.fast_value.specs.declared.key.Key.{Key}
-use Rattle.fast_dictionary.specs.declared.entry.Entry.{Entry}
-use Rattle.fast_dictionary.specs.declared.entry.Entry.TheVariants.{Undefined}
-use Rattle.fast_dictionary.specs.Dictionary.{Dictionary, entry_at, entry_at-empty, entry_at-set_entry, set_entry, from_pairs, same_dictionary, set_entry-there}
+use Rattle.fast_dictionary.proofs.Common.{◌≡◌, Bool, true, false, List, [], ◌∷◌, ◌++◌, Option, Some, None, cond, unwrap_or, refl, sym, ap, ◌∙◌, eq_by_cmp, eq_by_cmp_equiv, lookup, BTreeMap, is_at, Updates, key_cmp, key_cmp-total, Key, Entry, Undefined, Dictionary, entry_at, entry_at-empty, entry_at-set_entry, set_entry, from_pairs, same_dictionary, set_entry-there}
 
 -- what a look-up answers, as an entry
 abbrev pub entry_or : Option Entry → Entry

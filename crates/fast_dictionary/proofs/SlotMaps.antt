@@ -1,22 +1,6 @@
 -- Entries in slots as a finite map.
-use Rattle.std.proofs.Common.{◌≡◌, ◌≢◌, ◌<◌, ℕ, zero, suc, List, [], ◌∷◌, ◌++◌, ◌||◌, length, Bool, true, false, cond, IsTrue, slice_set, refl, sym, ap, ◌∙◌, arith, true≢false}
-use Rattle.std.specs.Prelude.{Contains, slice_index_or}
-use Rattle.std.specs.List.{list_any}
-use Rattle.std.specs.Ordering.{eq_by_cmp, is_eq}
-use Rattle.std.specs.Cmp.{Equal-is, tied_itself}
-use Rattle.std.specs.declared.cmp.Ordering.{Ordering}
-use Rattle.std.specs.declared.cmp.Ordering.TheVariants.{Less, Equal, Greater}
+use Rattle.fast_dictionary.proofs.Common.{◌≡◌, ◌≢◌, ◌<◌, ℕ, zero, suc, List, [], ◌∷◌, ◌++◌, ◌||◌, length, Bool, true, false, cond, IsTrue, slice_set, refl, sym, ap, ◌∙◌, arith, true≢false, Contains, slice_index_or, list_any, eq_by_cmp, is_eq, Equal-is, tied_itself, Ordering, Less, Equal, Greater, get_or-set_same, get_or-set_other, Contains-from_any, key_cmp, key_cmp-total, key_cmp-exact, Key, TemplateList, IsSound, keys_in, same_slot_same_key, Entry, Undefined, entry_at, entry_at-empty, entry_at-set_entry, set_entry, from_pairs, same_dictionary, is_key_in, pairs_in, dictionary_in, AllUndefined, AreBelow, HaveOwnSlots}
 use Rattle.std.specs.FinMap as map
-use Rattle.std.proofs.lemmas.List.{get_or-set_same, get_or-set_other}
-use Rattle.std.proofs.lemmas.Map.Views.{Contains-from_any}
-use Rattle.fast_value.specs.Key.{key_cmp, key_cmp-total, key_cmp-exact}
-use Rattle.fast_value.specs.declared.key.Key.{Key}
-use Rattle.fast_template.specs.TemplateSets.{TemplateList, IsSound, keys_in}
-use Rattle.fast_template.proofs.SlotLaws.{same_slot_same_key}
-use Rattle.fast_dictionary.specs.declared.entry.Entry.{Entry}
-use Rattle.fast_dictionary.specs.declared.entry.Entry.TheVariants.{Undefined}
-use Rattle.fast_dictionary.specs.Dictionary.{entry_at, entry_at-empty, entry_at-set_entry, set_entry, from_pairs, same_dictionary}
-use Rattle.fast_dictionary.specs.Slots.{is_key_in, pairs_in, dictionary_in, AllUndefined, AreBelow, HaveOwnSlots}
 
 -- the entry in a slot
 abbrev in_slot : List Entry → ℕ → Entry

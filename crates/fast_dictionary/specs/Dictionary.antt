@@ -16,7 +16,6 @@ use Rattle.fast_value.specs.contracts.scalar.Scalar as scalar
 use Rattle.fast_dictionary.specs.declared.entry.Entry.{Entry}
 use Rattle.fast_dictionary.specs.declared.entry.Entry.TheVariants.{Undefined, Empty, Assigned}
 use Rattle.fast_dictionary.specs.declared.entry.EntryRef.{EntryRef}
-use Rattle.fast_dictionary.specs.declared.entry.EntryRef.TheVariants as by_ref
 
 -- A key that is not there is undefined, one without a value is empty. After a reset the map is empty.
 abbrev pub Dictionary : Type 0
@@ -53,9 +52,9 @@ from_pairs (pair ∷ pairs) = set_entry (from_pairs pairs) pair.0 pair.1
 
 -- the entry that a reference shows
 abbrev pub entry_of : EntryRef → Entry
-entry_of by_ref.Undefined = Undefined
-entry_of by_ref.Empty = Empty
-entry_of (by_ref.Assigned value) = Assigned value.now
+entry_of EntryRef.Undefined = Undefined
+entry_of EntryRef.Empty = Empty
+entry_of (EntryRef.Assigned value) = Assigned value.now
 
 -- ---- what follows of one map after another
 

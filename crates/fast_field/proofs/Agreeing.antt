@@ -1,9 +1,5 @@
 -- Counting how far two lists agree.
-use Rattle.std.proofs.Common.{◌≡◌, ℕ, ◌+◌, ◌-◌, ◌<◌, ◌≤◌, List, length, take, drop, get_or, refl, sym, ap, ◌∙◌, arith, inl, inr, min}
-use Rattle.std.proofs.lemmas.List.{get_or-take, get_or-drop, drop_more, take_more}
-use Rattle.std.proofs.Math.Seq.{drop-length}
-use Rattle.std.proofs.lemmas.Bool.{cases_lt}
-use Rattle.fast_field.specs.CommonParts.{IsLongestPrefix, IsLongestSuffix}
+use Rattle.fast_field.proofs.Common.{◌≡◌, ℕ, ◌+◌, ◌-◌, ◌<◌, ◌≤◌, List, length, take, drop, get_or, refl, sym, ap, ◌∙◌, arith, inl, inr, min, get_or-take, get_or-drop, drop_more, take_more, drop-length, cases_lt, IsLongestPrefix, IsLongestSuffix}
 
 -- one unit more agrees
 pub prefix_more : (a b : List ℕ) (i : ℕ) → i < length a → i < length b → get_or a i 0 ≡ get_or b i 0 → take i a ≡ take i b → take (i + 1) a ≡ take (i + 1) b

@@ -1,27 +1,6 @@
 -- Deltas and tails are read, and nothing else is.
-use Rattle.std.proofs.Common.{◌≡◌, ℕ, Bool, true, false, List, [], ◌++◌, length, Result, Ok, Err, refl, sym, subst, arith, append-nil}
-use Rattle.std.specs.Prelude.{ℤ, ◌+ℤ◌, Option, Some, None, nat_le, nat_lt, if◌then◌else◌}
-use Rattle.std.proofs.lemmas.Bool.Decides.{nat_tests}
-use Rattle.std.proofs.lemmas.Bool.{le-leb, leb-true}
-use Rattle.fast_wire.specs.declared.level.Level.{Level}
+use Rattle.fast_field.proofs.Common.{◌≡◌, ℕ, Bool, true, false, List, [], ◌++◌, length, Result, Ok, Err, refl, sym, subst, arith, append-nil, ℤ, ◌+ℤ◌, Option, Some, None, nat_le, nat_lt, if◌then◌else◌, nat_tests, le-leb, leb-true, Level, ◌>>=◌, Nullable, Null, Value, bind_ok, reader_then, reader_as, reader_after, in_range, exponent_in_range, Kind, FieldPart, Scalar, Entry, FieldFault, integer_of, exponent_of, mantissa_of, units_of, delta_base, tail_base, SpellsMantissa, SpellsInteger, SpellsPart, SpellsUnits, Cut, uncut, at_end, side_of, removed_of, put_together, ended_by, SpellsDelta, SpellsDeltas, SpellsCut, IsOfFewUnits, DeltaValue, DeltaForm, TailForm, mantissa_entity_at, check, as_value, unless_null, integer_at, part_at, units_at, integer_value, decimal_value, unit_value, limited_value, integer_sum, integer_delta_at, mantissa_delta_behind, decimal_delta_at, new_part_behind, unit_delta_at, delta_at, ended_value, tail_at}
 use Rattle.fast_wire.specs.Reader.{IsReader, Both}
-use Rattle.fast_wire.specs.Reading.{◌>>=◌}
-use Rattle.fast_wire.specs.declared.nullable.Nullable.{Nullable}
-use Rattle.fast_wire.specs.declared.nullable.Nullable.TheVariants.{Null, Value}
-use Rattle.fast_wire.proofs.Readers.{bind_ok, reader_then, reader_as, reader_after}
-use Rattle.fast_value.specs.Scalar.{in_range, exponent_in_range}
-use Rattle.fast_value.specs.declared.kind.Kind.{Kind}
-use Rattle.fast_value.specs.declared.kind.Kind.TheVariants as kind
-use Rattle.fast_template.specs.declared.resolved.FieldPart.{FieldPart}
-use Rattle.fast_value.specs.declared.scalar.Scalar.{Scalar}
-use Rattle.fast_dictionary.specs.declared.entry.Entry.{Entry}
-use Rattle.fast_field.specs.declared.fault.FieldFault.{FieldFault}
-use Rattle.fast_field.specs.declared.fault.FieldFault.TheVariants as fault
-use Rattle.fast_field.specs.Values.{integer_of, exponent_of, mantissa_of, units_of}
-use Rattle.fast_field.specs.Bases.{delta_base, tail_base}
-use Rattle.fast_field.specs.Spelled.{SpellsMantissa, SpellsInteger, SpellsPart, SpellsUnits}
-use Rattle.fast_field.specs.Deltas.{Cut, uncut, at_end, side_of, removed_of, put_together, ended_by, SpellsDelta, SpellsDeltas, SpellsCut, IsOfFewUnits, DeltaValue, DeltaForm, TailForm}
-use Rattle.fast_field.specs.FieldReading.{mantissa_entity_at, check, as_value, unless_null, integer_at, part_at, units_at, integer_value, decimal_value, unit_value, limited_value, integer_sum, integer_delta_at, mantissa_delta_behind, decimal_delta_at, new_part_behind, unit_delta_at, delta_at, ended_value, tail_at}
 use Rattle.fast_field.proofs.FieldLaws.{reader_check, reader_null, reader_value, NullOr, IsMade, whole}
 use Rattle.fast_field.proofs.SpelledForms.{mantissa_entities, integer_forms, part_forms, units_forms, integer_value_ok, integer_value_is, unit_value_ok, unit_value_is, decimal_value_ok, decimal_value_is, made_forms}
 
@@ -32,7 +11,7 @@ OnBase level Makes i e b (Some v) = (cut : Cut) × ((base : Scalar) × (delta_ba
 
 -- ---- integers
 
-number_deltas : (level : Level) → (i : FieldPart) (e : Entry) → IsReader fault.NeedMore (integer_delta_at level i e) (OnBase level (SpellsDelta level i.kind i.presence) i e)
+number_deltas : (level : Level) → (i : FieldPart) (e : Entry) → IsReader FieldFault.NeedMore (integer_delta_at level i e) (OnBase level (SpellsDelta level i.kind i.presence) i e)
 unfolding integer_delta_at integer_sum
 number_deltas level i e =
     made_forms (integer_at level false i.presence) (SpellsInteger level false i.presence) (integer_sum i e) (OnBase level (SpellsDelta level i.kind i.presence) i e) (integer_forms level false i.presence) (λ b h. h) (λ b h. h)
@@ -48,11 +27,11 @@ number_deltas level i e =
 abbrev IsMantissaDelta : (level : Level) → ℤ → ℤ → List ℕ → Option Scalar → Type 0
 IsMantissaDelta level e l b v = (exponent_in_range e ≡ true) × Both (SpellsMantissa level) (λ d. IsMade (decimal_value e (l +ℤ d))) b v
 
-mantissa_deltas : (level : Level) → (e l : ℤ) → IsReader fault.NeedMore (mantissa_delta_behind level e l) (IsMantissaDelta level e l)
+mantissa_deltas : (level : Level) → (e l : ℤ) → IsReader FieldFault.NeedMore (mantissa_delta_behind level e l) (IsMantissaDelta level e l)
 unfolding mantissa_delta_behind
 mantissa_deltas level e l =
-    reader_check (exponent_in_range e) fault.R1 (λ rest. mantissa_entity_at level rest >>= λ d. as_value (decimal_value e (l +ℤ d.0)) d.1) (Both (SpellsMantissa level) (λ d. IsMade (decimal_value e (l +ℤ d))))
-    (reader_then fault.NeedMore (λ rest. mantissa_entity_at level rest) (λ d. as_value (decimal_value e (l +ℤ d))) (SpellsMantissa level) (λ d. IsMade (decimal_value e (l +ℤ d))) (mantissa_entities level) (λ d. reader_value (decimal_value e (l +ℤ d))))
+    reader_check (exponent_in_range e) FieldFault.R1 (λ rest. mantissa_entity_at level rest >>= λ d. as_value (decimal_value e (l +ℤ d.0)) d.1) (Both (SpellsMantissa level) (λ d. IsMade (decimal_value e (l +ℤ d))))
+    (reader_then FieldFault.NeedMore (λ rest. mantissa_entity_at level rest) (λ d. as_value (decimal_value e (l +ℤ d))) (SpellsMantissa level) (λ d. IsMade (decimal_value e (l +ℤ d))) (mantissa_entities level) (λ d. reader_value (decimal_value e (l +ℤ d))))
 
 abbrev BehindExponent : (level : Level) → FieldPart → Entry → ℤ → List ℕ → Option Scalar → Type 0
 BehindExponent level i e d b v = (base : Scalar) × (delta_base i e ≡ Ok base) × IsMantissaDelta level (exponent_of base +ℤ d) (mantissa_of base) b v
@@ -93,15 +72,15 @@ decimal_from level i e b (Some v) h =
       second = (h.1.0, h.1.1, (s.value.0, record { x = s.mantissa_delta; front = pair.back; back = []; parts = sym (append-nil pair.back); first = pair.mantissa_form; second = (refl, (v, made, refl)) }));
     }
 
-decimal_deltas : (level : Level) → (i : FieldPart) (e : Entry) → IsReader fault.NeedMore (decimal_delta_at level i e) (OnBase level (SpellsDeltas level i.presence) i e)
+decimal_deltas : (level : Level) → (i : FieldPart) (e : Entry) → IsReader FieldFault.NeedMore (decimal_delta_at level i e) (OnBase level (SpellsDeltas level i.presence) i e)
 unfolding decimal_delta_at
 decimal_deltas level i e =
-    reader_as fault.NeedMore (decimal_delta_at level i e) (Both (SpellsInteger level false i.presence) (NullOr (BehindExponent level i e))) (OnBase level (SpellsDeltas level i.presence) i e)
+    reader_as FieldFault.NeedMore (decimal_delta_at level i e) (Both (SpellsInteger level false i.presence) (NullOr (BehindExponent level i e))) (OnBase level (SpellsDeltas level i.presence) i e)
     (λ b v h. decimal_to level i e b h.front h.back h.x v h.parts h.first h.second)
     (decimal_from level i e)
-    (reader_then fault.NeedMore (integer_at level false i.presence) (λ x rest. unless_null (x, rest) (λ d rest. delta_base i e >>= λ base. mantissa_delta_behind level (exponent_of base +ℤ d) (mantissa_of base) rest)) (SpellsInteger level false i.presence) (NullOr (BehindExponent level i e)) (integer_forms level false i.presence)
+    (reader_then FieldFault.NeedMore (integer_at level false i.presence) (λ x rest. unless_null (x, rest) (λ d rest. delta_base i e >>= λ base. mantissa_delta_behind level (exponent_of base +ℤ d) (mantissa_of base) rest)) (SpellsInteger level false i.presence) (NullOr (BehindExponent level i e)) (integer_forms level false i.presence)
     (reader_null (λ d rest. delta_base i e >>= λ base. mantissa_delta_behind level (exponent_of base +ℤ d) (mantissa_of base) rest) (BehindExponent level i e)
-    (λ d. reader_after fault.NeedMore (delta_base i e) (λ base. mantissa_delta_behind level (exponent_of base +ℤ d) (mantissa_of base)) (λ base. IsMantissaDelta level (exponent_of base +ℤ d) (mantissa_of base)) (λ base. mantissa_deltas level (exponent_of base +ℤ d) (mantissa_of base)))))
+    (λ d. reader_after FieldFault.NeedMore (delta_base i e) (λ base. mantissa_delta_behind level (exponent_of base +ℤ d) (mantissa_of base)) (λ base. IsMantissaDelta level (exponent_of base +ℤ d) (mantissa_of base)) (λ base. mantissa_deltas level (exponent_of base +ℤ d) (mantissa_of base)))))
 
 -- ---- strings and vectors
 
@@ -111,7 +90,7 @@ if_not false r y f e = (refl, e)
 
 limited_ok : (k : Kind) (s : List ℕ) (v : Scalar) → limited_value k s ≡ Ok v → IsOfFewUnits k s v
 unfolding limited_value
-limited_ok k s v e = let w = if_not (nat_lt 65535 (length s)) (unit_value k s) v fault.Limit e in let short = w.0 in (grind (arith, nat_tests), unit_value_ok k s v w.1)
+limited_ok k s v e = let w = if_not (nat_lt 65535 (length s)) (unit_value k s) v FieldFault.Limit e in let short = w.0 in (grind (arith, nat_tests), unit_value_ok k s v w.1)
 
 limited_is : (k : Kind) (s : List ℕ) (v : Scalar) → IsOfFewUnits k s v → limited_value k s ≡ Ok v
 unfolding limited_value
@@ -121,23 +100,23 @@ limited_is k s v h = let le = h.0 in let t : nat_lt 65535 (length s) ≡ false =
 abbrev IsNewPart : (level : Level) → Kind → ℤ → List ℕ → List ℕ → Option Scalar → Type 0
 IsNewPart level k removal base b v = (nat_le (removed_of removal) (length base) ≡ true) × Both (SpellsPart level k) (λ s. IsMade (limited_value k (put_together removal base s))) b v
 
-new_parts : (level : Level) → (k : Kind) (removal : ℤ) (base : List ℕ) → IsReader fault.NeedMore (new_part_behind level k removal base) (IsNewPart level k removal base)
+new_parts : (level : Level) → (k : Kind) (removal : ℤ) (base : List ℕ) → IsReader FieldFault.NeedMore (new_part_behind level k removal base) (IsNewPart level k removal base)
 unfolding new_part_behind
 new_parts level k removal base =
-    reader_check (nat_le (removed_of removal) (length base)) fault.D7 (λ rest. part_at level k rest >>= λ s. as_value (limited_value k (put_together removal base s.0)) s.1) (Both (SpellsPart level k) (λ s. IsMade (limited_value k (put_together removal base s))))
-    (reader_then fault.NeedMore (part_at level k) (λ s. as_value (limited_value k (put_together removal base s))) (SpellsPart level k) (λ s. IsMade (limited_value k (put_together removal base s))) (part_forms level k) (λ s. reader_value (limited_value k (put_together removal base s))))
+    reader_check (nat_le (removed_of removal) (length base)) FieldFault.D7 (λ rest. part_at level k rest >>= λ s. as_value (limited_value k (put_together removal base s.0)) s.1) (Both (SpellsPart level k) (λ s. IsMade (limited_value k (put_together removal base s))))
+    (reader_then FieldFault.NeedMore (part_at level k) (λ s. as_value (limited_value k (put_together removal base s))) (SpellsPart level k) (λ s. IsMade (limited_value k (put_together removal base s))) (part_forms level k) (λ s. reader_value (limited_value k (put_together removal base s))))
 
 abbrev WithBase : (level : Level) → FieldPart → Entry → ℤ → List ℕ → Option Scalar → Type 0
 WithBase level i e removal b v = (base : Scalar) × (delta_base i e ≡ Ok base) × IsNewPart level i.kind removal (units_of base) b v
 
 abbrev BehindRemoval : (level : Level) → FieldPart → Entry → ℤ → List ℕ → Option Scalar → Type 0
-BehindRemoval level i e removal b v = (in_range kind.Int32 removal ≡ true) × WithBase level i e removal b v
+BehindRemoval level i e removal b v = (in_range Kind.Int32 removal ≡ true) × WithBase level i e removal b v
 
 behind_removal : (level : Level) → (i : FieldPart) (e : Entry) (removal : ℤ)
-    → IsReader fault.NeedMore (λ rest. check (in_range kind.Int32 removal) fault.D7 >>= λ fits. (delta_base i e >>= λ base. new_part_behind level i.kind removal (units_of base) rest)) (BehindRemoval level i e removal)
+    → IsReader FieldFault.NeedMore (λ rest. check (in_range Kind.Int32 removal) FieldFault.D7 >>= λ fits. (delta_base i e >>= λ base. new_part_behind level i.kind removal (units_of base) rest)) (BehindRemoval level i e removal)
 behind_removal level i e removal =
-    reader_check (in_range kind.Int32 removal) fault.D7 (λ rest. delta_base i e >>= λ base. new_part_behind level i.kind removal (units_of base) rest) (WithBase level i e removal)
-    (reader_after fault.NeedMore (delta_base i e) (λ base. new_part_behind level i.kind removal (units_of base)) (λ base. IsNewPart level i.kind removal (units_of base)) (λ base. new_parts level i.kind removal (units_of base)))
+    reader_check (in_range Kind.Int32 removal) FieldFault.D7 (λ rest. delta_base i e >>= λ base. new_part_behind level i.kind removal (units_of base) rest) (WithBase level i e removal)
+    (reader_after FieldFault.NeedMore (delta_base i e) (λ base. new_part_behind level i.kind removal (units_of base)) (λ base. IsNewPart level i.kind removal (units_of base)) (λ base. new_parts level i.kind removal (units_of base)))
 
 cut_to : (level : Level) → (i : FieldPart) (e : Entry) (b front back : List ℕ) (x : Nullable ℤ) (v : Option Scalar) → b ≡ front ++ back → SpellsInteger level false i.presence front x → NullOr (BehindRemoval level i e) x back v → OnBase level (SpellsCut level i.kind i.presence) i e b v
 cut_to level i e b front back Null v parts first h = rw h.1 (subst (λ (z : List ℕ). SpellsInteger level false i.presence z Null) (whole b front back parts h.0) first)
@@ -181,36 +160,36 @@ cut_from level i e b (Some v) h =
       second = (c.is_int32, (h.1.0, h.1.1, (le-leb (removed_of c.removal) (length base) c.there, record { x = c.new_part; front = c.back; back = []; parts = sym (append-nil c.back); first = c.part_form; second = (refl, (v, made, refl)) })));
     }
 
-unit_deltas : (level : Level) → (i : FieldPart) (e : Entry) → IsReader fault.NeedMore (unit_delta_at level i e) (OnBase level (SpellsCut level i.kind i.presence) i e)
+unit_deltas : (level : Level) → (i : FieldPart) (e : Entry) → IsReader FieldFault.NeedMore (unit_delta_at level i e) (OnBase level (SpellsCut level i.kind i.presence) i e)
 unfolding unit_delta_at
 unit_deltas level i e =
-    reader_as fault.NeedMore (unit_delta_at level i e) (Both (SpellsInteger level false i.presence) (NullOr (BehindRemoval level i e))) (OnBase level (SpellsCut level i.kind i.presence) i e)
+    reader_as FieldFault.NeedMore (unit_delta_at level i e) (Both (SpellsInteger level false i.presence) (NullOr (BehindRemoval level i e))) (OnBase level (SpellsCut level i.kind i.presence) i e)
     (λ b v h. cut_to level i e b h.front h.back h.x v h.parts h.first h.second)
     (cut_from level i e)
-    (reader_then fault.NeedMore (integer_at level false i.presence) (λ x rest. unless_null (x, rest) (λ removal rest. check (in_range kind.Int32 removal) fault.D7 >>= λ fits. (delta_base i e >>= λ base. new_part_behind level i.kind removal (units_of base) rest))) (SpellsInteger level false i.presence) (NullOr (BehindRemoval level i e)) (integer_forms level false i.presence)
-    (reader_null (λ removal rest. check (in_range kind.Int32 removal) fault.D7 >>= λ fits. (delta_base i e >>= λ base. new_part_behind level i.kind removal (units_of base) rest)) (BehindRemoval level i e) (behind_removal level i e)))
+    (reader_then FieldFault.NeedMore (integer_at level false i.presence) (λ x rest. unless_null (x, rest) (λ removal rest. check (in_range Kind.Int32 removal) FieldFault.D7 >>= λ fits. (delta_base i e >>= λ base. new_part_behind level i.kind removal (units_of base) rest))) (SpellsInteger level false i.presence) (NullOr (BehindRemoval level i e)) (integer_forms level false i.presence)
+    (reader_null (λ removal rest. check (in_range Kind.Int32 removal) FieldFault.D7 >>= λ fits. (delta_base i e >>= λ base. new_part_behind level i.kind removal (units_of base) rest)) (BehindRemoval level i e) (behind_removal level i e)))
 
 -- ---- all types
 
 abbrev DeltaOf : (level : Level) → Kind → FieldPart → Entry → List ℕ → Option Scalar → Type 0
 DeltaOf level k i e = OnBase level (λ base cut b v. DeltaValue level k i.presence base cut b v) i e
 
-by_kind : (level : Level) → (k : Kind) (i : FieldPart) (e : Entry) → i.kind ≡ k → IsReader fault.NeedMore (delta_at level k i e) (DeltaOf level k i e)
+by_kind : (level : Level) → (k : Kind) (i : FieldPart) (e : Entry) → i.kind ≡ k → IsReader FieldFault.NeedMore (delta_at level k i e) (DeltaOf level k i e)
 unfolding delta_at
-by_kind level kind.Decimal i e is = decimal_deltas level i e
-by_kind level kind.Ascii i e is = subst (λ (k : Kind). IsReader fault.NeedMore (unit_delta_at level i e) (OnBase level (SpellsCut level k i.presence) i e)) is (unit_deltas level i e)
-by_kind level kind.Unicode i e is = subst (λ (k : Kind). IsReader fault.NeedMore (unit_delta_at level i e) (OnBase level (SpellsCut level k i.presence) i e)) is (unit_deltas level i e)
-by_kind level kind.Bytes i e is = subst (λ (k : Kind). IsReader fault.NeedMore (unit_delta_at level i e) (OnBase level (SpellsCut level k i.presence) i e)) is (unit_deltas level i e)
-by_kind level k i e is = subst (λ (k : Kind). IsReader fault.NeedMore (integer_delta_at level i e) (OnBase level (SpellsDelta level k i.presence) i e)) is (number_deltas level i e)
+by_kind level Kind.Decimal i e is = decimal_deltas level i e
+by_kind level Kind.Ascii i e is = subst (λ (k : Kind). IsReader FieldFault.NeedMore (unit_delta_at level i e) (OnBase level (SpellsCut level k i.presence) i e)) is (unit_deltas level i e)
+by_kind level Kind.Unicode i e is = subst (λ (k : Kind). IsReader FieldFault.NeedMore (unit_delta_at level i e) (OnBase level (SpellsCut level k i.presence) i e)) is (unit_deltas level i e)
+by_kind level Kind.Bytes i e is = subst (λ (k : Kind). IsReader FieldFault.NeedMore (unit_delta_at level i e) (OnBase level (SpellsCut level k i.presence) i e)) is (unit_deltas level i e)
+by_kind level k i e is = subst (λ (k : Kind). IsReader FieldFault.NeedMore (integer_delta_at level i e) (OnBase level (SpellsDelta level k i.presence) i e)) is (number_deltas level i e)
 
-pub deltas : (level : Level) → (i : FieldPart) (e : Entry) → IsReader fault.NeedMore (delta_at level i.kind i e) (λ b v. (cut : Cut) × DeltaForm level i e cut b v)
+pub deltas : (level : Level) → (i : FieldPart) (e : Entry) → IsReader FieldFault.NeedMore (delta_at level i.kind i e) (λ b v. (cut : Cut) × DeltaForm level i e cut b v)
 deltas level i e =
-    reader_as fault.NeedMore (delta_at level i.kind i e) (DeltaOf level i.kind i e) (λ b v. (cut : Cut) × DeltaForm level i e cut b v)
+    reader_as FieldFault.NeedMore (delta_at level i.kind i e) (DeltaOf level i.kind i e) (λ b v. (cut : Cut) × DeltaForm level i e cut b v)
     (λ b v. elim v as (λ v. DeltaOf level i.kind i e b v → (cut : Cut) × DeltaForm level i e cut b v) [ None ↦ λ h. (uncut, (refl, h)) | Some w ↦ λ h. h ])
     (λ b v. elim v as (λ v. (cut : Cut) × DeltaForm level i e cut b v → DeltaOf level i.kind i e b v) [ None ↦ λ h. h.1.1 | Some w ↦ λ h. h ])
     (by_kind level i.kind i e refl)
 
-pub tails : (level : Level) → (i : FieldPart) (e : Entry) → IsReader fault.NeedMore (tail_at level i e) (λ b v. (cut : Cut) × TailForm level i e cut b v)
+pub tails : (level : Level) → (i : FieldPart) (e : Entry) → IsReader FieldFault.NeedMore (tail_at level i e) (λ b v. (cut : Cut) × TailForm level i e cut b v)
 unfolding tail_at ended_value
 tails level i e =
     made_forms (units_at level i.kind i.presence) (SpellsUnits level i.kind i.presence) (ended_value i e) (λ b v. (cut : Cut) × TailForm level i e cut b v) (units_forms level i.kind i.presence)

@@ -1,31 +1,9 @@
 -- The best delta of a string or vector: the longest common prefix with removal at the end, or the longest common suffix
 -- with removal in front.
-use Rattle.std.proofs.Common.{◌≡◌, ℕ, zero, suc, ◌+◌, ◌-◌, ◌^◌, ◌<◌, ◌≤◌, true, false, List, ◌++◌, length, take, drop, get_or, min, refl, sym, ap, subst, arith, inl, inr, length-append, length-take, length-drop, take-append-drop}
-use Rattle.std.specs.Prelude.{ℤ, pos, negsuc, nat_le, if◌then◌else◌, IsTrue}
-use Rattle.std.proofs.Math.Dec.{eqb}
-use Rattle.std.proofs.lemmas.Bool.{cases_lt, le-leb}
-use Rattle.std.proofs.lemmas.Bool.Decides.{eqb_tells}
-use Rattle.fast_wire.specs.declared.level.Level.TheVariants.{Usual}
-use Rattle.fast_wire.specs.Integer.{magnitude}
-use Rattle.fast_wire.specs.Sizes.{unsigned_size}
-use Rattle.fast_wire.specs.declared.nullable.Nullable.TheVariants.{Value}
-use Rattle.fast_wire.proofs.FormSizes.{signed_sizes, signed_nullable_sizes, ascii_sizes, vector_sizes, signed_grow, signed_nullable_grow}
-use Rattle.fast_wire.proofs.Sizes.{unsigned_size-grows}
-use Rattle.fast_value.specs.Scalar.{in_range}
-use Rattle.fast_value.specs.declared.kind.Kind.{Kind}
-use Rattle.fast_value.specs.declared.kind.Kind.TheVariants as kind
-use Rattle.fast_value.specs.declared.kind.Presence.{Presence}
-use Rattle.fast_value.specs.declared.kind.Presence.TheVariants.{Mandatory, Optional}
-use Rattle.fast_value.specs.declared.scalar.Scalar.{Scalar}
-use Rattle.fast_field.specs.Values.{units_of, IsUnitKind}
-use Rattle.fast_field.specs.Spelled.{SpellsInteger, SpellsPart, IsOfUnits}
-use Rattle.fast_field.specs.Deltas.{Cut, removed_of, side_of, put_together, IsOfFewUnits, SpellsCut}
-use Rattle.fast_field.specs.Best.{NoLater}
-use Rattle.fast_field.specs.CommonParts.{IsLongestPrefix, IsLongestSuffix}
+use Rattle.fast_field.proofs.Common.{◌≡◌, ℕ, zero, suc, ◌+◌, ◌-◌, ◌^◌, ◌<◌, ◌≤◌, true, false, List, ◌++◌, length, take, drop, get_or, min, refl, sym, ap, subst, arith, inl, inr, length-append, length-take, length-drop, take-append-drop, ℤ, pos, negsuc, nat_le, if◌then◌else◌, IsTrue, eqb, cases_lt, le-leb, eqb_tells, Usual, magnitude, unsigned_size, Value, signed_sizes, signed_nullable_sizes, ascii_sizes, vector_sizes, signed_grow, signed_nullable_grow, unsigned_size-grows, in_range, Kind, Presence, Mandatory, Optional, Scalar, units_of, IsUnitKind, SpellsInteger, SpellsPart, IsOfUnits, Cut, removed_of, side_of, put_together, IsOfFewUnits, SpellsCut, NoLater, IsLongestPrefix, IsLongestSuffix, ShortestSigned, ShortestPart, Both, length_size, part_size, CutNoLater, IsBestCut}
 use Rattle.fast_field.proofs.Agreeing.{prefix_more, prefix_stops, prefix_ends, suffix_none, suffix_more, suffix_stops, suffix_ends}
 use Rattle.fast_field.proofs.FieldsWithin.{and_true}
 use Rattle.fast_field.proofs.Least.{IsPartCost, IsLengthCost, no_worse, end_is_least, front_is_least, ascii_parts, vector_parts}
-use Rattle.fast_field.specs.Chosen.{ShortestSigned, ShortestPart, Both, length_size, part_size, CutNoLater, IsBestCut}
 use Rattle.fast_field.proofs.BestDeltas.{IsFirst, First}
 use Rattle.fast_field.proofs.Shortest.{signed_form, part_form, length_is, part_is, shortest_signed, shortest_part}
 use Rattle.fast_field.proofs.Refused.{units_are}
@@ -39,7 +17,7 @@ lengths Mandatory = record { at_end = λ m n le. signed_grow (pos m) (pos n) le;
 lengths Optional = record { at_end = λ m n le. signed_nullable_grow (pos m) (pos n) le; in_front = λ m n le. signed_nullable_grow (negsuc m) (negsuc n) le }
 
 pub parts : (k : Kind) → IsPartCost (part_size k)
-parts kind.Ascii = ascii_parts
+parts Kind.Ascii = ascii_parts
 parts k = vector_parts unsigned_size unsigned_size-grows
 
 pub length_least : (p : Presence) (z : ℤ) (b : List ℕ) → SpellsInteger Usual false p b (Value z) → length_size p z ≤ length b
@@ -47,7 +25,7 @@ length_least Mandatory z b h = signed_sizes.least b z h
 length_least Optional z b h = signed_nullable_sizes.least b (Value z) h
 
 pub part_least : (k : Kind) (s b : List ℕ) → SpellsPart Usual k b s → part_size k s ≤ length b
-part_least kind.Ascii s b h = ascii_sizes.least b s h
+part_least Kind.Ascii s b h = ascii_sizes.least b s h
 part_least k s b h = vector_sizes.least b s h
 
 -- no form of a cut has fewer bytes than its two parts
@@ -143,7 +121,7 @@ no_later m n m' n' z z' a a' e le (inr h) = elim (cases_lt n n') [
   | inr ge ↦ inr (refl, inr (let same = h.0 in omega arith, h.1))
 ]
 
-removal_fits : (z : ℤ) → removed_of z ≤ 65535 → (magnitude z < 2 ^ 68) × IsTrue (in_range kind.Int32 z)
+removal_fits : (z : ℤ) → removed_of z ≤ 65535 → (magnitude z < 2 ^ 68) × IsTrue (in_range Kind.Int32 z)
 removal_fits (pos n) h = (omega arith, le-leb n 2147483647 (omega arith))
 removal_fits (negsuc n) h = (omega arith, and_true (nat_le n 2147483647) true (le-leb n 2147483647 (omega arith)) refl)
 

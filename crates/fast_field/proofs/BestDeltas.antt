@@ -1,23 +1,7 @@
 -- The best forms of deltas of numbers, and of NULL.
-use Rattle.std.proofs.Common.{◌≡◌, ℕ, ◌^◌, ◌<◌, ◌≤◌, true, false, List, length, refl, sym, ap, subst, ◌∙◌, arith}
-use Rattle.std.specs.Prelude.{ℤ, pos, negsuc, ◌+ℤ◌, ◌-ℤ◌, ◌<ℤ◌, IsTrue}
-use Rattle.std.proofs.lemmas.Int.{ints}
-use Rattle.fast_wire.specs.declared.level.Level.TheVariants.{Usual}
-use Rattle.fast_wire.specs.Integer.{magnitude}
-use Rattle.fast_wire.specs.declared.nullable.Nullable.TheVariants.{Value}
-use Rattle.fast_value.specs.Scalar.{is_integer}
-use Rattle.fast_value.specs.declared.kind.Kind.{Kind}
-use Rattle.fast_value.specs.declared.kind.Kind.TheVariants as kind
-use Rattle.fast_value.specs.declared.kind.Presence.{Presence}
-use Rattle.fast_value.specs.declared.scalar.Scalar.{Scalar}
-use Rattle.fast_value.specs.declared.scalar.Scalar.TheVariants.{Decimal}
-use Rattle.fast_field.specs.Values.{integer_of, exponent_of, mantissa_of}
-use Rattle.fast_field.specs.Spelled.{SpellsInteger, SpellsPair}
-use Rattle.fast_field.specs.Deltas.{Cut, uncut, SpellsDelta, SpellsDeltas}
-use Rattle.fast_field.specs.Best.{NoLater}
+use Rattle.fast_field.proofs.Common.{◌≡◌, ℕ, ◌^◌, ◌<◌, ◌≤◌, true, false, List, length, refl, sym, ap, subst, ◌∙◌, arith, ℤ, pos, negsuc, ◌+ℤ◌, ◌-ℤ◌, ◌<ℤ◌, IsTrue, ints, Usual, magnitude, Value, is_integer, Kind, Presence, Scalar, Decimal, integer_of, exponent_of, mantissa_of, SpellsInteger, SpellsPair, Cut, uncut, SpellsDelta, SpellsDeltas, NoLater, ShortestSigned, ShortestPair}
 use Rattle.fast_field.proofs.BestForms.{at_end_first}
 use Rattle.fast_field.proofs.ValuesWithin.{IsOfType}
-use Rattle.fast_field.specs.Chosen.{ShortestSigned, ShortestPair}
 use Rattle.fast_field.proofs.StandingForms.{number_of, number_is, range_small, exponent_small}
 use Rattle.fast_field.proofs.Shortest.{signed_form, pair_form, pair_least, shortest_signed, shortest_pair}
 
@@ -83,17 +67,17 @@ number_delta_first k p base v i h l = let s = shortest_signed p (integer_of v -�
 
 -- ---- decimals
 
-decimal_small : (v : Scalar) → IsOfType kind.Decimal v → (magnitude (exponent_of v) < 2 ^ 64) × (magnitude (mantissa_of v) < 2 ^ 64)
-decimal_small (Decimal e m) h = (exponent_small e h.1.0, range_small kind.Int64 m refl h.1.1)
+decimal_small : (v : Scalar) → IsOfType Kind.Decimal v → (magnitude (exponent_of v) < 2 ^ 64) × (magnitude (mantissa_of v) < 2 ^ 64)
+decimal_small (Decimal e m) h = (exponent_small e h.1.0, range_small Kind.Int64 m refl h.1.1)
 decimal_small v h = let e = h.0 in absurd cc
 
-pub differences_fit : (base v : Scalar) → IsOfType kind.Decimal base → IsOfType kind.Decimal v → (magnitude (exponent_of v -ℤ exponent_of base) < 2 ^ 68) × (magnitude (mantissa_of v -ℤ mantissa_of base) < 2 ^ 68)
+pub differences_fit : (base v : Scalar) → IsOfType Kind.Decimal base → IsOfType Kind.Decimal v → (magnitude (exponent_of v -ℤ exponent_of base) < 2 ^ 68) × (magnitude (mantissa_of v -ℤ mantissa_of base) < 2 ^ 68)
 differences_fit base v h l =
     let small = decimal_small base h in
     let less = decimal_small v l in
     (difference_small (exponent_of v) (exponent_of base) less.0 small.0, difference_small (mantissa_of v) (mantissa_of base) less.1 small.1)
 
-pub decimal_delta_is_first : (p : Presence) (base v : Scalar) (b : List ℕ) → IsOfType kind.Decimal v → ShortestPair p (exponent_of v -ℤ exponent_of base) (mantissa_of v -ℤ mantissa_of base) b → IsFirst (λ c b. SpellsDeltas Usual p base c b v) b
+pub decimal_delta_is_first : (p : Presence) (base v : Scalar) (b : List ℕ) → IsOfType Kind.Decimal v → ShortestPair p (exponent_of v -ℤ exponent_of base) (mantissa_of v -ℤ mantissa_of base) b → IsFirst (λ c b. SpellsDeltas Usual p base c b v) b
 decimal_delta_is_first p base (Decimal e m) b l h =
     let x = exponent_of base in
     let y = mantissa_of base in
@@ -105,7 +89,7 @@ decimal_delta_is_first p base (Decimal e m) b l h =
     (d.cut_is, pair_least p (e -ℤ x) (m -ℤ y) b h o (subst (λ (z : ℤ). SpellsPair Usual p o z (m -ℤ y)) same_e (subst (λ (z : ℤ). SpellsPair Usual p o d.exponent_delta z) same_m d.form))))
 decimal_delta_is_first p base v b l h = let e = l.0 in absurd cc
 
-pub decimal_delta_first : (p : Presence) (base v : Scalar) → IsOfType kind.Decimal base → IsOfType kind.Decimal v → First (λ c b. SpellsDeltas Usual p base c b v)
+pub decimal_delta_first : (p : Presence) (base v : Scalar) → IsOfType Kind.Decimal base → IsOfType Kind.Decimal v → First (λ c b. SpellsDeltas Usual p base c b v)
 decimal_delta_first p base v h l =
     let fit = differences_fit base v h l in
     let s = shortest_pair p (exponent_of v -ℤ exponent_of base) (mantissa_of v -ℤ mantissa_of base) fit.0 fit.1 in

@@ -1,21 +1,11 @@
 -- How a form is shown to be the best.
-use Rattle.std.proofs.Common.{◌≡◌, ℕ, ◌<◌, ◌≤◌, Bool, true, false, List, [], length, Option, refl, arith, inl, inr, ◌⊎◌}
-use Rattle.std.proofs.lemmas.Bool.{cases_lt}
-use Rattle.fast_wire.specs.declared.level.Level.TheVariants.{Usual}
-use Rattle.fast_value.specs.declared.kind.Operator.{Operator}
-use Rattle.fast_value.specs.declared.kind.Operator.TheVariants as operator
-use Rattle.fast_template.specs.declared.resolved.FieldPart.{FieldPart}
-use Rattle.fast_value.specs.declared.scalar.Scalar.{Scalar}
-use Rattle.fast_dictionary.specs.declared.entry.Entry.{Entry}
-use Rattle.fast_field.specs.Deltas.{Side, at_end, in_front, Cut, uncut}
-use Rattle.fast_field.specs.Fields.{FormOf, FormBy}
-use Rattle.fast_field.specs.Best.{NoLater, IsBest, side_rank}
+use Rattle.fast_field.proofs.Common.{◌≡◌, ℕ, ◌<◌, ◌≤◌, Bool, true, false, List, [], length, Option, refl, arith, inl, inr, ◌⊎◌, cases_lt, Usual, Operator, FieldPart, Scalar, Entry, Side, at_end, in_front, Cut, uncut, FormOf, FormBy, NoLater, IsBest, side_rank}
 
 -- ---- bit 0
 
 pub bit_zero_row : (o : Operator) (i : FieldPart) (e : Entry) (cut : Cut) (b : List ℕ) (v : Option Scalar) → FormOf Usual o i e false cut b v → (cut ≡ uncut) × (b ≡ [])
-bit_zero_row operator.Plain i e cut b v h = absurd h
-bit_zero_row operator.Delta i e cut b v h = absurd h
+bit_zero_row Operator.Plain i e cut b v h = absurd h
+bit_zero_row Operator.Delta i e cut b v h = absurd h
 bit_zero_row o i e cut b v h = (h.0, h.1)
 
 bit_zero_first : (i : FieldPart) (e : Entry) (v : Option Scalar) (bit : Bool) (cut : Cut) (b : List ℕ) → FormBy Usual i e bit cut b v → NoLater false 0 uncut bit (length b) cut

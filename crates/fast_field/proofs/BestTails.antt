@@ -1,23 +1,6 @@
 -- The best tail: the shortest, but in the nullable form of ASCII one unit more where that saves a preamble.
-use Rattle.std.proofs.Common.{◌≡◌, ℕ, zero, suc, ◌+◌, ◌-◌, ◌<◌, ◌≤◌, List, [], ◌∷◌, length, take, drop, refl, sym, ap, subst, ◌∙◌, arith, inl, inr, length-drop, take-append-drop, drop-drop}
-use Rattle.std.proofs.lemmas.Bool.{cases_lt}
-use Rattle.std.proofs.lemmas.List.{take-take}
-use Rattle.fast_wire.specs.declared.level.Level.TheVariants.{Usual}
-use Rattle.fast_wire.specs.Sizes.{ascii_nullable_size, vector_nullable_size, unsigned_size}
-use Rattle.fast_wire.specs.declared.nullable.Nullable.TheVariants.{Value}
-use Rattle.fast_wire.proofs.FormSizes.{ascii_nullable_sizes, vector_nullable_sizes}
-use Rattle.fast_wire.proofs.Sizes.{unsigned_size-grows}
-use Rattle.fast_value.specs.declared.kind.Kind.{Kind}
-use Rattle.fast_value.specs.declared.kind.Kind.TheVariants as kind
-use Rattle.fast_value.specs.declared.kind.Presence.{Presence}
-use Rattle.fast_value.specs.declared.kind.Presence.TheVariants.{Mandatory, Optional}
-use Rattle.fast_value.specs.declared.scalar.Scalar.{Scalar}
-use Rattle.fast_field.specs.Values.{units_of, IsUnitKind}
-use Rattle.fast_field.specs.Spelled.{SpellsUnits}
-use Rattle.fast_field.specs.Deltas.{at_end, Cut, ended_by, SpellsTail}
-use Rattle.fast_field.specs.CommonParts.{IsLongestPrefix}
+use Rattle.fast_field.proofs.Common.{◌≡◌, ℕ, zero, suc, ◌+◌, ◌-◌, ◌<◌, ◌≤◌, List, [], ◌∷◌, length, take, drop, refl, sym, ap, subst, ◌∙◌, arith, inl, inr, length-drop, take-append-drop, drop-drop, cases_lt, take-take, Usual, ascii_nullable_size, vector_nullable_size, unsigned_size, Value, ascii_nullable_sizes, vector_nullable_sizes, unsigned_size-grows, Kind, Presence, Mandatory, Optional, Scalar, units_of, IsUnitKind, SpellsUnits, at_end, Cut, ended_by, SpellsTail, IsLongestPrefix, ShortestUnits, part_size, tail_size, NoWorse, IsBestTail}
 use Rattle.fast_field.proofs.BestForms.{at_end_first}
-use Rattle.fast_field.specs.Chosen.{ShortestUnits, part_size, tail_size, NoWorse, IsBestTail}
 use Rattle.fast_field.proofs.BestDeltas.{IsFirst, First}
 use Rattle.fast_field.proofs.BestCuts.{part_least, parts, longest_prefix, of_few, drop_fits}
 use Rattle.fast_field.proofs.Shortest.{units_form, units_is, shortest_units}
@@ -30,7 +13,7 @@ use Rattle.fast_field.proofs.StandingForms.{of_units_is}
 
 pub tail_least : (k : Kind) (p : Presence) (s b : List ℕ) → SpellsUnits Usual k p b (Value s) → tail_size k p s ≤ length b
 tail_least k Mandatory s b h = part_least k s b h
-tail_least kind.Ascii Optional s b h = ascii_nullable_sizes.least b (Value s) h
+tail_least Kind.Ascii Optional s b h = ascii_nullable_sizes.least b (Value s) h
 tail_least k Optional s b h = vector_nullable_sizes.least b (Value s) h
 
 -- ---- the tail that comes first
@@ -131,23 +114,23 @@ needs_none v m le no_less i small = elim (preamble-cases (drop (suc m) v)) [
 
 pub longer_is_best : (k : Kind) (p : Presence) (base v : List ℕ) (n : ℕ) → IsLongestPrefix base v n → length v ≡ length base → 0 < n → tail_size k p (drop (n - 1) v) < tail_size k p (drop n v) → IsBestTail k p base v (drop (n - 1) v)
 longer_is_best k Mandatory base v n prefix same some lt = absurd (omega (arith, lt, on_next (part_size k) (parts k) v n some))
-longer_is_best kind.Ascii Optional base v zero prefix same some lt = absurd (omega (arith, some))
-longer_is_best kind.Ascii Optional base v (suc m) prefix same some lt =
+longer_is_best Kind.Ascii Optional base v zero prefix same some lt = absurd (omega (arith, some))
+longer_is_best Kind.Ascii Optional base v (suc m) prefix same some lt =
     let in_v = prefix.in_b in
     let back : suc m - 1 ≡ m = omega arith in
     let needs = needs_preamble v m in_v (rw (← cost_is v m, ← cost_is v (suc m)) (rw back at lt)) in
-    rw back (best_behind kind.Ascii Optional base v (suc m) prefix same m (omega arith) (λ i small. as_cost v m i (one_more v m i in_v small needs.0 needs.1)))
+    rw back (best_behind Kind.Ascii Optional base v (suc m) prefix same m (omega arith) (λ i small. as_cost v m i (one_more v m i in_v small needs.0 needs.1)))
 longer_is_best k Optional base v n prefix same some lt = absurd (omega (arith, lt, on_next (λ s. vector_nullable_size (Value s)) vector_nullable_parts v n some))
 
 pub shortest_is_best : (k : Kind) (p : Presence) (base v : List ℕ) (n : ℕ) → IsLongestPrefix base v n → length v ≡ length base → (0 < n → tail_size k p (drop n v) ≤ tail_size k p (drop (n - 1) v)) → IsBestTail k p base v (drop n v)
 shortest_is_best k Mandatory base v n prefix same no_less = shortest k Mandatory base v n prefix same (parts k)
-shortest_is_best kind.Ascii Optional base v zero prefix same no_less =
-    best_behind kind.Ascii Optional base v 0 prefix same 0 (omega arith) (λ i small. let none : i ≡ 0 = omega arith in rw none (inr (refl, omega arith)))
-shortest_is_best kind.Ascii Optional base v (suc m) prefix same no_less =
+shortest_is_best Kind.Ascii Optional base v zero prefix same no_less =
+    best_behind Kind.Ascii Optional base v 0 prefix same 0 (omega arith) (λ i small. let none : i ≡ 0 = omega arith in rw none (inr (refl, omega arith)))
+shortest_is_best Kind.Ascii Optional base v (suc m) prefix same no_less =
     let in_v = prefix.in_b in
     let back : suc m - 1 ≡ m = omega arith in
     let less : tail_cost v (suc m) ≤ tail_cost v m = rw (← cost_is v m, ← cost_is v (suc m)) (rw back at (no_less (omega arith))) in
-    best_behind kind.Ascii Optional base v (suc m) prefix same (suc m) (omega arith) (λ i small. as_cost v (suc m) i (needs_none v m in_v less i small))
+    best_behind Kind.Ascii Optional base v (suc m) prefix same (suc m) (omega arith) (λ i small. as_cost v (suc m) i (needs_none v m in_v less i small))
 shortest_is_best k Optional base v n prefix same no_less = shortest k Optional base v n prefix same vector_nullable_parts
 
 -- a value as long as its base has one

@@ -1,41 +1,6 @@
 -- Each value that is not refused has a best form.
-use Rattle.std.proofs.Common.{◌≡◌, ℕ, ◌<◌, ◌≤◌, Bool, true, false, List, [], ◌∷◌, length, refl, sym, ap, subst, ◌∙◌, arith, Ok, Err, Result, inl, inr}
-use Rattle.std.specs.Prelude.{ℤ, pos, negsuc, int_lt, int_le, nat_lt, nat_le, ◌&&◌, not, Option, Some, None, IsTrue, if◌then◌else◌}
-use Rattle.std.specs.List.{AllByRecursion}
-use Rattle.std.proofs.lemmas.Bool.Decides.{nat_tests}
-use Rattle.std.proofs.lemmas.Bool.{le-leb, leb-true}
-use Rattle.fast_wire.specs.declared.level.Level.TheVariants.{Usual}
-use Rattle.fast_wire.proofs.Readers.{ok_is}
-use Rattle.fast_wire.specs.Writing.{IsShortest}
-use Rattle.fast_wire.specs.declared.nullable.Nullable.TheVariants.{Null}
-use Rattle.fast_value.specs.Scalar.{is_of, in_range, exponent_in_range, scalar_eq-exact, scalar_eq-same, IsScalar}
-use Rattle.fast_template.specs.TemplateSets.{applies}
+use Rattle.fast_field.proofs.Common.{◌≡◌, ℕ, ◌<◌, ◌≤◌, Bool, true, false, List, [], ◌∷◌, length, refl, sym, ap, subst, ◌∙◌, arith, Ok, Err, Result, inl, inr, ℤ, pos, negsuc, int_lt, int_le, nat_lt, nat_le, ◌&&◌, not, Option, Some, None, IsTrue, if◌then◌else◌, AllByRecursion, nat_tests, le-leb, leb-true, Usual, ok_is, IsShortest, Null, is_of, in_range, exponent_in_range, scalar_eq-exact, scalar_eq-same, IsScalar, applies, Kind, Operator, Part, Presence, Mandatory, Optional, FieldPart, Scalar, U32, Decimal, Ascii, Unicode, Bytes, Entry, FieldFault, FieldRefusal, integer_of, units_of, IsFieldPart, IsKindOfPart, delta_base, tail_base, predicted, SpellsInteger, SpellsUnits, Spelled, Cut, uncut, SpellsTail, DeltaValue, DeltaForm, TailForm, InitialOrAbsent, FormOf, FormBy, Form, IsWithin, within_part, HasRange, HasRangeOr, HoldsScalar, IsOfField, IsFieldValue, bit_rank, NoLater, IsBest, is_optional, is_same, gives_same, default_gives, constant_gives, left_out_of, are_characters, has_characters, has_too_many, is_far, other_than_constant, constant_refusal, delta_refusal, tail_refusal, operator_refusal, absent_refusal, value_refusal, refusal_of}
 use Rattle.fast_value.specs.contracts.scalar.ScalarPartialEq.TheImpl as scalar_eq
-use Rattle.fast_value.specs.declared.kind.Kind.{Kind}
-use Rattle.fast_value.specs.declared.kind.Kind.TheVariants as kind
-use Rattle.fast_value.specs.declared.kind.Operator.{Operator}
-use Rattle.fast_value.specs.declared.kind.Operator.TheVariants as operator
-use Rattle.fast_value.specs.declared.kind.Part.{Part}
-use Rattle.fast_value.specs.declared.kind.Part.TheVariants as part
-use Rattle.fast_value.specs.declared.kind.Presence.{Presence}
-use Rattle.fast_value.specs.declared.kind.Presence.TheVariants.{Mandatory, Optional}
-use Rattle.fast_template.specs.declared.resolved.FieldPart.{FieldPart}
-use Rattle.fast_value.specs.declared.scalar.Scalar.{Scalar}
-use Rattle.fast_value.specs.declared.scalar.Scalar.TheVariants.{U32, Decimal, Ascii, Unicode, Bytes}
-use Rattle.fast_dictionary.specs.declared.entry.Entry.{Entry}
-use Rattle.fast_field.specs.declared.fault.FieldFault.{FieldFault}
-use Rattle.fast_field.specs.declared.fault.FieldRefusal.{FieldRefusal}
-use Rattle.fast_field.specs.declared.fault.FieldRefusal.TheVariants as refusal
-use Rattle.fast_field.specs.Values.{integer_of, units_of}
-use Rattle.fast_field.specs.Parts.{IsFieldPart, IsKindOfPart}
-use Rattle.fast_field.specs.Bases.{delta_base, tail_base, predicted}
-use Rattle.fast_field.specs.Spelled.{SpellsInteger, SpellsUnits, Spelled}
-use Rattle.fast_field.specs.Deltas.{Cut, uncut, SpellsTail, DeltaValue, DeltaForm, TailForm}
-use Rattle.fast_field.specs.Fields.{InitialOrAbsent, FormOf, FormBy, Form, IsWithin, within_part}
-use Rattle.fast_field.specs.Within.{HasRange, HasRangeOr, HoldsScalar, IsOfField, IsFieldValue}
-use Rattle.fast_field.specs.Best.{bit_rank, NoLater, IsBest}
-use Rattle.fast_field.specs.Planning.{is_optional, is_same, gives_same, default_gives, constant_gives, left_out_of}
-use Rattle.fast_field.specs.Refusals.{are_characters, has_characters, has_too_many, is_far, other_than_constant, constant_refusal, delta_refusal, tail_refusal, operator_refusal, absent_refusal, value_refusal, refusal_of}
 use Rattle.fast_field.proofs.BestForms.{bit_zero_row, bit_zero_is_best}
 use Rattle.fast_field.proofs.BestDeltas.{IsFirst, First, shortest_is_first, number_delta_first, decimal_delta_first}
 use Rattle.fast_field.proofs.BestCuts.{string_delta_first}
@@ -86,17 +51,17 @@ constant_given i None e = (optional i.presence e, refl)
 constant_given i (Some v) e = absurd cc
 
 pub left_out : (o : Operator) (i : FieldPart) (e : Entry) (v : Option Scalar) → left_out_of o i e v ≡ true → FormOf Usual o i e false uncut [] v
-left_out operator.Plain i e v h = absurd cc
-left_out operator.Constant i e v h = let w = constant_given i v h in (refl, refl, w.0, w.1)
-left_out operator.Default i e v h = (refl, refl, default_given i i.initial v refl h)
-left_out operator.Delta i e v h = absurd cc
+left_out Operator.Plain i e v h = absurd cc
+left_out Operator.Constant i e v h = let w = constant_given i v h in (refl, refl, w.0, w.1)
+left_out Operator.Default i e v h = (refl, refl, default_given i i.initial v refl h)
+left_out Operator.Delta i e v h = absurd cc
 left_out o i e v h = (refl, refl, given (predicted i e) v h)
 
 pub can_be_left_out : (o : Operator) (i : FieldPart) (e : Entry) (cut : Cut) (b : List ℕ) (v : Option Scalar) → FormOf Usual o i e false cut b v → left_out_of o i e v ≡ true
-can_be_left_out operator.Plain i e cut b v f = absurd f
-can_be_left_out operator.Constant i e cut b v f = rw (f.3, f.2) refl
-can_be_left_out operator.Default i e cut b v f = gives_default i v f.2
-can_be_left_out operator.Delta i e cut b v f = absurd f
+can_be_left_out Operator.Plain i e cut b v f = absurd f
+can_be_left_out Operator.Constant i e cut b v f = rw (f.3, f.2) refl
+can_be_left_out Operator.Default i e cut b v f = gives_default i v f.2
+can_be_left_out Operator.Delta i e cut b v f = absurd f
 can_be_left_out o i e cut b v f = gives (predicted i e) v f.2
 
 -- ---- bit 1
@@ -120,10 +85,10 @@ value_first i None h = subst (λ (p : Presence). First (λ c b. (c ≡ uncut) ×
 value_first i (Some v) h = whole_first i.kind i.presence (Some v) (whole_stands i.kind i.presence v h)
 
 delta_value_first : (k : Kind) (p : Presence) (base v : Scalar) → IsOfType k base → IsOfType k v → First (λ c b. DeltaValue Usual k p base c b v)
-delta_value_first kind.Decimal p base v h l = decimal_delta_first p base v h l
-delta_value_first kind.Ascii p base v h l = string_delta_first kind.Ascii p base v tt h l
-delta_value_first kind.Unicode p base v h l = string_delta_first kind.Unicode p base v tt h l
-delta_value_first kind.Bytes p base v h l = string_delta_first kind.Bytes p base v tt h l
+delta_value_first Kind.Decimal p base v h l = decimal_delta_first p base v h l
+delta_value_first Kind.Ascii p base v h l = string_delta_first Kind.Ascii p base v tt h l
+delta_value_first Kind.Unicode p base v h l = string_delta_first Kind.Unicode p base v tt h l
+delta_value_first Kind.Bytes p base v h l = string_delta_first Kind.Bytes p base v tt h l
 delta_value_first k p base v h l = number_delta_first k p base v refl h l
 
 has_base : (r : Result Scalar FieldFault) → delta_refusal r ≡ None → (base : Scalar) × (r ≡ Ok base)
@@ -148,7 +113,7 @@ delta_first i e (Some v) is h l none =
 long_enough : (r : Result Scalar FieldFault) (v : Scalar) → tail_refusal r v ≡ None → (base : Scalar) × (r ≡ Ok base) × (length (units_of base) ≤ length (units_of v))
 long_enough (Ok base) v e = (base, refl, not_short (nat_lt (length (units_of v)) (length (units_of base))) refl e)
   where
-    not_short : (t : Bool) → nat_lt (length (units_of v)) (length (units_of base)) ≡ t → (if t then Some refusal.TooShort else None) ≡ None → length (units_of base) ≤ length (units_of v)
+    not_short : (t : Bool) → nat_lt (length (units_of v)) (length (units_of base)) ≡ t → (if t then Some FieldRefusal.TooShort else None) ≡ None → length (units_of base) ≤ length (units_of v)
     not_short true h e = absurd cc
     not_short false h e = grind (arith, nat_tests)
 long_enough (Err f) v e = absurd cc
@@ -159,7 +124,7 @@ tail_form_is_first i e base v b is f = on_base_first (tail_base i e) (λ x c b. 
 pub tail_null_is_first : (i : FieldPart) (e : Entry) (b : List ℕ) → IsShortest (SpellsUnits Usual i.kind i.presence) b Null → IsFirst (λ c b. TailForm Usual i e c b None) b
 tail_null_is_first i e b s = shortest_is_first (λ c b. TailForm Usual i e c b None) b (refl, s.form) (λ c o f. (f.0, s.least o f.1))
 
-tail_form_first : (i : FieldPart) (e : Entry) (v : Option Scalar) → IsFieldPart i → IsTrue (applies operator.Tail i.kind) → IsOfField i v → ((w : Scalar) → v ≡ Some w → tail_refusal (tail_base i e) w ≡ None) → First (λ c b. TailForm Usual i e c b v)
+tail_form_first : (i : FieldPart) (e : Entry) (v : Option Scalar) → IsFieldPart i → IsTrue (applies Operator.Tail i.kind) → IsOfField i v → ((w : Scalar) → v ≡ Some w → tail_refusal (tail_base i e) w ≡ None) → First (λ c b. TailForm Usual i e c b v)
 tail_form_first i e None is fits l none =
     let s = subst (λ (p : Presence). Stands (SpellsUnits Usual i.kind p) Null) (sym l) (null_units_stand i.kind) in
     (s.0, tail_null_is_first i e s.0 s.1)
@@ -188,9 +153,9 @@ record Unrefused (i : FieldPart) (e : Entry) (v : Scalar) : Type 0 where
 unrefused : (i : FieldPart) (e : Entry) (v : Scalar) → value_refusal i e v ≡ None → Unrefused i e v
 unfolding value_refusal
 unrefused i e v h =
-    let x = if_none (not (is_of i.kind v && has_characters v)) refusal.Mismatch _ h in
-    let y = if_none (has_too_many i.part v) refusal.Limit _ x.1 in
-    let z = if_none (is_far i.part v) refusal.R1 _ y.1 in
+    let x = if_none (not (is_of i.kind v && has_characters v)) FieldRefusal.Mismatch _ h in
+    let y = if_none (has_too_many i.part v) FieldRefusal.Limit _ x.1 in
+    let z = if_none (is_far i.part v) FieldRefusal.R1 _ y.1 in
     let w = both (is_of i.kind v) (has_characters v) (not_false (is_of i.kind v && has_characters v) x.0) in
     record { of_kind = w.0; characters = w.1; few = y.0; near = z.0; rest = z.1 }
 
@@ -206,20 +171,20 @@ few_elements (pos n) h = let le = no_more n h in grind (arith, nat_tests)
 few_elements (negsuc n) h = refl
 
 within_limit : (p : Part) (v : Scalar) → has_too_many p v ≡ false → is_far p v ≡ false → IsTrue (within_part p v)
-within_limit part.Exponent v few near = not_false (exponent_in_range (integer_of v)) near
-within_limit part.Length v few near = few_elements (integer_of v) few
+within_limit Part.Exponent v few near = not_false (exponent_in_range (integer_of v)) near
+within_limit Part.Length v few near = few_elements (integer_of v) few
 within_limit p v few near = refl
 
 few_units : (p : Part) (k : Kind) (v : Scalar) → IsKindOfPart p k → IsTrue (is_of k v) → has_too_many p v ≡ false → length (units_of v) ≤ 65535
-few_units part.Length k v of_part h few = no_units v (subst (λ (x : Kind). IsTrue (is_of x v)) of_part h)
+few_units Part.Length k v of_part h few = no_units v (subst (λ (x : Kind). IsTrue (is_of x v)) of_part h)
   where
-    no_units : (v : Scalar) → IsTrue (is_of kind.UInt32 v) → length (units_of v) ≤ 65535
+    no_units : (v : Scalar) → IsTrue (is_of Kind.UInt32 v) → length (units_of v) ≤ 65535
     no_units (U32 n) h = omega arith
     no_units v h = absurd cc
 few_units p k v of_part h few = no_more (length (units_of v)) few
 
 near_decimal : (p : Part) (k : Kind) (e m : ℤ) → IsKindOfPart p k → IsTrue (is_of k (Decimal e m)) → is_far p (Decimal e m) ≡ false → IsTrue (exponent_in_range e)
-near_decimal part.Exponent k e m of_part h near = absurd (let w : false ≡ true = subst (λ (x : Kind). is_of x (Decimal e m) ≡ true) of_part h in cc)
+near_decimal Part.Exponent k e m of_part h near = absurd (let w : false ≡ true = subst (λ (x : Kind). is_of x (Decimal e m) ≡ true) of_part h in cc)
 near_decimal p k e m of_part h near = not_false (exponent_in_range e) near
 
 scalar_within : (i : FieldPart) (e : Entry) (v : Scalar) → IsFieldPart i → HasRange v → Unrefused i e v → IsScalar v
@@ -247,16 +212,16 @@ constant_is p (Some w) v e = same ((scalar_eq.eq-value).it v w) refl e
     same true h e = ap (λ (x : Scalar). Some x) (scalar_eq-exact v w h)
     same false h e = absurd cc
 
-pub constant_is_first : (i : FieldPart) (e : Entry) (v : Scalar) → Some v ≡ i.initial → IsFirst (λ c b. FormOf Usual operator.Constant i e true c b (Some v)) []
-constant_is_first i e v is = shortest_is_first (λ c b. FormOf Usual operator.Constant i e true c b (Some v)) [] (refl, refl, is) (λ c o f. (f.0, omega arith))
+pub constant_is_first : (i : FieldPart) (e : Entry) (v : Scalar) → Some v ≡ i.initial → IsFirst (λ c b. FormOf Usual Operator.Constant i e true c b (Some v)) []
+constant_is_first i e v is = shortest_is_first (λ c b. FormOf Usual Operator.Constant i e true c b (Some v)) [] (refl, refl, is) (λ c o f. (f.0, omega arith))
 
 -- under bit 1, where bit 0 does not give the value
 under_one : (o : Operator) (i : FieldPart) (e : Entry) (v : Option Scalar) → i.operator ≡ o → IsFieldPart i → HoldsScalar e → IsOfField i v → ((w : Scalar) → v ≡ Some w → operator_refusal o i e w ≡ None) → left_out_of o i e v ≡ false
     → First (λ c b. FormOf Usual o i e true c b v)
-under_one operator.Constant i e None o is h l none out = absurd (let w : constant_gives i.presence None ≡ true = rw l refl in cc)
-under_one operator.Constant i e (Some v) o is h l none out = ([], constant_is_first i e v (constant_is i.part i.initial v (none v refl)))
-under_one operator.Delta i e v o is h l none out = delta_first i e v is h l none
-under_one operator.Tail i e v o is h l none out = tail_form_first i e v is (subst (λ (x : Operator). IsTrue (applies x i.kind)) o is.typed.operator_applies) l none
+under_one Operator.Constant i e None o is h l none out = absurd (let w : constant_gives i.presence None ≡ true = rw l refl in cc)
+under_one Operator.Constant i e (Some v) o is h l none out = ([], constant_is_first i e v (constant_is i.part i.initial v (none v refl)))
+under_one Operator.Delta i e v o is h l none out = delta_first i e v is h l none
+under_one Operator.Tail i e v o is h l none out = tail_form_first i e v is (subst (λ (x : Operator). IsTrue (applies x i.kind)) o is.typed.operator_applies) l none
 under_one o i e v of_o is h l none out = value_first i v l
 
 pub best_under_one : (i : FieldPart) (e : Entry) (v : Option Scalar) (best : List ℕ) → IsWithin i.part v → IsFirst (λ c b. FormOf Usual i.operator i e true c b v) best → left_out_of i.operator i e v ≡ false → IsBest i e true best v
@@ -279,7 +244,7 @@ best_stands i e v is h r none = best_by i e v (left_out_of i.operator i e v) ref
 
 -- ---- what has a form has a best one
 
-wide : (z : ℤ) → IsTrue (exponent_in_range z) → IsTrue (in_range kind.Int32 z)
+wide : (z : ℤ) → IsTrue (exponent_in_range z) → IsTrue (in_range Kind.Int32 z)
 wide (pos n) h = let le = leb-true n 63 h in le-leb n 2147483647 (omega arith)
 wide (negsuc n) h =
     let le = leb-true n 62 (both (nat_le n 62) true h).0 in

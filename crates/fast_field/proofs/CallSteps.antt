@@ -1,23 +1,5 @@
 -- What a step of a call that failed makes of the reading behind it.
-use Rattle.std.proofs.Common.{◌≡◌, ℕ, Bool, true, false, List, Result, Ok, Err, refl, inl, inr}
-use Rattle.std.specs.Prelude.{IsUtf8}
-use Rattle.std.specs.Str.{is_utf8}
-use Rattle.std.proofs.lemmas.Str.{is_utf8-from_IsUtf8, IsUtf8-from_is_utf8}
-use Rattle.fast_wire.specs.Level.{verdict}
-use Rattle.fast_wire.specs.declared.level.Level.{Level}
-use Rattle.fast_wire.specs.Reading.{◌>>=◌, Fails, NothingElse}
-use Rattle.fast_wire.specs.declared.fault.WireFault.{WireFault}
-use Rattle.fast_value.specs.declared.kind.Kind.{Kind}
-use Rattle.fast_value.specs.declared.kind.Kind.TheVariants as kind
-use Rattle.fast_value.specs.declared.kind.Presence.{Presence}
-use Rattle.fast_template.specs.declared.resolved.FieldPart.{FieldPart}
-use Rattle.fast_value.specs.declared.scalar.Scalar.TheVariants.{Unicode}
-use Rattle.fast_dictionary.specs.declared.entry.Entry.{Entry}
-use Rattle.fast_field.specs.declared.fault.FieldFault.{FieldFault}
-use Rattle.fast_field.specs.declared.fault.FieldFault.TheVariants as fault
-use Rattle.fast_field.specs.Faults.{field_fault}
-use Rattle.fast_field.specs.Calls.{OrRefused}
-use Rattle.fast_field.specs.FieldReading.{in_field, unit_value, units_at, units_spelled_at, row_at, part_checked, field_at}
+use Rattle.fast_field.proofs.Common.{◌≡◌, ℕ, Bool, true, false, List, Result, Ok, Err, refl, inl, inr, IsUtf8, is_utf8, is_utf8-from_IsUtf8, IsUtf8-from_is_utf8, verdict, Level, ◌>>=◌, Fails, NothingElse, WireFault, Kind, Presence, FieldPart, Unicode, Entry, FieldFault, field_fault, OrRefused, in_field, unit_value, units_at, units_spelled_at, row_at, part_checked, field_at}
 use Rattle.fast_field.proofs.ValueFaults.{NoWant, never_then, made, null_or, unit_made, part_allowed}
 
 -- ---- faults
@@ -39,7 +21,7 @@ refused_then e r k (inr h) behind = inr (h.0, never_then r k h.1 behind)
 
 -- ---- texts
 
-pub unicode_value : (k : Kind) (s : List ℕ) → k ≡ kind.Unicode → IsUtf8 s → unit_value k s ≡ Ok (Unicode s)
+pub unicode_value : (k : Kind) (s : List ℕ) → k ≡ Kind.Unicode → IsUtf8 s → unit_value k s ≡ Ok (Unicode s)
 unfolding unit_value
 unicode_value k s e h = rw (e, is_utf8-from_IsUtf8 s h) refl
 
@@ -47,7 +29,7 @@ no_text : (s : List ℕ) (b : Bool) → (IsUtf8 s → ⊥) → is_utf8 s ≡ b �
 no_text s true never h = absurd (never (IsUtf8-from_is_utf8 s h))
 no_text s false never h = refl
 
-pub unicode_refused : (k : Kind) (s : List ℕ) → k ≡ kind.Unicode → (IsUtf8 s → ⊥) → unit_value k s ≡ Err fault.R2
+pub unicode_refused : (k : Kind) (s : List ℕ) → k ≡ Kind.Unicode → (IsUtf8 s → ⊥) → unit_value k s ≡ Err FieldFault.R2
 unfolding unit_value
 unicode_refused k s e never = rw (e, no_text s (is_utf8 s) never refl) refl
 

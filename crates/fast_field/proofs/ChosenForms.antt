@@ -1,42 +1,5 @@
 -- What is chosen for a value is spelled as its best form.
-use Rattle.std.proofs.Common.{◌≡◌, ℕ, ◌-◌, Bool, true, false, List, [], ◌∷◌, ◌++◌, length, take, drop, refl, ap, subst, ◌∙◌, arith, Ok, Err, Result}
-use Rattle.std.specs.Prelude.{ℤ, pos, negsuc, ◌-ℤ◌, Option, Some, None, IsTrue}
-use Rattle.std.proofs.lemmas.List.{drop_at, take_at}
-use Rattle.fast_wire.specs.declared.level.Level.TheVariants.{Usual}
-use Rattle.fast_wire.specs.Nullable.{IsUnsignedNullable, IsSignedNullable}
-use Rattle.fast_wire.specs.Writing.{IsShortest}
-use Rattle.fast_wire.specs.declared.nullable.Nullable.TheVariants.{Null}
-use Rattle.fast_wire.proofs.AsciiForms.{ascii_null_shortest}
-use Rattle.fast_wire.proofs.FormSizes.{unsigned_nullable_sizes}
-use Rattle.fast_wire.proofs.UnsignedForms.{entity_some}
-use Rattle.fast_wire.proofs.VectorForms.{vector_null_shortest}
-use Rattle.fast_value.specs.Scalar.{is_integer, IsScalar}
-use Rattle.fast_template.specs.TemplateSets.{applies}
-use Rattle.fast_value.specs.declared.kind.Kind.{Kind}
-use Rattle.fast_value.specs.declared.kind.Kind.TheVariants as kind
-use Rattle.fast_value.specs.declared.kind.Operator.{Operator}
-use Rattle.fast_value.specs.declared.kind.Operator.TheVariants as operator
-use Rattle.fast_value.specs.declared.kind.Presence.{Presence}
-use Rattle.fast_value.specs.declared.kind.Presence.TheVariants.{Optional}
-use Rattle.fast_template.specs.declared.resolved.FieldPart.{FieldPart}
-use Rattle.fast_value.specs.declared.scalar.Scalar.{Scalar}
-use Rattle.fast_value.specs.declared.scalar.Scalar.TheVariants.{U32, I32, U64, I64, Decimal, Ascii, Unicode, Bytes}
-use Rattle.fast_dictionary.specs.declared.entry.Entry.{Entry}
-use Rattle.fast_field.specs.declared.fault.FieldFault.{FieldFault}
-use Rattle.fast_field.specs.declared.pieces.Pieces.{Pieces}
-use Rattle.fast_field.specs.declared.pieces.Pieces.TheVariants as pieces
-use Rattle.fast_field.specs.Values.{is_unsigned, integer_of, exponent_of, mantissa_of, units_of, IsUnitKind}
-use Rattle.fast_field.specs.Parts.{IsFieldPart}
-use Rattle.fast_field.specs.Bases.{delta_base, tail_base}
-use Rattle.fast_field.specs.Spelled.{SpellsInteger, SpellsUnits, Spelled}
-use Rattle.fast_field.specs.Deltas.{uncut, put_together, SpellsTail, DeltaValue, DeltaForm, TailForm}
-use Rattle.fast_field.specs.Fields.{FormOf}
-use Rattle.fast_field.specs.Within.{HasRangeOr, HoldsScalar}
-use Rattle.fast_field.specs.Best.{IsBest}
-use Rattle.fast_field.specs.Planning.{constant_gives, left_out_of}
-use Rattle.fast_field.specs.Refusals.{operator_refusal, refusal_of}
-use Rattle.fast_field.specs.Removals.{length_of}
-use Rattle.fast_field.specs.Chosen.{Both, ShortestSigned, ShortestPart, ShortestPair, ShortestWhole, ShortestPieces, CanBeUnits, CanBeWhole, CanBePieces, IsBestCut, IsWhole, IsNothing, IsDelta, IsTail, OnBase, IsMadeOf}
+use Rattle.fast_field.proofs.Common.{◌≡◌, ℕ, ◌-◌, Bool, true, false, List, [], ◌∷◌, ◌++◌, length, take, drop, refl, ap, subst, ◌∙◌, arith, Ok, Err, Result, ℤ, pos, negsuc, ◌-ℤ◌, Option, Some, None, IsTrue, drop_at, take_at, Usual, IsUnsignedNullable, IsSignedNullable, IsShortest, Null, ascii_null_shortest, unsigned_nullable_sizes, entity_some, vector_null_shortest, is_integer, IsScalar, applies, Kind, Operator, Presence, Optional, FieldPart, Scalar, U32, I32, U64, I64, Decimal, Ascii, Unicode, Bytes, Entry, FieldFault, Pieces, is_unsigned, integer_of, exponent_of, mantissa_of, units_of, IsUnitKind, IsFieldPart, delta_base, tail_base, SpellsInteger, SpellsUnits, Spelled, uncut, put_together, SpellsTail, DeltaValue, DeltaForm, TailForm, FormOf, HasRangeOr, HoldsScalar, IsBest, constant_gives, left_out_of, operator_refusal, refusal_of, length_of, Both, ShortestSigned, ShortestPart, ShortestPair, ShortestWhole, ShortestPieces, CanBeUnits, CanBeWhole, CanBePieces, IsBestCut, IsWhole, IsNothing, IsDelta, IsTail, OnBase, IsMadeOf}
 use Rattle.fast_field.proofs.BestForms.{bit_zero_is_best}
 use Rattle.fast_field.proofs.BestDeltas.{IsFirst, difference_fits, differences_fit, number_delta_is_first, decimal_delta_is_first}
 use Rattle.fast_field.proofs.BestCuts.{cut_is_first, removal_small, drop_fits, take_fits}
@@ -70,72 +33,72 @@ null_integer true = record { form = unsigned_null; least = λ o h. entity_some o
 null_integer false = record { form = signed_null; least = λ o h. entity_some o h.entity }
 
 null_units : (k : Kind) → IsShortest (SpellsUnits Usual k Optional) null_byte Null
-null_units kind.Ascii = record { form = ascii_null_shortest.form; least = ascii_null_shortest.least }
+null_units Kind.Ascii = record { form = ascii_null_shortest.form; least = ascii_null_shortest.least }
 null_units k = record { form = vector_null_shortest.form; least = vector_null_shortest.least }
 
 null_spelled : (k : Kind) → IsShortest (Spelled Usual k Optional) null_byte None
-null_spelled kind.Decimal = record { form = (null_integer false).form; least = (null_integer false).least }
-null_spelled kind.Ascii = record { form = (null_units kind.Ascii).form; least = (null_units kind.Ascii).least }
-null_spelled kind.Unicode = record { form = (null_units kind.Unicode).form; least = (null_units kind.Unicode).least }
-null_spelled kind.Bytes = record { form = (null_units kind.Bytes).form; least = (null_units kind.Bytes).least }
+null_spelled Kind.Decimal = record { form = (null_integer false).form; least = (null_integer false).least }
+null_spelled Kind.Ascii = record { form = (null_units Kind.Ascii).form; least = (null_units Kind.Ascii).least }
+null_spelled Kind.Unicode = record { form = (null_units Kind.Unicode).form; least = (null_units Kind.Unicode).least }
+null_spelled Kind.Bytes = record { form = (null_units Kind.Bytes).form; least = (null_units Kind.Bytes).least }
 null_spelled k = record { form = (null_integer (is_unsigned k)).form; least = (null_integer (is_unsigned k)).least }
 
 null_first : (o : Operator) (i : FieldPart) (e : Entry) → i.presence ≡ Optional → left_out_of o i e None ≡ false → IsFirst (λ c b. FormOf Usual o i e true c b None) null_byte
-null_first operator.Constant i e p out = absurd (let w : constant_gives i.presence None ≡ true = rw p refl in cc)
-null_first operator.Delta i e p out = delta_null_is_first i e null_byte (rw p (null_integer false))
-null_first operator.Tail i e p out = tail_null_is_first i e null_byte (rw p (null_units i.kind))
+null_first Operator.Constant i e p out = absurd (let w : constant_gives i.presence None ≡ true = rw p refl in cc)
+null_first Operator.Delta i e p out = delta_null_is_first i e null_byte (rw p (null_integer false))
+null_first Operator.Tail i e p out = tail_null_is_first i e null_byte (rw p (null_units i.kind))
 null_first o i e p out = whole_is_first i.kind i.presence None null_byte (rw p (null_spelled i.kind))
 
 -- ---- what stands whole
 
 pub whole_shortest : (k : Kind) (p : Presence) (v : Scalar) (b : List ℕ) → IsOfType k v → ShortestWhole p v b → IsShortest (Spelled Usual k p) b (Some v)
-whole_shortest kind.UInt32 p (U32 n) b h s = number_shortest kind.UInt32 p (U32 n) b refl h (unsigned_form p n b s)
-whole_shortest kind.UInt64 p (U64 n) b h s = number_shortest kind.UInt64 p (U64 n) b refl h (unsigned_form p n b s)
-whole_shortest kind.Int32 p (I32 z) b h s = number_shortest kind.Int32 p (I32 z) b refl h (signed_form p z b s)
-whole_shortest kind.Int64 p (I64 z) b h s = number_shortest kind.Int64 p (I64 z) b refl h (signed_form p z b s)
-whole_shortest kind.Decimal p (Decimal e m) b h s = decimal_is_shortest p e m b h (pair_form p e m b s) (pair_least p e m b s)
-whole_shortest kind.Ascii p (Ascii t) b h s = string_is_shortest kind.Ascii p (Ascii t) b tt h (units_form kind.Ascii p t b s)
-whole_shortest kind.Unicode p (Unicode t) b h s = string_is_shortest kind.Unicode p (Unicode t) b tt h (units_form kind.Unicode p t b s)
-whole_shortest kind.Bytes p (Bytes t) b h s = string_is_shortest kind.Bytes p (Bytes t) b tt h (units_form kind.Bytes p t b s)
+whole_shortest Kind.UInt32 p (U32 n) b h s = number_shortest Kind.UInt32 p (U32 n) b refl h (unsigned_form p n b s)
+whole_shortest Kind.UInt64 p (U64 n) b h s = number_shortest Kind.UInt64 p (U64 n) b refl h (unsigned_form p n b s)
+whole_shortest Kind.Int32 p (I32 z) b h s = number_shortest Kind.Int32 p (I32 z) b refl h (signed_form p z b s)
+whole_shortest Kind.Int64 p (I64 z) b h s = number_shortest Kind.Int64 p (I64 z) b refl h (signed_form p z b s)
+whole_shortest Kind.Decimal p (Decimal e m) b h s = decimal_is_shortest p e m b h (pair_form p e m b s) (pair_least p e m b s)
+whole_shortest Kind.Ascii p (Ascii t) b h s = string_is_shortest Kind.Ascii p (Ascii t) b tt h (units_form Kind.Ascii p t b s)
+whole_shortest Kind.Unicode p (Unicode t) b h s = string_is_shortest Kind.Unicode p (Unicode t) b tt h (units_form Kind.Unicode p t b s)
+whole_shortest Kind.Bytes p (Bytes t) b h s = string_is_shortest Kind.Bytes p (Bytes t) b tt h (units_form Kind.Bytes p t b s)
 whole_shortest k p v b h s = absurd (let e = h.0 in cc)
 
 whole_first : (i : FieldPart) (v : Scalar) (x : Pieces) (b : List ℕ) → IsOfType i.kind v → IsWhole v x → ShortestPieces i x b → IsFirst (λ c b. (c ≡ uncut) × Spelled Usual i.kind i.presence b (Some v)) b
-whole_first i v (pieces.Whole w) b h made s = whole_is_first i.kind i.presence (Some v) b (whole_shortest i.kind i.presence v b h (subst (λ (y : Scalar). ShortestWhole i.presence y b) made s))
+whole_first i v (Pieces.Whole w) b h made s = whole_is_first i.kind i.presence (Some v) b (whole_shortest i.kind i.presence v b h (subst (λ (y : Scalar). ShortestWhole i.presence y b) made s))
 whole_first i v x b h made s = absurd made
 
 -- ---- deltas
 
 pub number_value : (k : Kind) (p : Presence) (base v : Scalar) (b : List ℕ) → IsTrue (is_integer k) → IsOfType k v → ShortestSigned p (integer_of v -ℤ integer_of base) b → IsFirst (λ c b. DeltaValue Usual k p base c b v) b
-number_value kind.UInt32 p base v b i l s = number_delta_is_first kind.UInt32 p base v b i l s
-number_value kind.Int32 p base v b i l s = number_delta_is_first kind.Int32 p base v b i l s
-number_value kind.UInt64 p base v b i l s = number_delta_is_first kind.UInt64 p base v b i l s
-number_value kind.Int64 p base v b i l s = number_delta_is_first kind.Int64 p base v b i l s
+number_value Kind.UInt32 p base v b i l s = number_delta_is_first Kind.UInt32 p base v b i l s
+number_value Kind.Int32 p base v b i l s = number_delta_is_first Kind.Int32 p base v b i l s
+number_value Kind.UInt64 p base v b i l s = number_delta_is_first Kind.UInt64 p base v b i l s
+number_value Kind.Int64 p base v b i l s = number_delta_is_first Kind.Int64 p base v b i l s
 number_value k p base v b i l s = absurd cc
 
-pub decimal_value : (k : Kind) (p : Presence) (base v : Scalar) (b : List ℕ) → k ≡ kind.Decimal → IsOfType k v → ShortestPair p (exponent_of v -ℤ exponent_of base) (mantissa_of v -ℤ mantissa_of base) b → IsFirst (λ c b. DeltaValue Usual k p base c b v) b
-decimal_value kind.Decimal p base v b i l s = decimal_delta_is_first p base v b l s
+pub decimal_value : (k : Kind) (p : Presence) (base v : Scalar) (b : List ℕ) → k ≡ Kind.Decimal → IsOfType k v → ShortestPair p (exponent_of v -ℤ exponent_of base) (mantissa_of v -ℤ mantissa_of base) b → IsFirst (λ c b. DeltaValue Usual k p base c b v) b
+decimal_value Kind.Decimal p base v b i l s = decimal_delta_is_first p base v b l s
 decimal_value k p base v b i l s = absurd cc
 
 pub string_value : (k : Kind) (p : Presence) (base v : Scalar) (removal : ℤ) (part b : List ℕ) → IsUnitKind k → IsOfType k base → IsOfType k v → IsBestCut k p (units_of base) (units_of v) removal part → Both (ShortestSigned p removal) (ShortestPart k part) b
     → IsFirst (λ c b. DeltaValue Usual k p base c b v) b
-string_value kind.Ascii p base v removal part b u h l best s = cut_is_first kind.Ascii p base v removal part b u h l best s
-string_value kind.Unicode p base v removal part b u h l best s = cut_is_first kind.Unicode p base v removal part b u h l best s
-string_value kind.Bytes p base v removal part b u h l best s = cut_is_first kind.Bytes p base v removal part b u h l best s
+string_value Kind.Ascii p base v removal part b u h l best s = cut_is_first Kind.Ascii p base v removal part b u h l best s
+string_value Kind.Unicode p base v removal part b u h l best s = cut_is_first Kind.Unicode p base v removal part b u h l best s
+string_value Kind.Bytes p base v removal part b u h l best s = cut_is_first Kind.Bytes p base v removal part b u h l best s
 string_value k p base v removal part b u h l best s = absurd u
 
 delta_value : (i : FieldPart) (base v : Scalar) (x : Pieces) (b : List ℕ) → IsOfType i.kind base → IsOfType i.kind v → IsDelta i.kind i.presence base v x → ShortestPieces i x b → IsFirst (λ c b. DeltaValue Usual i.kind i.presence base c b v) b
-delta_value i base v (pieces.Difference d) b h l made s = number_value i.kind i.presence base v b made.0 l (subst (λ (z : ℤ). ShortestSigned i.presence z b) made.1 s)
-delta_value i base v (pieces.Differences e m) b h l made s =
+delta_value i base v (Pieces.Difference d) b h l made s = number_value i.kind i.presence base v b made.0 l (subst (λ (z : ℤ). ShortestSigned i.presence z b) made.1 s)
+delta_value i base v (Pieces.Differences e m) b h l made s =
     decimal_value i.kind i.presence base v b made.0 l
     (subst (λ (z : ℤ). ShortestPair i.presence (exponent_of v -ℤ exponent_of base) z b) made.2 (subst (λ (z : ℤ). ShortestPair i.presence z m b) made.1 s))
-delta_value i base v (pieces.Cut r t) b h l made s = string_value i.kind i.presence base v (length_of r) t.now b made.0 h l made.1 s
+delta_value i base v (Pieces.Cut r t) b h l made s = string_value i.kind i.presence base v (length_of r) t.now b made.0 h l made.1 s
 delta_value i base v x b h l made s = absurd made
 
 on_base : (r : Result Scalar FieldFault) (P : Scalar → Type 0) → OnBase r P → (base : Scalar) × (r ≡ Ok base) × P base
 on_base (Ok base) P h = (base, refl, h)
 on_base (Err f) P h = absurd h
 
-delta_first : (i : FieldPart) (e : Entry) (v : Scalar) (x : Pieces) (b : List ℕ) → IsFieldPart i → HoldsScalar e → IsOfType i.kind v → IsMadeOf operator.Delta i e v x → ShortestPieces i x b → IsFirst (λ c b. DeltaForm Usual i e c b (Some v)) b
+delta_first : (i : FieldPart) (e : Entry) (v : Scalar) (x : Pieces) (b : List ℕ) → IsFieldPart i → HoldsScalar e → IsOfType i.kind v → IsMadeOf Operator.Delta i e v x → ShortestPieces i x b → IsFirst (λ c b. DeltaForm Usual i e c b (Some v)) b
 delta_first i e v x b is h l made s =
     let base = on_base (delta_base i e) (λ base. IsDelta i.kind i.presence base v x) made in
     delta_is_first i e base.0 v b base.1 (delta_value i base.0 v x b (delta_base_within i e base.0 is.typed h base.1) l base.2 s)
@@ -143,27 +106,27 @@ delta_first i e v x b is h l made s =
 -- ---- tails
 
 tail_value : (i : FieldPart) (base v : Scalar) (x : Pieces) (b : List ℕ) → IsUnitKind i.kind → IsOfType i.kind v → IsTail i.kind i.presence base v x → ShortestPieces i x b → IsFirst (λ c b. SpellsTail Usual i.kind i.presence base c b v) b
-tail_value i base v (pieces.Tail t) b u l made s = tail_is_first i.kind i.presence base v t.now b u l made s
+tail_value i base v (Pieces.Tail t) b u l made s = tail_is_first i.kind i.presence base v t.now b u l made s
 tail_value i base v x b u l made s = absurd made
 
-tail_first : (i : FieldPart) (e : Entry) (v : Scalar) (x : Pieces) (b : List ℕ) → IsTrue (applies operator.Tail i.kind) → IsOfType i.kind v → IsMadeOf operator.Tail i e v x → ShortestPieces i x b → IsFirst (λ c b. TailForm Usual i e c b (Some v)) b
+tail_first : (i : FieldPart) (e : Entry) (v : Scalar) (x : Pieces) (b : List ℕ) → IsTrue (applies Operator.Tail i.kind) → IsOfType i.kind v → IsMadeOf Operator.Tail i e v x → ShortestPieces i x b → IsFirst (λ c b. TailForm Usual i e c b (Some v)) b
 tail_first i e v x b fits l made s =
     let base = on_base (tail_base i e) (λ base. IsTail i.kind i.presence base v x) made in
     tail_form_is_first i e base.0 v b base.1 (tail_value i base.0 v x b (unit_kind i.kind fits) l base.2 s)
 
 -- ---- constants
 
-constant_first : (i : FieldPart) (e : Entry) (v : Scalar) (x : Pieces) (b : List ℕ) → operator_refusal operator.Constant i e v ≡ None → IsNothing x → ShortestPieces i x b → IsFirst (λ c b. FormOf Usual operator.Constant i e true c b (Some v)) b
-constant_first i e v pieces.Nothing b none made s = rw s (constant_is_first i e v (constant_is i.part i.initial v none))
+constant_first : (i : FieldPart) (e : Entry) (v : Scalar) (x : Pieces) (b : List ℕ) → operator_refusal Operator.Constant i e v ≡ None → IsNothing x → ShortestPieces i x b → IsFirst (λ c b. FormOf Usual Operator.Constant i e true c b (Some v)) b
+constant_first i e v Pieces.Nothing b none made s = rw s (constant_is_first i e v (constant_is i.part i.initial v none))
 constant_first i e v x b none made s = absurd made
 
 -- ---- all operators
 
 chosen_first : (o : Operator) (i : FieldPart) (e : Entry) (v : Scalar) (x : Pieces) (b : List ℕ) → IsTrue (applies o i.kind) → IsFieldPart i → HoldsScalar e → IsOfType i.kind v → operator_refusal o i e v ≡ None → IsMadeOf o i e v x → ShortestPieces i x b
     → IsFirst (λ c b. FormOf Usual o i e true c b (Some v)) b
-chosen_first operator.Constant i e v x b a is h l none made s = constant_first i e v x b none made s
-chosen_first operator.Delta i e v x b a is h l none made s = delta_first i e v x b is h l made s
-chosen_first operator.Tail i e v x b a is h l none made s = tail_first i e v x b a l made s
+chosen_first Operator.Constant i e v x b a is h l none made s = constant_first i e v x b none made s
+chosen_first Operator.Delta i e v x b a is h l none made s = delta_first i e v x b is h l made s
+chosen_first Operator.Tail i e v x b a is h l none made s = tail_first i e v x b a l made s
 chosen_first o i e v x b a is h l none made s = whole_first i v x b l made s
 
 -- the shortest bytes of what was chosen are the best form
@@ -184,20 +147,20 @@ left_out_best i e v is r none out b s = rw s (bit_zero_is_best i e v (record { r
 -- ---- what was chosen can be spelled
 
 pub units_fit : (k : Kind) (s : List ℕ) → IsString k s → CanBeUnits k s
-units_fit kind.Ascii s h = text_of s h
+units_fit Kind.Ascii s h = text_of s h
 units_fit k s h = h.0
 
 whole_fits : (v : Scalar) → IsScalar v → CanBeWhole v
-whole_fits (Ascii s) h = units_fit kind.Ascii s h
+whole_fits (Ascii s) h = units_fit Kind.Ascii s h
 whole_fits (Unicode s) h = h.0
 whole_fits (Bytes s) h = h.0
 whole_fits v h = tt
 
 -- the units of a value
 pub value_fits : (k : Kind) (v : Scalar) → IsOfType k v → CanBeUnits k (units_of v)
-value_fits kind.Ascii v h = units_fit kind.Ascii (units_of v) (units_of_string kind.Ascii v tt h)
-value_fits kind.Unicode v h = units_fit kind.Unicode (units_of v) (units_of_string kind.Unicode v tt h)
-value_fits kind.Bytes v h = units_fit kind.Bytes (units_of v) (units_of_string kind.Bytes v tt h)
+value_fits Kind.Ascii v h = units_fit Kind.Ascii (units_of v) (units_of_string Kind.Ascii v tt h)
+value_fits Kind.Unicode v h = units_fit Kind.Unicode (units_of v) (units_of_string Kind.Unicode v tt h)
+value_fits Kind.Bytes v h = units_fit Kind.Bytes (units_of v) (units_of_string Kind.Bytes v tt h)
 value_fits k v h = few_units v h.1
 
 front_is_string : (k : Kind) (v s t : List ℕ) → IsString k v → v ≡ s ++ t → IsString k s
@@ -211,11 +174,11 @@ part_is_string k (pos n) base part v h e = back_is_string k v (take (length base
 part_is_string k (negsuc n) base part v h e = front_is_string k v part (drop n base) h e
 
 pub delta_fits : (i : FieldPart) (base v : Scalar) (x : Pieces) → IsOfType i.kind base → IsOfType i.kind v → IsDelta i.kind i.presence base v x → CanBePieces i x
-delta_fits i base v (pieces.Difference d) h l made = rw made.1 (difference_fits i.kind base v made.0 h l)
-delta_fits i base v (pieces.Differences e m) h l made =
+delta_fits i base v (Pieces.Difference d) h l made = rw made.1 (difference_fits i.kind base v made.0 h l)
+delta_fits i base v (Pieces.Differences e m) h l made =
     let fit = differences_fit base v (subst (λ (k : Kind). IsOfType k base) made.0 h) (subst (λ (k : Kind). IsOfType k v) made.0 l) in
     rw (made.1, made.2) fit
-delta_fits i base v (pieces.Cut r t) h l made =
+delta_fits i base v (Pieces.Cut r t) h l made =
     let best = made.1 in (
       removal_small (units_of base) (length_of r) (units_of_string i.kind base made.0 h).0 best.few,
       units_fit i.kind t.now (part_is_string i.kind (length_of r) (units_of base) t.now (units_of v) (units_of_string i.kind v made.0 l) best.made),
@@ -223,24 +186,24 @@ delta_fits i base v (pieces.Cut r t) h l made =
 delta_fits i base v x h l made = absurd made
 
 tail_fits : (i : FieldPart) (base v : Scalar) (x : Pieces) → IsUnitKind i.kind → IsOfType i.kind v → IsTail i.kind i.presence base v x → CanBePieces i x
-tail_fits i base v (pieces.Tail t) u l made =
+tail_fits i base v (Pieces.Tail t) u l made =
     units_fit i.kind t.now (back_is_string i.kind (units_of v) (take (length (units_of base) - length t.now) (units_of base)) t.now (units_of_string i.kind v u l) made.made)
 tail_fits i base v x u l made = absurd made
 
 wholes_fit : (i : FieldPart) (v : Scalar) (x : Pieces) → IsScalar v → IsWhole v x → CanBePieces i x
-wholes_fit i v (pieces.Whole w) h made = rw made (whole_fits v h)
+wholes_fit i v (Pieces.Whole w) h made = rw made (whole_fits v h)
 wholes_fit i v x h made = absurd made
 
 nothing_fits : (i : FieldPart) (x : Pieces) → IsNothing x → CanBePieces i x
-nothing_fits i pieces.Nothing made = tt
+nothing_fits i Pieces.Nothing made = tt
 nothing_fits i x made = absurd made
 
 chosen_fits : (o : Operator) (i : FieldPart) (e : Entry) (v : Scalar) (x : Pieces) → IsTrue (applies o i.kind) → IsFieldPart i → HoldsScalar e → IsOfType i.kind v → IsMadeOf o i e v x → CanBePieces i x
-chosen_fits operator.Constant i e v x a is h l made = nothing_fits i x made
-chosen_fits operator.Delta i e v x a is h l made =
+chosen_fits Operator.Constant i e v x a is h l made = nothing_fits i x made
+chosen_fits Operator.Delta i e v x a is h l made =
     let base = on_base (delta_base i e) (λ base. IsDelta i.kind i.presence base v x) made in
     delta_fits i base.0 v x (delta_base_within i e base.0 is.typed h base.1) l base.2
-chosen_fits operator.Tail i e v x a is h l made =
+chosen_fits Operator.Tail i e v x a is h l made =
     let base = on_base (tail_base i e) (λ base. IsTail i.kind i.presence base v x) made in
     tail_fits i base.0 v x (unit_kind i.kind a) l base.2
 chosen_fits o i e v x a is h l made = wholes_fit i v x l.1 made

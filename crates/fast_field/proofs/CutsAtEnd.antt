@@ -1,13 +1,5 @@
 -- What is asked of a base and of what is put behind so much of it: how far both agree.
-use Rattle.std.proofs.Common.{◌≡◌, ◌≤◌, ◌<◌, ◌+◌, ◌-◌, ◌%◌, true, List, ℕ, ◌++◌, length, take, drop, get_or, zero, suc, [], ◌∷◌, refl, sym, ap, subst, ◌∙◌, arith, inl, inr, length-append}
-use Rattle.std.specs.Prelude.{nat_eq, not}
-use Rattle.std.proofs.lemmas.Bool.{cases_lt}
-use Rattle.std.proofs.lemmas.Bool.Decides.{nat_tests}
-use Rattle.std.proofs.lemmas.List.{get_or-append-add, get_or-drop, length-map, length-take-le}
-use Rattle.std.proofs.Math.Seq.{take-append_seam}
-use Rattle.fast_wire.specs.Entity.{IsEntity, groups}
-use Rattle.fast_wire.proofs.UnsignedForms.{entity_some}
-use Rattle.fast_field.specs.CommonParts.{IsLongestPrefix, IsLongestSuffix, SharesEnd}
+use Rattle.fast_field.proofs.Common.{◌≡◌, ◌≤◌, ◌<◌, ◌+◌, ◌-◌, ◌%◌, true, List, ℕ, ◌++◌, length, take, drop, get_or, zero, suc, [], ◌∷◌, refl, sym, ap, subst, ◌∙◌, arith, inl, inr, length-append, nat_eq, not, cases_lt, nat_tests, get_or-append-add, get_or-drop, length-map, length-take-le, take-append_seam, IsEntity, groups, entity_some, IsLongestPrefix, IsLongestSuffix, SharesEnd}
 use Rattle.fast_field.proofs.Agreeing.{prefix_ends, prefix_more, prefix_stops, suffix_ends, suffix_none, suffix_stops}
 use Rattle.fast_field.proofs.BestCuts.{longest_suffix}
 

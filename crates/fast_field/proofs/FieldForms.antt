@@ -1,28 +1,5 @@
 -- The forms of each operator are read, and nothing else is.
-use Rattle.std.proofs.Common.{◌≡◌, ℕ, Bool, true, false, List, [], ◌++◌, Result, Ok, Err, refl, sym, ap, subst}
-use Rattle.std.specs.Prelude.{Option, Some, None, IsSome}
-use Rattle.fast_wire.specs.declared.level.Level.{Level}
-use Rattle.fast_wire.specs.Reader.{IsBytes, IsReader}
-use Rattle.fast_wire.specs.Reading.{◌>>=◌}
-use Rattle.fast_wire.proofs.Readers.{ok_is, reader_of, reader_as, reader_checked, one_form, no_form}
-use Rattle.fast_template.specs.Resolved.{operator_needs_bit}
-use Rattle.fast_value.specs.declared.kind.Operator.{Operator}
-use Rattle.fast_value.specs.declared.kind.Operator.TheVariants as operator
-use Rattle.fast_value.specs.declared.kind.Part.{Part}
-use Rattle.fast_value.specs.declared.kind.Part.TheVariants as part
-use Rattle.fast_value.specs.declared.kind.Presence.{Presence}
-use Rattle.fast_value.specs.declared.kind.Presence.TheVariants.{Mandatory, Optional}
-use Rattle.fast_template.specs.declared.resolved.FieldPart.{FieldPart}
-use Rattle.fast_value.specs.declared.scalar.Scalar.{Scalar}
-use Rattle.fast_dictionary.specs.declared.entry.Entry.{Entry}
-use Rattle.fast_field.specs.declared.fault.FieldFault.{FieldFault}
-use Rattle.fast_field.specs.declared.fault.FieldFault.TheVariants as fault
-use Rattle.fast_field.specs.Bases.{predicted}
-use Rattle.fast_field.specs.Spelled.{Spelled}
-use Rattle.fast_field.specs.Deltas.{Cut, uncut}
-use Rattle.fast_field.specs.Parts.{IsBitOf, HasDefault}
-use Rattle.fast_field.specs.Fields.{FormOf, Form, IsWithin, within_part, InitialOrAbsent}
-use Rattle.fast_field.specs.FieldReading.{whole_at, predicted_at, row_at, part_checked, field_at, IsFieldFault}
+use Rattle.fast_field.proofs.Common.{◌≡◌, ℕ, Bool, true, false, List, [], ◌++◌, Result, Ok, Err, refl, sym, ap, subst, Option, Some, None, IsSome, Level, IsBytes, IsReader, ◌>>=◌, ok_is, reader_of, reader_as, reader_checked, one_form, no_form, operator_needs_bit, Operator, Part, Presence, Mandatory, Optional, FieldPart, Scalar, Entry, FieldFault, predicted, Spelled, Cut, uncut, IsBitOf, HasDefault, FormOf, Form, IsWithin, within_part, InitialOrAbsent, whole_at, predicted_at, row_at, part_checked, field_at, IsFieldFault}
 use Rattle.fast_field.proofs.SpelledForms.{spelled_forms, if_ok, if_holds}
 use Rattle.fast_field.proofs.BaseForms.{deltas, tails}
 
@@ -34,22 +11,22 @@ Row level o i e bit b v = (cut : Cut) × FormOf level o i e bit cut b v
 
 -- ---- the rows
 
-whole_row : (level : Level) → (i : FieldPart) → IsReader fault.NeedMore (whole_at level i) (λ b v. (cut : Cut) × ((cut ≡ uncut) × Spelled level i.kind i.presence b v))
+whole_row : (level : Level) → (i : FieldPart) → IsReader FieldFault.NeedMore (whole_at level i) (λ b v. (cut : Cut) × ((cut ≡ uncut) × Spelled level i.kind i.presence b v))
 unfolding whole_at
 whole_row level i =
-    reader_as fault.NeedMore (whole_at level i) (Spelled level i.kind i.presence) (λ b v. (cut : Cut) × ((cut ≡ uncut) × Spelled level i.kind i.presence b v)) (λ b v h. (uncut, (refl, h))) (λ b v h. h.1.1)
+    reader_as FieldFault.NeedMore (whole_at level i) (Spelled level i.kind i.presence) (λ b v. (cut : Cut) × ((cut ≡ uncut) × Spelled level i.kind i.presence b v)) (λ b v h. (uncut, (refl, h))) (λ b v h. h.1.1)
     (spelled_forms level i.part i.kind i.presence)
 
 -- a value that takes no bytes
 given : (m : Result (Option Scalar) FieldFault) (Is : Cut → List ℕ → Option Scalar → Type 0) → ((v : Option Scalar) → m ≡ Ok v → Is uncut [] v) → ((cut : Cut) (b : List ℕ) (v : Option Scalar) → Is cut b v → (b ≡ []) × (m ≡ Ok v))
-    → IsReader fault.NeedMore (λ bytes. m >>= λ v. Ok (v, bytes)) (λ b v. (cut : Cut) × Is cut b v)
+    → IsReader FieldFault.NeedMore (λ bytes. m >>= λ v. Ok (v, bytes)) (λ b v. (cut : Cut) × Is cut b v)
 given m Is to from =
-    reader_as fault.NeedMore (λ bytes. m >>= λ v. Ok (v, bytes)) (λ b v. (b ≡ []) × (m ≡ Ok v)) (λ b v. (cut : Cut) × Is cut b v)
+    reader_as FieldFault.NeedMore (λ bytes. m >>= λ v. Ok (v, bytes)) (λ b v. (b ≡ []) × (m ≡ Ok v)) (λ b v. (cut : Cut) × Is cut b v)
     (λ b v h. (uncut, rw h.0 (to v h.1)))
     (λ b v h. from h.0 b v h.1)
-    (reader_of fault.NeedMore m)
+    (reader_of FieldFault.NeedMore m)
 
-predicted_row : (i : FieldPart) (e : Entry) → IsReader fault.NeedMore (predicted_at i e) (λ b v. (cut : Cut) × ((cut ≡ uncut) × (b ≡ []) × (predicted i e ≡ Ok v)))
+predicted_row : (i : FieldPart) (e : Entry) → IsReader FieldFault.NeedMore (predicted_at i e) (λ b v. (cut : Cut) × ((cut ≡ uncut) × (b ≡ []) × (predicted i e ≡ Ok v)))
 unfolding predicted_at
 predicted_row i e = given (predicted i e) (λ cut b v. (cut ≡ uncut) × (b ≡ []) × (predicted i e ≡ Ok v)) (λ v h. (refl, refl, h)) (λ cut b v h. (h.1, h.2))
 
@@ -59,7 +36,7 @@ made_so x v e = sym (ok_is {F = FieldFault} x v e)
 so_made : (x v : Option Scalar) → v ≡ x → done x ≡ Ok v
 so_made x v e = ap (λ (y : Option Scalar). done y) (sym e)
 
-optional_constant : (p : Presence) → (operator_needs_bit operator.Constant p ≡ false → false ≡ true) → p ≡ Optional
+optional_constant : (p : Presence) → (operator_needs_bit Operator.Constant p ≡ false → false ≡ true) → p ≡ Optional
 optional_constant Mandatory h = let e = h refl in absurd cc
 optional_constant Optional h = refl
 
@@ -76,15 +53,15 @@ initial_from : (i : FieldPart) (v : Option Scalar) → InitialOrAbsent i v → i
 initial_from i None h = h.0
 initial_from i (Some v) h = h
 
-row : (level : Level) → (o : Operator) (i : FieldPart) (e : Entry) (bit : Bool) → (operator_needs_bit o i.presence ≡ false → bit ≡ true) → (o ≡ operator.Default → i.presence ≡ Mandatory → IsSome i.initial) → IsReader fault.NeedMore (row_at level o i e bit) (Row level o i e bit)
+row : (level : Level) → (o : Operator) (i : FieldPart) (e : Entry) (bit : Bool) → (operator_needs_bit o i.presence ≡ false → bit ≡ true) → (o ≡ Operator.Default → i.presence ≡ Mandatory → IsSome i.initial) → IsReader FieldFault.NeedMore (row_at level o i e bit) (Row level o i e bit)
 unfolding row_at
-row level operator.Plain i e false h d = let b = h refl in absurd cc
-row level operator.Constant i e false h d = given (done None) (λ cut b v. FormOf level operator.Constant i e false cut b v) (λ v w. (refl, refl, optional_constant i.presence h, made_so None v w)) (λ cut b v w. (w.1, so_made None v w.3))
-row level operator.Constant i e true h d = given (done i.initial) (λ cut b v. FormOf level operator.Constant i e true cut b v) (λ v w. (refl, refl, made_so i.initial v w)) (λ cut b v w. (w.1, so_made i.initial v w.2))
-row level operator.Default i e false h d = given (done i.initial) (λ cut b v. FormOf level operator.Default i e false cut b v) (λ v w. (refl, refl, initial_to i v (d refl) (sym (made_so i.initial v w)))) (λ cut b v w. (w.1, so_made i.initial v (sym (initial_from i v w.2))))
-row level operator.Delta i e false h d = let b = h refl in absurd cc
-row level operator.Delta i e true h d = deltas level i e
-row level operator.Tail i e true h d = tails level i e
+row level Operator.Plain i e false h d = let b = h refl in absurd cc
+row level Operator.Constant i e false h d = given (done None) (λ cut b v. FormOf level Operator.Constant i e false cut b v) (λ v w. (refl, refl, optional_constant i.presence h, made_so None v w)) (λ cut b v w. (w.1, so_made None v w.3))
+row level Operator.Constant i e true h d = given (done i.initial) (λ cut b v. FormOf level Operator.Constant i e true cut b v) (λ v w. (refl, refl, made_so i.initial v w)) (λ cut b v w. (w.1, so_made i.initial v w.2))
+row level Operator.Default i e false h d = given (done i.initial) (λ cut b v. FormOf level Operator.Default i e false cut b v) (λ v w. (refl, refl, initial_to i v (d refl) (sym (made_so i.initial v w)))) (λ cut b v w. (w.1, so_made i.initial v (sym (initial_from i v w.2))))
+row level Operator.Delta i e false h d = let b = h refl in absurd cc
+row level Operator.Delta i e true h d = deltas level i e
+row level Operator.Tail i e true h d = tails level i e
 row level o i e false h d = predicted_row i e
 row level o i e true h d = whole_row level i
 
@@ -93,34 +70,34 @@ row level o i e true h d = whole_row level i
 checked_ok : (pt : Part) (x y : Option Scalar) → part_checked pt x ≡ Ok y → (x ≡ y) × IsWithin pt x
 unfolding part_checked
 checked_ok pt None y e = (ok_is {F = FieldFault} None y e, tt)
-checked_ok part.Exponent (Some v) y e = let w = if_ok (within_part part.Exponent v) (Some v) y fault.R1 e in (w.1, w.0)
-checked_ok part.Length (Some v) y e = let w = if_ok (within_part part.Length v) (Some v) y fault.Limit e in (w.1, w.0)
+checked_ok Part.Exponent (Some v) y e = let w = if_ok (within_part Part.Exponent v) (Some v) y FieldFault.R1 e in (w.1, w.0)
+checked_ok Part.Length (Some v) y e = let w = if_ok (within_part Part.Length v) (Some v) y FieldFault.Limit e in (w.1, w.0)
 checked_ok p (Some v) y e = (ok_is {F = FieldFault} (Some v) y e, refl)
 
 pub checked_is : (pt : Part) (x : Option Scalar) → IsWithin pt x → part_checked pt x ≡ Ok x
 unfolding part_checked
 checked_is pt None h = refl
-checked_is part.Exponent (Some v) h = if_holds (within_part part.Exponent v) (Some v) fault.R1 h
-checked_is part.Length (Some v) h = if_holds (within_part part.Length v) (Some v) fault.Limit h
+checked_is Part.Exponent (Some v) h = if_holds (within_part Part.Exponent v) (Some v) FieldFault.R1 h
+checked_is Part.Length (Some v) h = if_holds (within_part Part.Length v) (Some v) FieldFault.Limit h
 checked_is p (Some v) h = refl
 
-pub field_forms : (level : Level) → (i : FieldPart) (e : Entry) (bit : Bool) → IsBitOf i bit → HasDefault i → IsReader fault.NeedMore (field_at level i e bit) (Form level i e bit)
+pub field_forms : (level : Level) → (i : FieldPart) (e : Entry) (bit : Bool) → IsBitOf i bit → HasDefault i → IsReader FieldFault.NeedMore (field_at level i e bit) (Form level i e bit)
 unfolding field_at
 field_forms level i e bit h d =
-    reader_as fault.NeedMore (field_at level i e bit) (λ b y. (x : Option Scalar) × Row level i.operator i e bit b x × (part_checked i.part x ≡ Ok y)) (Form level i e bit)
+    reader_as FieldFault.NeedMore (field_at level i e bit) (λ b y. (x : Option Scalar) × Row level i.operator i e bit b x × (part_checked i.part x ≡ Ok y)) (Form level i e bit)
     (λ b y h. let w = checked_ok i.part h.0 y h.2 in subst (λ (y : Option Scalar). Form level i e bit b y) w.0 (h.1.0, record { row = h.1.1; within = w.1 }))
     (λ b y h. (y, (h.0, h.1.row), checked_is i.part y h.1.within))
-    (reader_checked fault.NeedMore (row_at level i.operator i e bit) (part_checked i.part) (Row level i.operator i e bit) (row level i.operator i e bit h d))
+    (reader_checked FieldFault.NeedMore (row_at level i.operator i e bit) (part_checked i.part) (Row level i.operator i e bit) (row level i.operator i e bit h d))
 
 -- ---- what follows
 
 pub one_field_form : (level : Level) → (i : FieldPart) (e : Entry) (bit : Bool) → IsBitOf i bit → HasDefault i
     → (b c rest others : List ℕ) (v w : Option Scalar) → Form level i e bit b v → Form level i e bit c w → b ++ rest ≡ c ++ others → (v ≡ w) × (rest ≡ others)
-one_field_form level i e bit h d b c rest others v w = one_form fault.NeedMore (field_at level i e bit) (Form level i e bit) (field_forms level i e bit h d) b c rest others v w
+one_field_form level i e bit h d b c rest others v w = one_form FieldFault.NeedMore (field_at level i e bit) (Form level i e bit) (field_forms level i e bit h d) b c rest others v w
 
 pub fault_is_no_form : (level : Level) → (i : FieldPart) (e : Entry) (bit : Bool) → IsBitOf i bit → HasDefault i
     → (bytes b rest : List ℕ) (v : Option Scalar) (f : FieldFault) → IsFieldFault level i e bit bytes f → bytes ≡ b ++ rest → Form level i e bit b v → ⊥
-fault_is_no_form level i e bit h d bytes b rest v f = no_form fault.NeedMore (field_at level i e bit) (Form level i e bit) (field_forms level i e bit h d) bytes b rest v f
+fault_is_no_form level i e bit h d bytes b rest v f = no_form FieldFault.NeedMore (field_at level i e bit) (Form level i e bit) (field_forms level i e bit h d) bytes b rest v f
 
 ok_or_fault : {A : Type 0} (r : Result A FieldFault) → ((x : A) → r ≡ Ok x → ⊥) → (f : FieldFault) × (r ≡ Err f)
 ok_or_fault (Ok x) none = absurd (none x refl)

@@ -1,18 +1,6 @@
 -- How readers of fields are put together.
-use Rattle.std.proofs.Common.{◌≡◌, ℕ, Bool, true, false, List, [], ◌++◌, Result, Ok, Err, refl, sym, ap, subst, ◌∙◌, append-nil}
-use Rattle.std.specs.Prelude.{Option, Some, None}
+use Rattle.fast_field.proofs.Common.{◌≡◌, ℕ, Bool, true, false, List, [], ◌++◌, Result, Ok, Err, refl, sym, ap, subst, ◌∙◌, append-nil, Option, Some, None, ◌>>=◌, WireFault, Nullable, Null, Value, ok_is, reader_then, reader_of, reader_as, Scalar, FieldFault, field_fault, in_field, check, unless_null, as_value}
 use Rattle.fast_wire.specs.Reader.{IsReader, Both}
-use Rattle.fast_wire.specs.Reading.{◌>>=◌}
-use Rattle.fast_wire.specs.declared.fault.WireFault.{WireFault}
-use Rattle.fast_wire.specs.declared.fault.WireFault.TheVariants as wire
-use Rattle.fast_wire.specs.declared.nullable.Nullable.{Nullable}
-use Rattle.fast_wire.specs.declared.nullable.Nullable.TheVariants.{Null, Value}
-use Rattle.fast_wire.proofs.Readers.{ok_is, reader_then, reader_of, reader_as}
-use Rattle.fast_value.specs.declared.scalar.Scalar.{Scalar}
-use Rattle.fast_field.specs.declared.fault.FieldFault.{FieldFault}
-use Rattle.fast_field.specs.declared.fault.FieldFault.TheVariants as fault
-use Rattle.fast_field.specs.Faults.{field_fault}
-use Rattle.fast_field.specs.FieldReading.{in_field, check, unless_null, as_value}
 
 in_field_ok : {A : Type 0} (r : Result A WireFault) (x : A) → in_field r ≡ Ok x → r ≡ Ok x
 in_field_ok (Ok y) x e = cc
@@ -23,7 +11,7 @@ in_field_err (Ok y) f e = absurd cc
 in_field_err (Err w) f e = (w, refl, cc)
 
 -- a byte form in a field
-pub reader_in_field : {A : Type 0} (r : List ℕ → Result (A × List ℕ) WireFault) (Form : List ℕ → A → Type 0) → IsReader wire.NeedMore r Form → IsReader fault.NeedMore (λ bytes. in_field (r bytes)) Form
+pub reader_in_field : {A : Type 0} (r : List ℕ → Result (A × List ℕ) WireFault) (Form : List ℕ → A → Type 0) → IsReader WireFault.NeedMore r Form → IsReader FieldFault.NeedMore (λ bytes. in_field (r bytes)) Form
 reader_in_field r Form is = record {
   found = λ bytes x rest fits e. is.found bytes x rest fits (in_field_ok (r bytes) (x, rest) e);
   again = λ b x rest h. rw (is.again b x rest h) refl;
@@ -33,8 +21,8 @@ reader_in_field r Form is = record {
 }
 
 -- a test before a reader
-pub reader_check : {B : Type 0} (t : Bool) (d : FieldFault) (k : List ℕ → Result (B × List ℕ) FieldFault) (Form : List ℕ → B → Type 0) → IsReader fault.NeedMore k Form
-    → IsReader fault.NeedMore (λ bytes. check t d >>= λ ok. k bytes) (λ b y. (t ≡ true) × Form b y)
+pub reader_check : {B : Type 0} (t : Bool) (d : FieldFault) (k : List ℕ → Result (B × List ℕ) FieldFault) (Form : List ℕ → B → Type 0) → IsReader FieldFault.NeedMore k Form
+    → IsReader FieldFault.NeedMore (λ bytes. check t d >>= λ ok. k bytes) (λ b y. (t ≡ true) × Form b y)
 reader_check true d k Form is = record {
   found = λ bytes y rest fits e. let t = is.found bytes y rest fits e in record { front = t.front; parts = t.parts; rest_bytes = t.rest_bytes; form = (refl, t.form) };
   again = λ b y rest h. is.again b y rest h.1;
@@ -54,15 +42,15 @@ NullOr Form (Value x) b y = Form x b y
 abbrev done : {A : Type 0} → A → Result A FieldFault
 done x = Ok x
 
-none_reader : IsReader fault.NeedMore (λ bytes. done (None, bytes)) (λ b (y : Option Scalar). (b ≡ []) × (y ≡ None))
+none_reader : IsReader FieldFault.NeedMore (λ bytes. done (None, bytes)) (λ b (y : Option Scalar). (b ≡ []) × (y ≡ None))
 none_reader =
-    reader_as fault.NeedMore (λ bytes. done (None, bytes)) (λ b (y : Option Scalar). (b ≡ []) × (done None ≡ Ok y)) (λ b y. (b ≡ []) × (y ≡ None))
+    reader_as FieldFault.NeedMore (λ bytes. done (None, bytes)) (λ b (y : Option Scalar). (b ≡ []) × (done None ≡ Ok y)) (λ b y. (b ≡ []) × (y ≡ None))
     (λ b y h. (h.0, sym (ok_is {F = FieldFault} None y h.1)))
     (λ b y h. (h.0, ap (λ (z : Option Scalar). done z) (sym h.1)))
-    (reader_of fault.NeedMore (done None))
+    (reader_of FieldFault.NeedMore (done None))
 
-pub reader_null : {A : Type 0} (k : A → List ℕ → Result (Option Scalar × List ℕ) FieldFault) (Form : A → List ℕ → Option Scalar → Type 0) → ((x : A) → IsReader fault.NeedMore (k x) (Form x))
-    → (n : Nullable A) → IsReader fault.NeedMore (λ rest. unless_null (n, rest) k) (NullOr Form n)
+pub reader_null : {A : Type 0} (k : A → List ℕ → Result (Option Scalar × List ℕ) FieldFault) (Form : A → List ℕ → Option Scalar → Type 0) → ((x : A) → IsReader FieldFault.NeedMore (k x) (Form x))
+    → (n : Nullable A) → IsReader FieldFault.NeedMore (λ rest. unless_null (n, rest) k) (NullOr Form n)
 reader_null k Form is Null = none_reader
 reader_null k Form is (Value x) = is x
 
@@ -70,12 +58,12 @@ reader_null k Form is (Value x) = is x
 abbrev pub IsMade : Result Scalar FieldFault → List ℕ → Option Scalar → Type 0
 IsMade m b y = (b ≡ []) × ((v : Scalar) × (m ≡ Ok v) × (y ≡ Some v))
 
-pub reader_value : (m : Result Scalar FieldFault) → IsReader fault.NeedMore (as_value m) (IsMade m)
+pub reader_value : (m : Result Scalar FieldFault) → IsReader FieldFault.NeedMore (as_value m) (IsMade m)
 reader_value (Ok v) =
-    reader_as fault.NeedMore (λ bytes. done (Some v, bytes)) (λ b (y : Option Scalar). (b ≡ []) × (done (Some v) ≡ Ok y)) (IsMade (Ok v))
+    reader_as FieldFault.NeedMore (λ bytes. done (Some v, bytes)) (λ b (y : Option Scalar). (b ≡ []) × (done (Some v) ≡ Ok y)) (IsMade (Ok v))
     (λ b y h. (h.0, (v, refl, sym (ok_is {F = FieldFault} (Some v) y h.1))))
     (λ b y h. let w = h.1 in let same : v ≡ w.0 = ok_is {F = FieldFault} v w.0 w.1 in (h.0, ap (λ (z : Scalar). done (Some z)) same ∙ ap (λ (z : Option Scalar). done z) (sym w.2)))
-    (reader_of fault.NeedMore (done (Some v)))
+    (reader_of FieldFault.NeedMore (done (Some v)))
 reader_value (Err d) = record {
   found = λ bytes y rest fits e. absurd cc;
   again = λ b y rest h. let w = h.1 in let e = w.1 in absurd cc;
@@ -99,10 +87,10 @@ made_from : {A : Type 0} (First : List ℕ → Nullable A → Type 0) (make : A 
 made_from First make b None h = record { x = Null; front = b; back = []; parts = sym (append-nil b); first = h; second = (refl, refl) }
 made_from First make b (Some v) h = record { x = Value h.0; front = b; back = []; parts = sym (append-nil b); first = h.1; second = (refl, (v, h.2, refl)) }
 
-pub reader_made : {A : Type 0} (r : List ℕ → Result (Nullable A × List ℕ) FieldFault) (First : List ℕ → Nullable A → Type 0) (make : A → Result Scalar FieldFault) → IsReader fault.NeedMore r First
-    → IsReader fault.NeedMore (λ bytes. r bytes >>= λ x. unless_null x (λ x. as_value (make x))) (Made First make)
+pub reader_made : {A : Type 0} (r : List ℕ → Result (Nullable A × List ℕ) FieldFault) (First : List ℕ → Nullable A → Type 0) (make : A → Result Scalar FieldFault) → IsReader FieldFault.NeedMore r First
+    → IsReader FieldFault.NeedMore (λ bytes. r bytes >>= λ x. unless_null x (λ x. as_value (make x))) (Made First make)
 reader_made r First make is =
-    reader_as fault.NeedMore (λ bytes. r bytes >>= λ x. unless_null x (λ x. as_value (make x))) (Both First (NullOr (λ x. IsMade (make x)))) (Made First make)
+    reader_as FieldFault.NeedMore (λ bytes. r bytes >>= λ x. unless_null x (λ x. as_value (make x))) (Both First (NullOr (λ x. IsMade (make x)))) (Made First make)
     (λ b y h. made_to First make b h.front h.back h.x y h.parts h.first h.second)
     (made_from First make)
-    (reader_then fault.NeedMore r (λ x rest. unless_null (x, rest) (λ x. as_value (make x))) First (NullOr (λ x. IsMade (make x))) is (reader_null (λ x. as_value (make x)) (λ x. IsMade (make x)) (λ x. reader_value (make x))))
+    (reader_then FieldFault.NeedMore r (λ x rest. unless_null (x, rest) (λ x. as_value (make x))) First (NullOr (λ x. IsMade (make x))) is (reader_null (λ x. as_value (make x)) (λ x. IsMade (make x)) (λ x. reader_value (make x))))

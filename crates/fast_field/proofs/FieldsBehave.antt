@@ -1,53 +1,15 @@
 -- How the functions that read fields behave, by one walk over them: what is read is read whatever follows, the strict
 -- level answers as the usual one or a fault of its own, no fault is want of memory, what waits for more bytes has few,
 -- and where the first bytes show that no entity is overlong both levels answer the same.
-use Rattle.std.proofs.Common.{◌≡◌, ◌≢◌, ℕ, zero, suc, ◌+◌, ◌%◌, ◌≤◌, ◌<◌, Bool, true, false, nat_eq, nat_le, List, [], ◌∷◌, ◌++◌, length, Result, Ok, Err, refl, sym, ap, subst, ◌∙◌, ◌⊎◌, arith, inl, inr, length-drop}
-use Rattle.std.specs.Prelude.{ℤ, ◌+ℤ◌, pos, Option, Some, None, nat_lt, if◌then◌else◌}
-use Rattle.std.proofs.lemmas.Bool.{cases_lt, le-leb}
-use Rattle.std.proofs.lemmas.Bool.Decides.{nat_tests}
-use Rattle.fast_wire.specs.Entity.{groups}
-use Rattle.fast_wire.specs.Integer.{unsigned_of, signed_of}
-use Rattle.fast_wire.specs.Level.{judged, verdict, overlong_unsigned, overlong_signed, overlong_ascii}
-use Rattle.fast_wire.specs.Nullable.{received_unsigned, received_signed, units}
-use Rattle.fast_wire.specs.Reader.{GoesOn}
-use Rattle.fast_wire.specs.Reading.{◌>>=◌, entity_at, unsigned_at, signed_at, unsigned_nullable_at, signed_nullable_at, characters, nullable_characters, ascii_at, ascii_nullable_at, bytes_at, vector_at, behind_length, vector_nullable_at}
-use Rattle.fast_wire.specs.declared.fault.WireFault.{WireFault}
-use Rattle.fast_wire.specs.declared.fault.WireFault.TheVariants as wire
-use Rattle.fast_wire.specs.declared.level.Level.{Level}
-use Rattle.fast_wire.specs.declared.level.Level.TheVariants.{Usual, Strict}
-use Rattle.fast_wire.specs.declared.nullable.Nullable.{Nullable}
-use Rattle.fast_wire.specs.declared.nullable.Nullable.TheVariants.{Null, Value}
-use Rattle.fast_wire.proofs.GoingOn.{entity_goes, goes_then, goes_ok, goes_map, unsigned_goes, signed_goes, unsigned_nullable_goes, signed_nullable_goes, ascii_goes, ascii_nullable_goes, vector_goes, vector_nullable_goes}
-use Rattle.fast_wire.proofs.Readers.{done, ok_is}
-use Rattle.fast_wire.proofs.VectorForms.{bytes_long, bytes_wait, bytes_ok}
-use Rattle.fast_value.specs.Scalar.{in_range, exponent_in_range, is_integer}
-use Rattle.fast_value.specs.declared.kind.Kind.{Kind}
-use Rattle.fast_value.specs.declared.kind.Kind.TheVariants as kind
-use Rattle.fast_value.specs.declared.kind.Operator.{Operator}
-use Rattle.fast_value.specs.declared.kind.Operator.TheVariants as operator
-use Rattle.fast_value.specs.declared.kind.Part.{Part}
-use Rattle.fast_value.specs.declared.kind.Presence.{Presence}
-use Rattle.fast_value.specs.declared.kind.Presence.TheVariants.{Mandatory, Optional}
-use Rattle.fast_template.specs.declared.resolved.FieldPart.{FieldPart}
-use Rattle.fast_value.specs.declared.scalar.Scalar.{Scalar}
-use Rattle.fast_dictionary.specs.declared.entry.Entry.{Entry}
-use Rattle.fast_field.specs.declared.fault.FieldFault.{FieldFault}
-use Rattle.fast_field.specs.declared.fault.FieldFault.TheVariants as fault
-use Rattle.fast_field.specs.AsUsual.{ReadsAsUsual, JudgesOne, BeginsPlain, BeginsPair, is_decimal}
-use Rattle.fast_field.specs.Faults.{field_fault}
-use Rattle.fast_field.specs.Spelled.{overlong_number, overlong_units}
-use Rattle.fast_field.specs.Values.{is_unsigned, exponent_of, mantissa_of, units_of}
-use Rattle.fast_field.specs.Bases.{delta_base, predicted}
-use Rattle.fast_field.specs.Deltas.{removed_of, put_together}
-use Rattle.fast_field.specs.FieldReading.{in_field, check, signless, as_value, unless_null, integer_at, integer_usually_at, mantissa_entity_at, entity_limit, part_at, part_usually_at, units_at, units_usually_at, integer_value, decimal_value, unit_value, limited_value, integer_spelled_at, mantissa_behind, decimal_spelled_at, units_spelled_at, spelled_at, integer_sum, integer_delta_at, mantissa_delta_behind, decimal_delta_at, new_part_behind, unit_delta_at, delta_at, ended_value, tail_at, whole_at, predicted_at, row_at, part_checked, field_at, IsFieldFault}
+use Rattle.fast_field.proofs.Common.{◌≡◌, ◌≢◌, ℕ, zero, suc, ◌+◌, ◌%◌, ◌≤◌, ◌<◌, Bool, true, false, nat_eq, nat_le, List, [], ◌∷◌, ◌++◌, length, Result, Ok, Err, refl, sym, ap, subst, ◌∙◌, ◌⊎◌, arith, inl, inr, length-drop, ℤ, ◌+ℤ◌, pos, Option, Some, None, nat_lt, if◌then◌else◌, cases_lt, le-leb, nat_tests, groups, unsigned_of, signed_of, judged, verdict, overlong_unsigned, overlong_signed, overlong_ascii, received_unsigned, received_signed, units, GoesOn, ◌>>=◌, entity_at, unsigned_at, signed_at, unsigned_nullable_at, signed_nullable_at, characters, nullable_characters, ascii_at, ascii_nullable_at, bytes_at, vector_at, behind_length, vector_nullable_at, WireFault, Level, Usual, Strict, Nullable, Null, Value, entity_goes, goes_then, goes_ok, goes_map, unsigned_goes, signed_goes, unsigned_nullable_goes, signed_nullable_goes, ascii_goes, ascii_nullable_goes, vector_goes, vector_nullable_goes, done, ok_is, bytes_long, bytes_wait, bytes_ok, in_range, exponent_in_range, is_integer, Kind, Operator, Part, Presence, Mandatory, Optional, FieldPart, Scalar, Entry, FieldFault, ReadsAsUsual, JudgesOne, BeginsPlain, BeginsPair, is_decimal, field_fault, overlong_number, overlong_units, is_unsigned, exponent_of, mantissa_of, units_of, delta_base, predicted, removed_of, put_together, in_field, check, signless, as_value, unless_null, integer_at, integer_usually_at, mantissa_entity_at, entity_limit, part_at, part_usually_at, units_at, units_usually_at, integer_value, decimal_value, unit_value, limited_value, integer_spelled_at, mantissa_behind, decimal_spelled_at, units_spelled_at, spelled_at, integer_sum, integer_delta_at, mantissa_delta_behind, decimal_delta_at, new_part_behind, unit_delta_at, delta_at, ended_value, tail_at, whole_at, predicted_at, row_at, part_checked, field_at, IsFieldFault}
 use Rattle.fast_field.proofs.ValueFaults.{NoWant, tested, integer_made, decimal_made, unit_made, few_made, base_of_delta, foretold, summed, ended, part_allowed}
 
 -- ---- levels
 
 -- a fault that only the strict level has
 abbrev pub IsOfLevel : FieldFault → Type 0
-IsOfLevel fault.R6 = Unit {0}
-IsOfLevel fault.R9 = Unit {0}
+IsOfLevel FieldFault.R6 = Unit {0}
+IsOfLevel FieldFault.R9 = Unit {0}
 IsOfLevel f = ⊥
 
 abbrev pub Agrees : {A : Type 0} → Result A FieldFault → Result A FieldFault → Type 0
@@ -67,8 +29,8 @@ both (Err f) s k l (inr h) later = inr (rw h refl)
 
 -- no want of memory, and fewer than so many bytes where more are wanted
 abbrev IsShort : ℕ → List ℕ → FieldFault → Type 0
-IsShort most bytes fault.NeedMore = length bytes < most
-IsShort most bytes fault.Memory = ⊥
+IsShort most bytes FieldFault.NeedMore = length bytes < most
+IsShort most bytes FieldFault.Memory = ⊥
 IsShort most bytes f = Unit {0}
 
 -- what is read takes at most so many
@@ -77,7 +39,7 @@ Bounded of_fault most bytes (Ok x) = length bytes ≤ most + length x.1
 Bounded of_fault most bytes (Err f) = IsShort most bytes (of_fault f)
 
 short_on : (first later most : ℕ) (bytes rest : List ℕ) (f : FieldFault) → length bytes ≤ first + length rest → first + later ≤ most → IsShort later rest f → IsShort most bytes f
-short_on first later most bytes rest fault.NeedMore took le h = omega arith
+short_on first later most bytes rest FieldFault.NeedMore took le h = omega arith
 short_on first later most bytes rest f took le h = h
 
 bounded_on : {A F : Type 0} (of_fault : F → FieldFault) (first later most : ℕ) (bytes rest : List ℕ) (r : Result (A × List ℕ) F) → length bytes ≤ first + length rest → first + later ≤ most → Bounded of_fault later rest r → Bounded of_fault most bytes r
@@ -122,7 +84,7 @@ signed_nullable_bounded : (bytes : List ℕ) → Bounded field_fault 10 bytes (s
 unfolding signed_nullable_at
 signed_nullable_bounded bytes = bounded_map field_fault 10 bytes (signed_at bytes) received_signed (signed_bounded bytes)
 
-limited : {V : Type 0} (t : Bool) (s : V) (rest : List ℕ) → Bounded field_fault 0 rest ((if t then Err wire.TooLong else Ok s) >>= λ s. Ok (s, rest))
+limited : {V : Type 0} (t : Bool) (s : V) (rest : List ℕ) → Bounded field_fault 0 rest ((if t then Err WireFault.TooLong else Ok s) >>= λ s. Ok (s, rest))
 limited true s rest = tt
 limited false s rest = omega arith
 
@@ -193,13 +155,13 @@ usual_integer false Mandatory = usual_map (λ bytes. in_field (signed_at bytes))
 usual_integer false Optional = usual_form 10 signed_nullable_at signed_nullable_goes signed_nullable_bounded
 
 usual_part : (k : Kind) → Usually 65545 (part_usually_at k)
-usual_part kind.Ascii = usual_form 65545 ascii_at ascii_goes ascii_bounded
+usual_part Kind.Ascii = usual_form 65545 ascii_at ascii_goes ascii_bounded
 usual_part k = usual_form 65545 vector_at vector_goes vector_bounded
 
 usual_units : (k : Kind) (p : Presence) → Usually 65545 (units_usually_at k p)
 unfolding part_at
 usual_units k Mandatory = usual_map (part_usually_at k) (λ s. Value s) (usual_part k)
-usual_units kind.Ascii Optional = usual_form 65545 ascii_nullable_at ascii_nullable_goes ascii_nullable_bounded
+usual_units Kind.Ascii Optional = usual_form 65545 ascii_nullable_at ascii_nullable_goes ascii_nullable_bounded
 usual_units k Optional = usual_form 65545 vector_nullable_at vector_nullable_goes vector_nullable_bounded
 
 -- ---- the entity that a form begins with is the one that is judged
@@ -216,13 +178,13 @@ mantissa_starts bytes w h = rw h refl
 
 part_starts : (k : Kind) (bytes : List ℕ) (w : WireFault) → entity_at (entity_limit k) bytes ≡ Err w → part_usually_at k bytes ≡ Err (field_fault w)
 unfolding ascii_at vector_at unsigned_at
-part_starts kind.Ascii bytes w h = rw h refl
+part_starts Kind.Ascii bytes w h = rw h refl
 part_starts k bytes w h = rw h refl
 
 units_start : (k : Kind) (p : Presence) (bytes : List ℕ) (w : WireFault) → entity_at (entity_limit k) bytes ≡ Err w → units_usually_at k p bytes ≡ Err (field_fault w)
 unfolding part_at ascii_nullable_at vector_nullable_at unsigned_nullable_at unsigned_at
 units_start k Mandatory bytes w h = rw (part_starts k bytes w h) refl
-units_start kind.Ascii Optional bytes w h = rw h refl
+units_start Kind.Ascii Optional bytes w h = rw h refl
 units_start k Optional bytes w h = rw h refl
 
 -- ---- entities that a first byte shows not to be overlong
@@ -254,8 +216,8 @@ number_short true b some few = (refl, λ below bs. unsigned_behind b bs below so
 number_short false b some few = (refl, λ below bs. signed_behind b bs below some few)
 
 units_short : (k : Kind) (p : Presence) (b : ℕ) → b ≢ 0 → NeverLong (overlong_units k p) b
-units_short kind.Ascii Mandatory b some = (refl, λ below bs. ascii_behind b bs false below some)
-units_short kind.Ascii Optional b some = (refl, λ below bs. ascii_behind b bs true below some)
+units_short Kind.Ascii Mandatory b some = (refl, λ below bs. ascii_behind b bs false below some)
+units_short Kind.Ascii Optional b some = (refl, λ below bs. ascii_behind b bs true below some)
 units_short k p b some = (refl, λ below bs. unsigned_behind b bs below some)
 
 abbrev begun : Bool → ℕ → List ℕ → Result (List ℕ × List ℕ) WireFault → Result (List ℕ × List ℕ) WireFault
@@ -337,20 +299,20 @@ of_judged limit overlong d read level usual starts short = record {
 
 integer : (u : Bool) (p : Presence) → Behaves (Unit {0}) 10 (λ level bytes. integer_at level u p bytes)
 unfolding integer_at
-integer u p = of_judged 9 (overlong_number u) fault.R6 (integer_usually_at u p) tt (usual_integer u p) (integer_starts u p) (number_short u)
+integer u p = of_judged 9 (overlong_number u) FieldFault.R6 (integer_usually_at u p) tt (usual_integer u p) (integer_starts u p) (number_short u)
 
 mantissa_entity : Behaves (Unit {0}) 10 mantissa_entity_at
-mantissa_entity = of_judged 9 overlong_signed fault.R6 (λ b. in_field (signed_at b)) tt usual_signed mantissa_starts (number_short false)
+mantissa_entity = of_judged 9 overlong_signed FieldFault.R6 (λ b. in_field (signed_at b)) tt usual_signed mantissa_starts (number_short false)
 
 part : (k : Kind) → Behaves (Unit {0}) 65545 (λ level bytes. part_at level k bytes)
 unfolding part_at
-part kind.Ascii = of_judged 65539 (overlong_units kind.Ascii Mandatory) fault.R9 (part_usually_at kind.Ascii) tt (usual_part kind.Ascii) (part_starts kind.Ascii) (λ b m n. units_short kind.Ascii Mandatory b m)
-part k = of_judged 9 (overlong_units k Mandatory) fault.R6 (part_usually_at k) tt (usual_part k) (part_starts k) (λ b m n. units_short k Mandatory b m)
+part Kind.Ascii = of_judged 65539 (overlong_units Kind.Ascii Mandatory) FieldFault.R9 (part_usually_at Kind.Ascii) tt (usual_part Kind.Ascii) (part_starts Kind.Ascii) (λ b m n. units_short Kind.Ascii Mandatory b m)
+part k = of_judged 9 (overlong_units k Mandatory) FieldFault.R6 (part_usually_at k) tt (usual_part k) (part_starts k) (λ b m n. units_short k Mandatory b m)
 
 units_behave : (k : Kind) (p : Presence) → Behaves (Unit {0}) 65545 (λ level bytes. units_at level k p bytes)
 unfolding units_at
-units_behave kind.Ascii p = of_judged 65539 (overlong_units kind.Ascii p) fault.R9 (units_usually_at kind.Ascii p) tt (usual_units kind.Ascii p) (units_start kind.Ascii p) (λ b m n. units_short kind.Ascii p b m)
-units_behave k p = of_judged 9 (overlong_units k p) fault.R6 (units_usually_at k p) tt (usual_units k p) (units_start k p) (λ b m n. units_short k p b m)
+units_behave Kind.Ascii p = of_judged 65539 (overlong_units Kind.Ascii p) FieldFault.R9 (units_usually_at Kind.Ascii p) tt (usual_units Kind.Ascii p) (units_start Kind.Ascii p) (λ b m n. units_short Kind.Ascii p b m)
+units_behave k p = of_judged 9 (overlong_units k p) FieldFault.R6 (units_usually_at k p) tt (usual_units k p) (units_start k p) (λ b m n. units_short k p b m)
 
 -- ---- what takes no bytes
 
@@ -359,7 +321,7 @@ free_made g (Ok x) h = record { goes = goes_ok g x; bounded = λ rest. omega ari
 free_made g (Err d) h = record { goes = λ bytes y rest more e. absurd cc; bounded = λ rest. refused d rest h }
   where
     refused : (d : FieldFault) (rest : List ℕ) → NoWant {A = Unit {0}} (Err d) → IsShort 0 rest d
-    refused fault.NeedMore rest h = absurd h
+    refused FieldFault.NeedMore rest h = absurd h
     refused d rest h = h
 
 free_value : (m : Result Scalar FieldFault) → NoWant m → Usually 0 (as_value m)
@@ -433,7 +395,7 @@ number pt k p = then_free (λ level bytes. integer_at level (is_unsigned k) p by
 
 mantissa : (e : ℤ) → Behaves (Unit {0}) 10 (λ level rest. mantissa_behind level e rest)
 unfolding mantissa_behind
-mantissa e = after (check (exponent_in_range e) fault.R1) _ (tested (exponent_in_range e) fault.R1 tt) (λ ok. then_free mantissa_entity_at _ mantissa_entity (λ m. free_value (decimal_value e m) (decimal_made e m)))
+mantissa e = after (check (exponent_in_range e) FieldFault.R1) _ (tested (exponent_in_range e) FieldFault.R1 tt) (λ ok. then_free mantissa_entity_at _ mantissa_entity (λ m. free_value (decimal_value e m) (decimal_made e m)))
 
 decimal : (p : Presence) → Behaves ⊥ 20 (λ level bytes. decimal_spelled_at level p bytes)
 unfolding decimal_spelled_at
@@ -445,10 +407,10 @@ string k p = then_free (λ level bytes. units_at level k p bytes) _ (units_behav
 
 whole : (i : FieldPart) (k : Kind) → Behaves (is_decimal k ≡ false) 65555 (λ level bytes. spelled_at level i.part k i.presence bytes)
 unfolding spelled_at
-whole i kind.Decimal = weaker 65555 _ (λ e. absurd cc) (omega arith) (decimal i.presence)
-whole i kind.Ascii = weaker 65555 _ (λ e. tt) (omega arith) (string kind.Ascii i.presence)
-whole i kind.Unicode = weaker 65555 _ (λ e. tt) (omega arith) (string kind.Unicode i.presence)
-whole i kind.Bytes = weaker 65555 _ (λ e. tt) (omega arith) (string kind.Bytes i.presence)
+whole i Kind.Decimal = weaker 65555 _ (λ e. absurd cc) (omega arith) (decimal i.presence)
+whole i Kind.Ascii = weaker 65555 _ (λ e. tt) (omega arith) (string Kind.Ascii i.presence)
+whole i Kind.Unicode = weaker 65555 _ (λ e. tt) (omega arith) (string Kind.Unicode i.presence)
+whole i Kind.Bytes = weaker 65555 _ (λ e. tt) (omega arith) (string Kind.Bytes i.presence)
 whole i k = weaker 65555 _ (λ e. tt) (omega arith) (number i.part k i.presence)
 
 -- ---- deltas and tails
@@ -460,7 +422,7 @@ number_delta i e = then_free (λ level bytes. integer_at level false i.presence 
 mantissa_delta : (e base : ℤ) → Behaves (Unit {0}) 10 (λ level rest. mantissa_delta_behind level e base rest)
 unfolding mantissa_delta_behind
 mantissa_delta e base =
-    after (check (exponent_in_range e) fault.R1) _ (tested (exponent_in_range e) fault.R1 tt)
+    after (check (exponent_in_range e) FieldFault.R1) _ (tested (exponent_in_range e) FieldFault.R1 tt)
     (λ ok. then_free mantissa_entity_at _ mantissa_entity (λ d. free_value (decimal_value e (base +ℤ d)) (decimal_made e (base +ℤ d))))
 
 decimal_delta : (i : FieldPart) (e : Entry) → Behaves ⊥ 20 (λ level bytes. decimal_delta_at level i e bytes)
@@ -472,21 +434,21 @@ decimal_delta i e =
 new_part : (k : Kind) (removal : ℤ) (base : List ℕ) → Behaves (Unit {0}) 65545 (λ level rest. new_part_behind level k removal base rest)
 unfolding new_part_behind
 new_part k removal base =
-    after (check (nat_le (removed_of removal) (length base)) fault.D7) _ (tested (nat_le (removed_of removal) (length base)) fault.D7 tt)
+    after (check (nat_le (removed_of removal) (length base)) FieldFault.D7) _ (tested (nat_le (removed_of removal) (length base)) FieldFault.D7 tt)
     (λ ok. then_free (λ level rest. part_at level k rest) _ (part k) (λ s. free_value (limited_value k (put_together removal base s)) (few_made k (put_together removal base s))))
 
 unit_delta : (i : FieldPart) (e : Entry) → Behaves ⊥ 65555 (λ level bytes. unit_delta_at level i e bytes)
 unfolding unit_delta_at
 unit_delta i e =
-    behind i.presence (λ level removal rest. check (in_range kind.Int32 removal) fault.D7 >>= λ fits. (delta_base i e >>= λ base. new_part_behind level i.kind removal (units_of base) rest))
-    (λ removal. after (check (in_range kind.Int32 removal) fault.D7) _ (tested (in_range kind.Int32 removal) fault.D7 tt) (λ fits. after (delta_base i e) _ (base_of_delta i e) (λ base. new_part i.kind removal (units_of base))))
+    behind i.presence (λ level removal rest. check (in_range Kind.Int32 removal) FieldFault.D7 >>= λ fits. (delta_base i e >>= λ base. new_part_behind level i.kind removal (units_of base) rest))
+    (λ removal. after (check (in_range Kind.Int32 removal) FieldFault.D7) _ (tested (in_range Kind.Int32 removal) FieldFault.D7 tt) (λ fits. after (delta_base i e) _ (base_of_delta i e) (λ base. new_part i.kind removal (units_of base))))
 
 delta : (k : Kind) (i : FieldPart) (e : Entry) → Behaves (is_integer k ≡ true) 65555 (λ level bytes. delta_at level k i e bytes)
 unfolding delta_at
-delta kind.Decimal i e = weaker 65555 _ (λ e. absurd cc) (omega arith) (decimal_delta i e)
-delta kind.Ascii i e = weaker 65555 _ (λ e. absurd cc) (omega arith) (unit_delta i e)
-delta kind.Unicode i e = weaker 65555 _ (λ e. absurd cc) (omega arith) (unit_delta i e)
-delta kind.Bytes i e = weaker 65555 _ (λ e. absurd cc) (omega arith) (unit_delta i e)
+delta Kind.Decimal i e = weaker 65555 _ (λ e. absurd cc) (omega arith) (decimal_delta i e)
+delta Kind.Ascii i e = weaker 65555 _ (λ e. absurd cc) (omega arith) (unit_delta i e)
+delta Kind.Unicode i e = weaker 65555 _ (λ e. absurd cc) (omega arith) (unit_delta i e)
+delta Kind.Bytes i e = weaker 65555 _ (λ e. absurd cc) (omega arith) (unit_delta i e)
 delta k i e = weaker 65555 _ (λ e. tt) (omega arith) (number_delta i e)
 
 tail : {One : Type 0} (i : FieldPart) (e : Entry) → Behaves One 65555 (λ level bytes. tail_at level i e bytes)
@@ -500,12 +462,12 @@ given v = free (λ bytes. Ok (v, bytes)) (free_made (λ v. v) (Ok v) tt)
 
 row : (o : Operator) (i : FieldPart) (e : Entry) (bit : Bool) → Behaves (JudgesOne o i.kind) 65555 (λ level bytes. row_at level o i e bit bytes)
 unfolding row_at whole_at predicted_at
-row operator.Plain i e bit = whole i i.kind
-row operator.Constant i e false = given None
-row operator.Constant i e true = given i.initial
-row operator.Default i e false = given i.initial
-row operator.Delta i e bit = delta i.kind i e
-row operator.Tail i e true = tail i e
+row Operator.Plain i e bit = whole i i.kind
+row Operator.Constant i e false = given None
+row Operator.Constant i e true = given i.initial
+row Operator.Default i e false = given i.initial
+row Operator.Delta i e bit = delta i.kind i e
+row Operator.Tail i e true = tail i e
 row o i e false = free (predicted_at i e) (free_made (λ v. v) (predicted i e) (foretold i e))
 row o i e true = whole i i.kind
 
@@ -535,22 +497,22 @@ of_value (Err d) s x h e = absurd cc
 pub fault_usually : (level : Level) (i : FieldPart) (e : Entry) (bit : Bool) (bytes : List ℕ) (f : FieldFault) → field_at level i e bit bytes ≡ Err f → (IsOfLevel f → ⊥) → field_at Usual i e bit bytes ≡ Err f
 fault_usually level i e bit bytes f = of_error (field_at level i e bit bytes) (field_at Usual i e bit bytes) f (levels_agree level i e bit bytes)
 
-pub field_no_memory : (level : Level) (i : FieldPart) (e : Entry) (bit : Bool) (bytes : List ℕ) → IsFieldFault level i e bit bytes fault.Memory → ⊥
+pub field_no_memory : (level : Level) (i : FieldPart) (e : Entry) (bit : Bool) (bytes : List ℕ) → IsFieldFault level i e bit bytes FieldFault.Memory → ⊥
 field_no_memory level i e bit bytes h =
-    subst (λ (r : Result (Option Scalar × List ℕ) FieldFault). Bounded (λ f. f) 65555 bytes r) (fault_usually level i e bit bytes fault.Memory h (λ o. o)) ((field i e bit).bounded bytes)
+    subst (λ (r : Result (Option Scalar × List ℕ) FieldFault). Bounded (λ f. f) 65555 bytes r) (fault_usually level i e bit bytes FieldFault.Memory h (λ o. o)) ((field i e bit).bounded bytes)
 
-pub field_waits : (level : Level) (i : FieldPart) (e : Entry) (bit : Bool) (bytes : List ℕ) → IsFieldFault level i e bit bytes fault.NeedMore → length bytes ≤ 65554
+pub field_waits : (level : Level) (i : FieldPart) (e : Entry) (bit : Bool) (bytes : List ℕ) → IsFieldFault level i e bit bytes FieldFault.NeedMore → length bytes ≤ 65554
 field_waits level i e bit bytes h =
-    let short = subst (λ (r : Result (Option Scalar × List ℕ) FieldFault). Bounded (λ f. f) 65555 bytes r) (fault_usually level i e bit bytes fault.NeedMore h (λ o. o)) ((field i e bit).bounded bytes) in
+    let short = subst (λ (r : Result (Option Scalar × List ℕ) FieldFault). Bounded (λ f. f) 65555 bytes r) (fault_usually level i e bit bytes FieldFault.NeedMore h (λ o. o)) ((field i e bit).bounded bytes) in
     omega (arith, short)
 
 -- what is read is read at the usual level
 pub read_usually : (level : Level) (i : FieldPart) (e : Entry) (bit : Bool) (bytes : List ℕ) (x : Option Scalar × List ℕ) → field_at level i e bit bytes ≡ Ok x → field_at Usual i e bit bytes ≡ Ok x
 read_usually level i e bit bytes x = of_value (field_at level i e bit bytes) (field_at Usual i e bit bytes) x (levels_agree level i e bit bytes)
 
-pub not_of_level : (f : FieldFault) → (f ≡ fault.R6 → ⊥) → (f ≡ fault.R9 → ⊥) → IsOfLevel f → ⊥
-not_of_level fault.R6 a b h = a refl
-not_of_level fault.R9 a b h = b refl
+pub not_of_level : (f : FieldFault) → (f ≡ FieldFault.R6 → ⊥) → (f ≡ FieldFault.R9 → ⊥) → IsOfLevel f → ⊥
+not_of_level FieldFault.R6 a b h = a refl
+not_of_level FieldFault.R9 a b h = b refl
 not_of_level f a b h = h
 
 pub integer_as_usual : (u : Bool) (p : Presence) (b : ℕ) (bs : List ℕ) → b ≢ 0 → b ≢ 127 → integer_at Strict u p (b ∷ bs) ≡ integer_at Usual u p (b ∷ bs)

@@ -1,36 +1,5 @@
 -- The value of a form is within its type, and so is the entry afterwards.
-use Rattle.std.proofs.Common.{◌≡◌, ℕ, zero, suc, ◌+◌, ◌-◌, ◌<◌, ◌≤◌, Bool, true, false, List, [], length, take, drop, refl, sym, ap, subst, ◌∙◌, arith, Ok}
-use Rattle.std.specs.Prelude.{ℤ, pos, negsuc, ◌+ℤ◌, int_lt, nat_le, nat_lt, ◌&&◌, Option, Some, None, IsTrue, IsSome, IfSome, IsUtf8, unwrap_or, if◌then◌else◌}
-use Rattle.std.specs.Str.{is_utf8, chars}
-use Rattle.std.specs.List.{AllByRecursion}
-use Rattle.std.proofs.lemmas.Bool.Decides.{nat_tests}
-use Rattle.std.proofs.lemmas.Int.{ints}
-use Rattle.std.proofs.lemmas.Str.{IsUtf8-from_is_utf8}
-use Rattle.std.proofs.lemmas.Bool.{le-leb, leb-true}
-use Rattle.fast_wire.specs.declared.level.Level.TheVariants.{Usual}
-use Rattle.fast_wire.proofs.Readers.{ok_is}
-use Rattle.fast_value.specs.Scalar.{is_of, is_integer, in_range, least_of, greatest_of, kind_of, of_integer, IsScalar}
-use Rattle.fast_template.specs.TemplateSets.{applies, IsInitial, IsTyped}
-use Rattle.fast_value.specs.declared.kind.Kind.{Kind}
-use Rattle.fast_value.specs.declared.kind.Kind.TheVariants as kind
-use Rattle.fast_value.specs.declared.kind.Operator.{Operator}
-use Rattle.fast_value.specs.declared.kind.Operator.TheVariants as operator
-use Rattle.fast_value.specs.declared.kind.Presence.{Presence}
-use Rattle.fast_value.specs.declared.kind.Presence.TheVariants.{Mandatory, Optional}
-use Rattle.fast_template.specs.declared.resolved.FieldPart.{FieldPart}
-use Rattle.fast_value.specs.declared.scalar.Scalar.{Scalar}
-use Rattle.fast_value.specs.declared.scalar.Scalar.TheVariants.{U32, I32, U64, I64}
-use Rattle.fast_dictionary.specs.declared.entry.Entry.{Entry}
-use Rattle.fast_dictionary.specs.declared.entry.Entry.TheVariants.{Undefined, Empty, Assigned}
-use Rattle.fast_field.specs.declared.fault.FieldFault.{FieldFault}
-use Rattle.fast_field.specs.declared.fault.FieldFault.TheVariants as fault
-use Rattle.fast_field.specs.Values.{units_of, integer_of, increased, default_of, IsUnitKind}
-use Rattle.fast_field.specs.Parts.{IsFieldPart}
-use Rattle.fast_field.specs.Bases.{kept_of, start_of, delta_base, tail_base, absent_or, initial_or, repeated, predicted, next_of, next, written_entry, delta_entry}
-use Rattle.fast_field.specs.Spelled.{IsOfUnits}
-use Rattle.fast_field.specs.Deltas.{Cut, put_together, ended_by, SpellsCut, SpellsTail, DeltaValue, DeltaForm, TailForm}
-use Rattle.fast_field.specs.Fields.{InitialOrAbsent, FormOf, Form}
-use Rattle.fast_field.specs.Within.{HoldsScalar, IsOfField, IsFieldValue}
+use Rattle.fast_field.proofs.Common.{◌≡◌, ℕ, zero, suc, ◌+◌, ◌-◌, ◌<◌, ◌≤◌, Bool, true, false, List, [], length, take, drop, refl, sym, ap, subst, ◌∙◌, arith, Ok, ℤ, pos, negsuc, ◌+ℤ◌, int_lt, nat_le, nat_lt, ◌&&◌, Option, Some, None, IsTrue, IsSome, IfSome, IsUtf8, unwrap_or, if◌then◌else◌, is_utf8, chars, AllByRecursion, nat_tests, ints, IsUtf8-from_is_utf8, le-leb, leb-true, Usual, ok_is, is_of, is_integer, in_range, least_of, greatest_of, kind_of, of_integer, IsScalar, applies, IsInitial, IsTyped, Kind, Operator, Presence, Mandatory, Optional, FieldPart, Scalar, U32, I32, U64, I64, Entry, Undefined, Empty, Assigned, FieldFault, units_of, integer_of, increased, default_of, IsUnitKind, IsFieldPart, kept_of, start_of, delta_base, tail_base, absent_or, initial_or, repeated, predicted, next_of, next, written_entry, delta_entry, IsOfUnits, Cut, put_together, ended_by, SpellsCut, SpellsTail, DeltaValue, DeltaForm, TailForm, InitialOrAbsent, FormOf, Form, HoldsScalar, IsOfField, IsFieldValue}
 use Rattle.fast_field.proofs.SpelledForms.{if_ok}
 use Rattle.fast_field.proofs.BaseSteps.{is_of-kind}
 use Rattle.fast_field.proofs.ValuesWithin.{both, IsOfType, IsOfTypeOr, unit_limit, number_within, string_within, units_of_string, spelled_within, part_within, units_within, null_optional, null_units_optional, all_append, all_take, all_drop}
@@ -42,14 +11,14 @@ unfolding is_utf8 chars lib.Utf8.encode
 empty_text = IsUtf8-from_is_utf8 [] refl
 
 default_within : (k : Kind) → IsOfType k (default_of k)
-default_within kind.UInt32 = (refl, omega arith)
-default_within kind.Int32 = (refl, refl)
-default_within kind.UInt64 = (refl, omega arith)
-default_within kind.Int64 = (refl, refl)
-default_within kind.Decimal = (refl, (refl, refl))
-default_within kind.Ascii = (refl, (omega arith, tt))
-default_within kind.Unicode = (refl, (omega arith, tt, empty_text))
-default_within kind.Bytes = (refl, (omega arith, tt))
+default_within Kind.UInt32 = (refl, omega arith)
+default_within Kind.Int32 = (refl, refl)
+default_within Kind.UInt64 = (refl, omega arith)
+default_within Kind.Int64 = (refl, refl)
+default_within Kind.Decimal = (refl, (refl, refl))
+default_within Kind.Ascii = (refl, (omega arith, tt))
+default_within Kind.Unicode = (refl, (omega arith, tt, empty_text))
+default_within Kind.Bytes = (refl, (omega arith, tt))
 
 initial_within : (i : FieldPart) (o : Option Scalar) (v : Scalar) → IfSome o (IsInitial i) → o ≡ Some v → IsOfType i.kind v
 initial_within i None v h e = absurd cc
@@ -62,7 +31,7 @@ start_within i None h = default_within i.kind
 start_within i (Some v) h = (h.0, h.2)
 
 kept_within : (i : FieldPart) (v base : Scalar) → IsScalar v → kept_of i v ≡ Ok base → IsOfType i.kind base
-kept_within i v base h e = let w = if_ok (is_of i.kind v) v base fault.D4 e in subst (λ (x : Scalar). IsOfType i.kind x) w.1 (w.0, h)
+kept_within i v base h e = let w = if_ok (is_of i.kind v) v base FieldFault.D4 e in subst (λ (x : Scalar). IsOfType i.kind x) w.1 (w.0, h)
 
 -- ---- bases
 
@@ -87,54 +56,54 @@ one_up : (n : ℕ) → negsuc (suc n) +ℤ pos 1 ≡ negsuc n
 one_up n = omega (arith, ints)
 
 next_in_range : (k : Kind) (z : ℤ) → IsTrue (is_integer k) → IsTrue (in_range k z) → int_lt z (greatest_of k) ≡ true → IsTrue (in_range k (z +ℤ pos 1))
-next_in_range kind.UInt32 (pos n) i h l = and_true _ _ (le-leb 0 (n + 1) (omega arith)) (le-leb (n + 1) 4294967295 (is_lt n 4294967295 l))
-next_in_range kind.UInt64 (pos n) i h l = and_true _ _ (le-leb 0 (n + 1) (omega arith)) (le-leb (n + 1) 18446744073709551615 (is_lt n 18446744073709551615 l))
-next_in_range kind.Int32 (pos n) i h l = le-leb (n + 1) 2147483647 (is_lt n 2147483647 l)
-next_in_range kind.Int64 (pos n) i h l = le-leb (n + 1) 9223372036854775807 (is_lt n 9223372036854775807 l)
-next_in_range kind.Int32 (negsuc zero) i h l = refl
-next_in_range kind.Int64 (negsuc zero) i h l = refl
-next_in_range kind.Int32 (negsuc (suc n)) i h l = let w = both (nat_le (suc n) 2147483647) true h in rw (one_up n) (and_true _ _ (le-leb n 2147483647 (omega (arith, leb-true (suc n) 2147483647 w.0))) refl)
-next_in_range kind.Int64 (negsuc (suc n)) i h l = let w = both (nat_le (suc n) 9223372036854775807) true h in rw (one_up n) (and_true _ _ (le-leb n 9223372036854775807 (omega (arith, leb-true (suc n) 9223372036854775807 w.0))) refl)
+next_in_range Kind.UInt32 (pos n) i h l = and_true _ _ (le-leb 0 (n + 1) (omega arith)) (le-leb (n + 1) 4294967295 (is_lt n 4294967295 l))
+next_in_range Kind.UInt64 (pos n) i h l = and_true _ _ (le-leb 0 (n + 1) (omega arith)) (le-leb (n + 1) 18446744073709551615 (is_lt n 18446744073709551615 l))
+next_in_range Kind.Int32 (pos n) i h l = le-leb (n + 1) 2147483647 (is_lt n 2147483647 l)
+next_in_range Kind.Int64 (pos n) i h l = le-leb (n + 1) 9223372036854775807 (is_lt n 9223372036854775807 l)
+next_in_range Kind.Int32 (negsuc zero) i h l = refl
+next_in_range Kind.Int64 (negsuc zero) i h l = refl
+next_in_range Kind.Int32 (negsuc (suc n)) i h l = let w = both (nat_le (suc n) 2147483647) true h in rw (one_up n) (and_true _ _ (le-leb n 2147483647 (omega (arith, leb-true (suc n) 2147483647 w.0))) refl)
+next_in_range Kind.Int64 (negsuc (suc n)) i h l = let w = both (nat_le (suc n) 9223372036854775807) true h in rw (one_up n) (and_true _ _ (le-leb n 9223372036854775807 (omega (arith, leb-true (suc n) 9223372036854775807 w.0))) refl)
 next_in_range k z i h l = absurd cc
 
 one_more_within : (k : Kind) (z : ℤ) (t : Bool) → IsTrue (is_integer k) → IsTrue (in_range k z) → int_lt z (greatest_of k) ≡ t → IsOfType k (if t then of_integer k (z +ℤ pos 1) else of_integer k (least_of k))
 one_more_within k z true i h l = number_within k (z +ℤ pos 1) i (next_in_range k z i h l)
-one_more_within kind.UInt32 z false i h l = (refl, omega arith)
-one_more_within kind.Int32 z false i h l = (refl, refl)
-one_more_within kind.UInt64 z false i h l = (refl, omega arith)
-one_more_within kind.Int64 z false i h l = (refl, refl)
+one_more_within Kind.UInt32 z false i h l = (refl, omega arith)
+one_more_within Kind.Int32 z false i h l = (refl, refl)
+one_more_within Kind.UInt64 z false i h l = (refl, omega arith)
+one_more_within Kind.Int64 z false i h l = (refl, refl)
 one_more_within k z false i h l = absurd cc
 
 pub uint_in_range : (n m : ℕ) → n < m + 1 → (nat_le 0 n && nat_le n m) ≡ true
 uint_in_range n m h = and_true _ _ (le-leb 0 n (omega arith)) (le-leb n m (omega arith))
 
 pub increased_within : (v : Scalar) → IsTrue (is_integer (kind_of v)) → IsScalar v → IsOfType (kind_of v) (increased v)
-increased_within (U32 n) i h = one_more_within kind.UInt32 (pos n) (int_lt (pos n) (pos 4294967295)) refl (uint_in_range n 4294967295 h) refl
-increased_within (U64 n) i h = one_more_within kind.UInt64 (pos n) (int_lt (pos n) (pos 18446744073709551615)) refl (uint_in_range n 18446744073709551615 h) refl
-increased_within (I32 z) i h = one_more_within kind.Int32 z (int_lt z (pos 2147483647)) refl h refl
-increased_within (I64 z) i h = one_more_within kind.Int64 z (int_lt z (pos 9223372036854775807)) refl h refl
+increased_within (U32 n) i h = one_more_within Kind.UInt32 (pos n) (int_lt (pos n) (pos 4294967295)) refl (uint_in_range n 4294967295 h) refl
+increased_within (U64 n) i h = one_more_within Kind.UInt64 (pos n) (int_lt (pos n) (pos 18446744073709551615)) refl (uint_in_range n 18446744073709551615 h) refl
+increased_within (I32 z) i h = one_more_within Kind.Int32 z (int_lt z (pos 2147483647)) refl h refl
+increased_within (I64 z) i h = one_more_within Kind.Int64 z (int_lt z (pos 9223372036854775807)) refl h refl
 increased_within v i h = absurd cc
 
 -- ---- of the type, whatever an entry has
 
 number_kind : (k : Kind) (z : ℤ) (v : Scalar) → is_integer k ≡ true → v ≡ of_integer k z → IsTrue (is_of k v)
-number_kind kind.UInt32 z v is e = rw e refl
-number_kind kind.Int32 z v is e = rw e refl
-number_kind kind.UInt64 z v is e = rw e refl
-number_kind kind.Int64 z v is e = rw e refl
+number_kind Kind.UInt32 z v is e = rw e refl
+number_kind Kind.Int32 z v is e = rw e refl
+number_kind Kind.UInt64 z v is e = rw e refl
+number_kind Kind.Int64 z v is e = rw e refl
 number_kind k z v is e = absurd cc
 
 string_kind : (k : Kind) (s : List ℕ) (v : Scalar) → IsUnitKind k → IsOfUnits k s v → IsTrue (is_of k v)
-string_kind kind.Ascii s v u e = rw e refl
-string_kind kind.Unicode s v u e = rw e.1 refl
-string_kind kind.Bytes s v u e = rw e refl
+string_kind Kind.Ascii s v u e = rw e refl
+string_kind Kind.Unicode s v u e = rw e.1 refl
+string_kind Kind.Bytes s v u e = rw e refl
 string_kind k s v u e = absurd u
 
 delta_kind : (k : Kind) (p : Presence) (base : Scalar) (c : Cut) (b : List ℕ) (v : Scalar) → DeltaValue Usual k p base c b v → IsTrue (is_of k v)
-delta_kind kind.Decimal p base c b v h = rw h.value.2 refl
-delta_kind kind.Ascii p base c b v h = string_kind kind.Ascii _ v tt h.value.1
-delta_kind kind.Unicode p base c b v h = string_kind kind.Unicode _ v tt h.value.1
-delta_kind kind.Bytes p base c b v h = string_kind kind.Bytes _ v tt h.value.1
+delta_kind Kind.Decimal p base c b v h = rw h.value.2 refl
+delta_kind Kind.Ascii p base c b v h = string_kind Kind.Ascii _ v tt h.value.1
+delta_kind Kind.Unicode p base c b v h = string_kind Kind.Unicode _ v tt h.value.1
+delta_kind Kind.Bytes p base c b v h = string_kind Kind.Bytes _ v tt h.value.1
 delta_kind k p base c b v h = number_kind k (integer_of base +ℤ h.delta) v refl h.value
 
 either_kind : (k : Kind) (t : Bool) (y z : ℤ) → is_integer k ≡ true → IsTrue (is_of k (if t then of_integer k y else of_integer k z))
@@ -142,7 +111,7 @@ either_kind k true y z is = number_kind k y (of_integer k y) is refl
 either_kind k false y z is = number_kind k z (of_integer k z) is refl
 
 repeated_kind : (o : Operator) (k : Kind) (v : Scalar) → IsTrue (applies o k) → is_of k v ≡ true → IsTrue (is_of k (repeated o v))
-repeated_kind operator.Increment k v is h = rw (is_of-kind k v h) (either_kind k (int_lt (integer_of v) (greatest_of k)) (integer_of v +ℤ pos 1) (least_of k) is)
+repeated_kind Operator.Increment k v is h = rw (is_of-kind k v h) (either_kind k (int_lt (integer_of v) (greatest_of k)) (integer_of v +ℤ pos 1) (least_of k) is)
 repeated_kind o k v is h = h
 
 -- no value in an optional field; or one of the type, and within it where the entry's is within its own
@@ -157,7 +126,7 @@ surely e k p (Some v) h = (h.0, λ _. h.1)
 -- ---- what bit 0 gives
 
 repeated_within : (o : Operator) (k : Kind) (v : Scalar) → IsTrue (applies o k) → IsOfType k v → IsOfType k (repeated o v)
-repeated_within operator.Increment k v fits h =
+repeated_within Operator.Increment k v fits h =
     let same : kind_of v ≡ k = is_of-kind k v h.0 in
     subst (λ (x : Kind). IsOfType x (increased v)) same (increased_within v (rw same fits) h.1)
 repeated_within o k v fits h = h
@@ -166,15 +135,15 @@ absent_within : (k : Kind) (p : Presence) (f : FieldFault) (v : Option Scalar) �
 absent_within k Mandatory f v e = absurd cc
 absent_within k Optional f v e = subst (λ (x : Option Scalar). IsOfTypeOr k Optional x) (ok_is {F = FieldFault} None v e) refl
 
-first_within : (i : FieldPart) (o v : Option Scalar) → IfSome o (IsInitial i) → initial_or fault.D5 i o ≡ Ok v → IsOfTypeOr i.kind i.presence v
-first_within i None v h e = absent_within i.kind i.presence fault.D5 v e
+first_within : (i : FieldPart) (o v : Option Scalar) → IfSome o (IsInitial i) → initial_or FieldFault.D5 i o ≡ Ok v → IsOfTypeOr i.kind i.presence v
+first_within i None v h e = absent_within i.kind i.presence FieldFault.D5 v e
 first_within i (Some w) v h e = subst (λ (x : Option Scalar). IsOfTypeOr i.kind i.presence x) (ok_is {F = FieldFault} (Some w) v e) (h.0, h.2)
 
 predicted_within : (i : FieldPart) (e : Entry) (v : Option Scalar) → IsTyped i → predicted i e ≡ Ok v → IsGiven e i.kind i.presence v
 predicted_within i Undefined v is e = surely Undefined i.kind i.presence v (first_within i i.initial v is.initial_fits e)
-predicted_within i Empty v is e = surely Empty i.kind i.presence v (absent_within i.kind i.presence fault.D6 v e)
+predicted_within i Empty v is e = surely Empty i.kind i.presence v (absent_within i.kind i.presence FieldFault.D6 v e)
 predicted_within i (Assigned w) v is e =
-    let t = if_ok (is_of i.kind w) (Some (repeated i.operator w)) v fault.D4 e in
+    let t = if_ok (is_of i.kind w) (Some (repeated i.operator w)) v FieldFault.D4 e in
     subst (λ (x : Option Scalar). IsGiven (Assigned w) i.kind i.presence x) t.1
     (repeated_kind i.operator i.kind w is.operator_applies t.0, λ h. (repeated_within i.operator i.kind w is.operator_applies (t.0, h)).1)
 
@@ -199,20 +168,20 @@ cut_within k p base cut b v u h c =
     string_within k (put_together c.removal (units_of base) c.new_part) v u c.value.1 (c.value.0, put_within (λ x. x < unit_limit k) c.removal (units_of base) c.new_part units.1 part.1)
 
 delta_within : (k : Kind) (p : Presence) (base : Scalar) (cut : Cut) (b : List ℕ) (v : Scalar) → IsOfType k base → DeltaValue Usual k p base cut b v → IsOfType k v
-delta_within kind.Decimal p base cut b v h d = rw d.value.2 (refl, (d.value.0, d.value.1))
-delta_within kind.Ascii p base cut b v h d = cut_within kind.Ascii p base cut b v tt h d
-delta_within kind.Unicode p base cut b v h d = cut_within kind.Unicode p base cut b v tt h d
-delta_within kind.Bytes p base cut b v h d = cut_within kind.Bytes p base cut b v tt h d
+delta_within Kind.Decimal p base cut b v h d = rw d.value.2 (refl, (d.value.0, d.value.1))
+delta_within Kind.Ascii p base cut b v h d = cut_within Kind.Ascii p base cut b v tt h d
+delta_within Kind.Unicode p base cut b v h d = cut_within Kind.Unicode p base cut b v tt h d
+delta_within Kind.Bytes p base cut b v h d = cut_within Kind.Bytes p base cut b v tt h d
 delta_within k p base cut b v h d = rw d.value (number_within k (integer_of base +ℤ d.delta) refl d.range)
 
 delta_form_within : (i : FieldPart) (e : Entry) (cut : Cut) (b : List ℕ) (v : Option Scalar) → IsTyped i → DeltaForm Usual i e cut b v → IsGiven e i.kind i.presence v
 delta_form_within i e cut b None is d = null_optional false i.presence b d.1
 delta_form_within i e cut b (Some v) is d = (delta_kind i.kind i.presence d.0 cut b v d.2, λ h. (delta_within i.kind i.presence d.0 cut b v (delta_base_within i e d.0 is h d.1) d.2).1)
 
-pub unit_kind : (k : Kind) → IsTrue (applies operator.Tail k) → IsUnitKind k
-unit_kind kind.Ascii h = tt
-unit_kind kind.Unicode h = tt
-unit_kind kind.Bytes h = tt
+pub unit_kind : (k : Kind) → IsTrue (applies Operator.Tail k) → IsUnitKind k
+unit_kind Kind.Ascii h = tt
+unit_kind Kind.Unicode h = tt
+unit_kind Kind.Bytes h = tt
 unit_kind k h = absurd cc
 
 tail_within : (i : FieldPart) (base v : Scalar) (cut : Cut) (b : List ℕ) → IsUnitKind i.kind → IsOfType i.kind base → SpellsTail Usual i.kind i.presence base cut b v → IsOfType i.kind v
@@ -230,13 +199,13 @@ tail_form_within i e cut b (Some v) is u t = (string_kind i.kind _ v u t.2.value
 -- ---- the table
 
 row_within : (o : Operator) (i : FieldPart) (e : Entry) (bit : Bool) (cut : Cut) (b : List ℕ) (v : Option Scalar) → IsTyped i → i.operator ≡ o → FormOf Usual o i e bit cut b v → IsGiven e i.kind i.presence v
-row_within operator.Plain i e false cut b v is o f = absurd f
-row_within operator.Constant i e false cut b v is o f = rw f.3 f.2
-row_within operator.Constant i e true cut b v is o f = surely e i.kind i.presence v (initial_of_type i i.initial v is.initial_fits (is.constant_has_value o) f.2)
-row_within operator.Default i e false cut b v is o f = surely e i.kind i.presence v (left_out_within i v is.initial_fits f.2)
-row_within operator.Delta i e false cut b v is o f = absurd f
-row_within operator.Delta i e true cut b v is o f = delta_form_within i e cut b v is f
-row_within operator.Tail i e true cut b v is o f = tail_form_within i e cut b v is (unit_kind i.kind (subst (λ (x : Operator). IsTrue (applies x i.kind)) o is.operator_applies)) f
+row_within Operator.Plain i e false cut b v is o f = absurd f
+row_within Operator.Constant i e false cut b v is o f = rw f.3 f.2
+row_within Operator.Constant i e true cut b v is o f = surely e i.kind i.presence v (initial_of_type i i.initial v is.initial_fits (is.constant_has_value o) f.2)
+row_within Operator.Default i e false cut b v is o f = surely e i.kind i.presence v (left_out_within i v is.initial_fits f.2)
+row_within Operator.Delta i e false cut b v is o f = absurd f
+row_within Operator.Delta i e true cut b v is o f = delta_form_within i e cut b v is f
+row_within Operator.Tail i e true cut b v is o f = tail_form_within i e cut b v is (unit_kind i.kind (subst (λ (x : Operator). IsTrue (applies x i.kind)) o is.operator_applies)) f
 row_within o i e false cut b v is of_o f = predicted_within i e v is f.2
 row_within o i e true cut b v is of_o f = surely e i.kind i.presence v (spelled_within i.kind i.presence b v f.1)
 
@@ -266,10 +235,10 @@ delta_holds i e None k h = k
 delta_holds i e (Some v) k h = h.1
 
 next_holds : (o : Operator) (i : FieldPart) (e : Entry) (v : Option Scalar) → HoldsScalar e → IsOfField i v → HoldsScalar (next_of o e v)
-next_holds operator.Plain i e v k h = k
-next_holds operator.Constant i e v k h = k
-next_holds operator.Default i e v k h = k
-next_holds operator.Delta i e v k h = delta_holds i e v k h
+next_holds Operator.Plain i e v k h = k
+next_holds Operator.Constant i e v k h = k
+next_holds Operator.Default i e v k h = k
+next_holds Operator.Delta i e v k h = delta_holds i e v k h
 next_holds o i e v k h = written_holds i v h
 
 pub entries_within : (i : FieldPart) (e : Entry) (v : Option Scalar) → HoldsScalar e → IsFieldValue i v → HoldsScalar (next i e v)

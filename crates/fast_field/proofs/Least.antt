@@ -1,13 +1,6 @@
 -- Why the longest common part gives the shortest spelling of a delta or a tail.
-use Rattle.std.proofs.Common.{◌≡◌, ℕ, zero, suc, ◌+◌, ◌-◌, ◌<◌, ◌≤◌, List, [], ◌∷◌, ◌++◌, length, take, drop, refl, sym, ap, ◌∙◌, arith, inl, inr}
-use Rattle.std.specs.Prelude.{ℤ, pos, negsuc, ◌⊎◌}
+use Rattle.fast_field.proofs.Common.{◌≡◌, ℕ, zero, suc, ◌+◌, ◌-◌, ◌<◌, ◌≤◌, List, [], ◌∷◌, ◌++◌, length, take, drop, refl, sym, ap, ◌∙◌, arith, inl, inr, ℤ, pos, negsuc, ◌⊎◌, drop-append-add, cases_lt, ascii_size, IsLongestPrefix, IsLongestSuffix, ended_by, NoWorse}
 use Rattle.std.proofs.lemmas.List.{take_at, drop_at, take-append-le, length-append, length-take, length-drop}
-use Rattle.std.proofs.Math.Seq.{drop-append-add}
-use Rattle.std.proofs.lemmas.Bool.{cases_lt}
-use Rattle.fast_wire.specs.Sizes.{ascii_size}
-use Rattle.fast_field.specs.CommonParts.{IsLongestPrefix, IsLongestSuffix}
-use Rattle.fast_field.specs.Deltas.{ended_by}
-use Rattle.fast_field.specs.Chosen.{NoWorse}
 
 -- ---- deltas
 

@@ -1,3 +1,4 @@
+mod Common
 pub mod WorkedFields
 pub mod WorkedRows
 pub mod TypeRows

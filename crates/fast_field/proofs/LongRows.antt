@@ -1,20 +1,9 @@
 -- Worked rows of strings too long to be written out.
-use Rattle.std.proofs.Common.{◌≡◌, ℕ, ◌-◌, true, false, List, [], ◌∷◌, ◌++◌, length, take, Some, Ok, refl, arith, length-append, length-take}
-use Rattle.std.specs.Prelude.{nat_lt, nat_le}
-use Rattle.std.proofs.lemmas.Bool.Decides.{nat_tests}
-use Rattle.std.proofs.lemmas.List.{take_all}
-use Rattle.fast_wire.specs.declared.level.Level.TheVariants.{Usual}
-use Rattle.fast_wire.specs.Reading.{entity_at, signed_at, ascii_at}
-use Rattle.fast_value.specs.declared.kind.Kind.TheVariants as kind
-use Rattle.fast_value.specs.declared.kind.Presence.TheVariants.{Mandatory}
-use Rattle.fast_value.specs.declared.kind.Operator.TheVariants.{Tail}
-use Rattle.fast_value.specs.declared.scalar.Scalar.TheVariants.{Ascii}
-use Rattle.fast_field.specs.declared.fault.FieldFault.TheVariants as fault
-use Rattle.fast_field.specs.FieldReading.{integer_at, part_at, units_at, unit_value, limited_value, new_part_behind, unit_delta_at, delta_at, ended_value, tail_at, row_at, part_checked, field_at, IsFieldFault}
+use Rattle.fast_field.proofs.Common.{◌≡◌, ℕ, ◌-◌, true, false, List, [], ◌∷◌, ◌++◌, length, take, Some, Ok, refl, arith, length-append, length-take, nat_lt, nat_le, nat_tests, take_all, Usual, entity_at, signed_at, ascii_at, Kind, Mandatory, Tail, Ascii, FieldFault, integer_at, part_at, units_at, unit_value, limited_value, new_part_behind, unit_delta_at, delta_at, ended_value, tail_at, row_at, part_checked, field_at, IsFieldFault}
 use Rattle.fast_field.proofs.WorkedFields.{field, text, delta_s}
 
 -- one unit more than 65,535: what is made is too long, and not what was removed
-one_too_many : (s : List ℕ) → length s ≡ 65535 → IsFieldFault Usual delta_s (text s) true (0x80 ∷ 0xC1 ∷ []) fault.Limit
+one_too_many : (s : List ℕ) → length s ≡ 65535 → IsFieldFault Usual delta_s (text s) true (0x80 ∷ 0xC1 ∷ []) FieldFault.Limit
 unfolding field_at row_at delta_at unit_delta_at integer_at signed_at entity_at new_part_behind part_at ascii_at limited_value
 one_too_many s long =
     let made : length (take (length s - 0) s ++ (65 ∷ [])) ≡ 65536 = rw (length-append (take (length s - 0) s) (65 ∷ []), length-take (length s - 0) s) (omega arith) in
@@ -33,7 +22,7 @@ as_many_as_can_be s long =
     rw (there, all, limit) refl
 
 -- a tail of one unit on a base that is too long itself
-tail_of_too_many : (s : List ℕ) → length s ≡ 65536 → IsFieldFault Usual (field kind.Ascii Mandatory Tail) (text s) true (0xC1 ∷ []) fault.Limit
+tail_of_too_many : (s : List ℕ) → length s ≡ 65536 → IsFieldFault Usual (field Kind.Ascii Mandatory Tail) (text s) true (0xC1 ∷ []) FieldFault.Limit
 unfolding field_at row_at tail_at units_at part_at ascii_at entity_at ended_value limited_value
 tail_of_too_many s long =
     let made : length (take (length s - 1) s ++ (65 ∷ [])) ≡ 65536 = rw (length-append (take (length s - 1) s) (65 ∷ []), length-take (length s - 1) s) (omega arith) in

@@ -1,28 +1,13 @@
 -- Worked rows: forms as short as the best that are not the best, by each of the last two rules.
-use Rattle.std.proofs.Common.{◌≡◌, ℕ, ◌≤◌, true, List, [], ◌∷◌, ◌++◌, length, Some, pos, negsuc, refl, sym, ap, ◌∙◌, arith, inl, inr}
-use Rattle.std.specs.Prelude.{ℤ, codes}
-use Rattle.fast_wire.specs.declared.level.Level.TheVariants.{Usual}
-use Rattle.fast_wire.specs.Integer.{IsSigned}
-use Rattle.fast_wire.specs.Ascii.{IsAscii}
-use Rattle.fast_wire.specs.Reading.{signed_at, ascii_at}
-use Rattle.fast_wire.specs.declared.fault.WireFault.TheVariants as wire
-use Rattle.fast_wire.proofs.Readers.{one_form}
-use Rattle.fast_wire.proofs.FormReaders.{signed_forms, ascii_forms}
-use Rattle.fast_value.specs.declared.kind.Kind.TheVariants as kind
-use Rattle.fast_value.specs.declared.kind.Presence.TheVariants.{Mandatory}
-use Rattle.fast_value.specs.declared.scalar.Scalar.{Scalar}
-use Rattle.fast_value.specs.declared.scalar.Scalar.TheVariants.{Ascii}
-use Rattle.fast_field.specs.Deltas.{at_end, in_front, Cut, side_of, SpellsCut}
-use Rattle.fast_field.specs.Fields.{FormBy}
-use Rattle.fast_field.specs.Best.{side_rank, NoLater, IsBest}
+use Rattle.fast_field.proofs.Common.{◌≡◌, ℕ, ◌≤◌, true, List, [], ◌∷◌, ◌++◌, length, Some, pos, negsuc, refl, sym, ap, ◌∙◌, arith, inl, inr, ℤ, codes, Usual, IsSigned, IsAscii, signed_at, ascii_at, WireFault, one_form, signed_forms, ascii_forms, Kind, Mandatory, Scalar, Ascii, at_end, in_front, Cut, side_of, SpellsCut, FormBy, side_rank, NoLater, IsBest}
 use Rattle.fast_field.proofs.WorkedFields.{text, delta_s}
 
 -- which cut bytes make is seen from them
-cut_of : (base v : Scalar) (cut : Cut) (front back : List ℕ) (z : ℤ) (s : List ℕ) → IsSigned front z → IsAscii back s → SpellsCut Usual kind.Ascii Mandatory base cut (front ++ back) v → cut ≡ record { side = side_of z; part = length s }
+cut_of : (base v : Scalar) (cut : Cut) (front back : List ℕ) (z : ℤ) (s : List ℕ) → IsSigned front z → IsAscii back s → SpellsCut Usual Kind.Ascii Mandatory base cut (front ++ back) v → cut ≡ record { side = side_of z; part = length s }
 cut_of base v cut front back z s first second h =
-    let one = one_form wire.NeedMore signed_at IsSigned signed_forms front h.front back h.back z h.removal first h.removal_form h.parts in
+    let one = one_form WireFault.NeedMore signed_at IsSigned signed_forms front h.front back h.back z h.removal first h.removal_form h.parts in
     let whole : back ++ [] ≡ h.back ++ [] = ap (λ (x : List ℕ). x ++ []) one.1 in
-    let two = one_form wire.NeedMore ascii_at IsAscii ascii_forms back h.back [] [] s h.new_part second h.part_form whole in
+    let two = one_form WireFault.NeedMore ascii_at IsAscii ascii_forms back h.back [] [] s h.new_part second h.part_form whole in
     rw (one.0, two.0) h.cut_is
 
 -- what comes no later than nothing removed at the end with no new part, and is as long, is that cut

@@ -1,30 +1,5 @@
 -- A value has one best form.
-use Rattle.std.proofs.Common.{◌≡◌, ℕ, ◌+◌, ◌-◌, ◌<◌, ◌≤◌, Bool, true, false, List, [], ◌∷◌, ◌++◌, length, take, drop, refl, sym, ap, subst, ◌∙◌, arith, inl, inr, ◌⊎◌, length-append, length-take, length-drop}
-use Rattle.std.specs.Prelude.{ℤ, pos, negsuc, ◌+ℤ◌, Option, Some, None, IsTrue}
-use Rattle.std.proofs.lemmas.Int.{ints}
-use Rattle.std.proofs.lemmas.List.{take_at, drop_at}
-use Rattle.fast_wire.specs.declared.level.Level.TheVariants.{Usual}
-use Rattle.fast_wire.specs.Integer.{IsSigned}
-use Rattle.fast_wire.specs.declared.nullable.Nullable.{Nullable}
-use Rattle.fast_wire.specs.declared.nullable.Nullable.TheVariants.{Null, Value}
-use Rattle.fast_wire.proofs.FormSizes.{unsigned_sizes, signed_sizes, unsigned_nullable_sizes, signed_nullable_sizes, ascii_sizes, ascii_nullable_sizes, vector_sizes, vector_nullable_sizes}
-use Rattle.fast_wire.proofs.Readers.{ok_is}
-use Rattle.fast_value.specs.Scalar.{is_integer}
-use Rattle.fast_value.specs.declared.kind.Kind.{Kind}
-use Rattle.fast_value.specs.declared.kind.Kind.TheVariants as kind
-use Rattle.fast_value.specs.declared.kind.Operator.{Operator}
-use Rattle.fast_value.specs.declared.kind.Operator.TheVariants as operator
-use Rattle.fast_value.specs.declared.kind.Presence.{Presence}
-use Rattle.fast_value.specs.declared.kind.Presence.TheVariants.{Mandatory, Optional}
-use Rattle.fast_template.specs.declared.resolved.FieldPart.{FieldPart}
-use Rattle.fast_value.specs.declared.scalar.Scalar.{Scalar}
-use Rattle.fast_dictionary.specs.declared.entry.Entry.{Entry}
-use Rattle.fast_field.specs.declared.fault.FieldFault.{FieldFault}
-use Rattle.fast_field.specs.Values.{is_unsigned, integer_of, exponent_of, mantissa_of, units_of}
-use Rattle.fast_field.specs.Spelled.{SpellsInteger, SpellsPart, SpellsUnits, SpellsPair, SpelledNumber, SpelledString, SpelledDecimal, Spelled}
-use Rattle.fast_field.specs.Deltas.{Side, at_end, in_front, Cut, uncut, removed_of, side_of, put_together, ended_by, SpellsCut, SpellsDelta, SpellsDeltas, SpellsTail, DeltaValue}
-use Rattle.fast_field.specs.Fields.{FormOf, FormBy, Form}
-use Rattle.fast_field.specs.Best.{bit_rank, side_rank, NoLater, IsBest, CutsNothing}
+use Rattle.fast_field.proofs.Common.{◌≡◌, ℕ, ◌+◌, ◌-◌, ◌<◌, ◌≤◌, Bool, true, false, List, [], ◌∷◌, ◌++◌, length, take, drop, refl, sym, ap, subst, ◌∙◌, arith, inl, inr, ◌⊎◌, length-append, length-take, length-drop, ℤ, pos, negsuc, ◌+ℤ◌, Option, Some, None, IsTrue, ints, take_at, drop_at, Usual, IsSigned, Nullable, Null, Value, unsigned_sizes, signed_sizes, unsigned_nullable_sizes, signed_nullable_sizes, ascii_sizes, ascii_nullable_sizes, vector_sizes, vector_nullable_sizes, ok_is, is_integer, Kind, Operator, Presence, Mandatory, Optional, FieldPart, Scalar, Entry, FieldFault, is_unsigned, integer_of, exponent_of, mantissa_of, units_of, SpellsInteger, SpellsPart, SpellsUnits, SpellsPair, SpelledNumber, SpelledString, SpelledDecimal, Spelled, Side, at_end, in_front, Cut, uncut, removed_of, side_of, put_together, ended_by, SpellsCut, SpellsDelta, SpellsDeltas, SpellsTail, DeltaValue, FormOf, FormBy, Form, bit_rank, side_rank, NoLater, IsBest, CutsNothing}
 use Rattle.fast_field.proofs.BestForms.{bit_zero_row}
 use Rattle.fast_field.proofs.Refused.{units_are}
 use Rattle.fast_field.proofs.BestValues.{none_shorter}
@@ -41,13 +16,13 @@ one_integer false Optional z b c h l e = signed_nullable_sizes.one b c z h l e
 one_integer u p z b c h l e = absurd h
 
 one_part : (k : Kind) (s b c : List ℕ) → SpellsPart Usual k b s → SpellsPart Usual k c s → length b ≡ length c → b ≡ c
-one_part kind.Ascii s b c h l e = ascii_sizes.one b c s h l e
+one_part Kind.Ascii s b c h l e = ascii_sizes.one b c s h l e
 one_part k s b c h l e = vector_sizes.one b c s h l e
 
 one_units : (k : Kind) (p : Presence) (s : Nullable (List ℕ)) (b c : List ℕ) → SpellsUnits Usual k p b s → SpellsUnits Usual k p c s → length b ≡ length c → b ≡ c
 one_units k Mandatory (Value s) b c h l e = one_part k s b c h l e
 one_units k Mandatory Null b c h l e = absurd h
-one_units kind.Ascii Optional s b c h l e = ascii_nullable_sizes.one b c s h l e
+one_units Kind.Ascii Optional s b c h l e = ascii_nullable_sizes.one b c s h l e
 one_units k Optional s b c h l e = vector_nullable_sizes.one b c s h l e
 
 -- ---- two parts, of which no others together are shorter
@@ -104,10 +79,10 @@ one_decimal p (Some v) b c h l e least least' =
     (λ o q. least' o (record { exponent = l.exponent; mantissa = l.mantissa; form = q; value = l.value }))
 
 one_spelled : (k : Kind) (p : Presence) (v : Option Scalar) (b c : List ℕ) → Spelled Usual k p b v → Spelled Usual k p c v → length b ≡ length c → Least (λ o. Spelled Usual k p o v) b → Least (λ o. Spelled Usual k p o v) c → b ≡ c
-one_spelled kind.Decimal p v b c h l e least least' = one_decimal p v b c h l e least least'
-one_spelled kind.Ascii p v b c h l e least least' = one_string kind.Ascii p v b c h l e
-one_spelled kind.Unicode p v b c h l e least least' = one_string kind.Unicode p v b c h l e
-one_spelled kind.Bytes p v b c h l e least least' = one_string kind.Bytes p v b c h l e
+one_spelled Kind.Decimal p v b c h l e least least' = one_decimal p v b c h l e least least'
+one_spelled Kind.Ascii p v b c h l e least least' = one_string Kind.Ascii p v b c h l e
+one_spelled Kind.Unicode p v b c h l e least least' = one_string Kind.Unicode p v b c h l e
+one_spelled Kind.Bytes p v b c h l e least least' = one_string Kind.Bytes p v b c h l e
 one_spelled k p v b c h l e least least' = one_number k p v b c refl h l e
 
 -- ---- deltas
@@ -180,10 +155,10 @@ one_cut k p base x y b c v h l cuts least least' =
 
 one_delta_value : (k : Kind) (p : Presence) (base : Scalar) (x y : Cut) (b c : List ℕ) (v : Scalar) → DeltaValue Usual k p base x b v → DeltaValue Usual k p base y c v → x ≡ y → length b ≡ length c
     → ((cut : Cut) → Least (λ o. DeltaValue Usual k p base cut o v) b) → ((cut : Cut) → Least (λ o. DeltaValue Usual k p base cut o v) c) → b ≡ c
-one_delta_value kind.Decimal p base x y b c v h l cuts e least least' = one_decimal_delta p base x y b c v h l least least'
-one_delta_value kind.Ascii p base x y b c v h l cuts e least least' = one_cut kind.Ascii p base x y b c v h l cuts least least'
-one_delta_value kind.Unicode p base x y b c v h l cuts e least least' = one_cut kind.Unicode p base x y b c v h l cuts least least'
-one_delta_value kind.Bytes p base x y b c v h l cuts e least least' = one_cut kind.Bytes p base x y b c v h l cuts least least'
+one_delta_value Kind.Decimal p base x y b c v h l cuts e least least' = one_decimal_delta p base x y b c v h l least least'
+one_delta_value Kind.Ascii p base x y b c v h l cuts e least least' = one_cut Kind.Ascii p base x y b c v h l cuts least least'
+one_delta_value Kind.Unicode p base x y b c v h l cuts e least least' = one_cut Kind.Unicode p base x y b c v h l cuts least least'
+one_delta_value Kind.Bytes p base x y b c v h l cuts e least least' = one_cut Kind.Bytes p base x y b c v h l cuts least least'
 one_delta_value k p base x y b c v h l cuts e least least' = one_delta k p base x y b c v refl h l e
 
 one_tail : (k : Kind) (p : Presence) (base : Scalar) (x y : Cut) (b c : List ℕ) (v : Scalar) → SpellsTail Usual k p base x b v → SpellsTail Usual k p base y c v → x ≡ y → length b ≡ length c → b ≡ c
@@ -199,13 +174,13 @@ one_tail k p base x y b c v h l cuts e =
 
 one_row : (o : Operator) (i : FieldPart) (e : Entry) (x y : Cut) (b c : List ℕ) (v : Option Scalar) → FormOf Usual o i e true x b v → FormOf Usual o i e true y c v → x ≡ y → length b ≡ length c
     → ((cut : Cut) → Least (λ t. FormOf Usual o i e true cut t v) b) → ((cut : Cut) → Least (λ t. FormOf Usual o i e true cut t v) c) → b ≡ c
-one_row operator.Constant i e x y b c v f g cuts same least least' = f.1 ∙ sym g.1
-one_row operator.Delta i e x y b c None f g cuts same least least' = one_integer false i.presence Null b c f.1 g.1 same
-one_row operator.Delta i e x y b c (Some v) f g cuts same least least' =
+one_row Operator.Constant i e x y b c v f g cuts same least least' = f.1 ∙ sym g.1
+one_row Operator.Delta i e x y b c None f g cuts same least least' = one_integer false i.presence Null b c f.1 g.1 same
+one_row Operator.Delta i e x y b c (Some v) f g cuts same least least' =
     let base : f.0 ≡ g.0 = ok_is {F = FieldFault} f.0 g.0 (sym f.1 ∙ g.1) in
     one_delta_value i.kind i.presence g.0 x y b c v (subst (λ (z : Scalar). DeltaValue Usual i.kind i.presence z x b v) base f.2) g.2 cuts same (λ cut t h. least cut t (g.0, g.1, h)) (λ cut t h. least' cut t (g.0, g.1, h))
-one_row operator.Tail i e x y b c None f g cuts same least least' = one_units i.kind i.presence Null b c f.1 g.1 same
-one_row operator.Tail i e x y b c (Some v) f g cuts same least least' =
+one_row Operator.Tail i e x y b c None f g cuts same least least' = one_units i.kind i.presence Null b c f.1 g.1 same
+one_row Operator.Tail i e x y b c (Some v) f g cuts same least least' =
     let base : f.0 ≡ g.0 = ok_is {F = FieldFault} f.0 g.0 (sym f.1 ∙ g.1) in
     one_tail i.kind i.presence g.0 x y b c v (subst (λ (z : Scalar). SpellsTail Usual i.kind i.presence z x b v) base f.2) g.2 cuts same
 one_row o i e x y b c v f g cuts same least least' = one_spelled i.kind i.presence v b c f.1 g.1 same (λ t h. least uncut t (refl, h)) (λ t h. least' uncut t (refl, h))
@@ -269,18 +244,18 @@ best_is_one i e bit other b c v f g =
 
 -- ---- and where nothing is cut, one of the shortest is the same bytes
 
-delta_uncut : (k : Kind) (p : Presence) (base : Scalar) (x : Cut) (b : List ℕ) (v : Scalar) → CutsNothing operator.Delta k → DeltaValue Usual k p base x b v → x ≡ uncut
-delta_uncut kind.Ascii p base x b v n h = absurd n
-delta_uncut kind.Unicode p base x b v n h = absurd n
-delta_uncut kind.Bytes p base x b v n h = absurd n
+delta_uncut : (k : Kind) (p : Presence) (base : Scalar) (x : Cut) (b : List ℕ) (v : Scalar) → CutsNothing Operator.Delta k → DeltaValue Usual k p base x b v → x ≡ uncut
+delta_uncut Kind.Ascii p base x b v n h = absurd n
+delta_uncut Kind.Unicode p base x b v n h = absurd n
+delta_uncut Kind.Bytes p base x b v n h = absurd n
 delta_uncut k p base x b v n h = h.cut_is
 
 forms_uncut : (o : Operator) (i : FieldPart) (e : Entry) (bit : Bool) (x : Cut) (b : List ℕ) (v : Option Scalar) → CutsNothing o i.kind → FormOf Usual o i e bit x b v → x ≡ uncut
-forms_uncut operator.Plain i e false x b v n f = absurd f
-forms_uncut operator.Delta i e true x b None n f = f.0
-forms_uncut operator.Delta i e true x b (Some v) n f = delta_uncut i.kind i.presence f.0 x b v n f.2
-forms_uncut operator.Delta i e false x b v n f = absurd f
-forms_uncut operator.Tail i e bit x b v n f = absurd n
+forms_uncut Operator.Plain i e false x b v n f = absurd f
+forms_uncut Operator.Delta i e true x b None n f = f.0
+forms_uncut Operator.Delta i e true x b (Some v) n f = delta_uncut i.kind i.presence f.0 x b v n f.2
+forms_uncut Operator.Delta i e false x b v n f = absurd f
+forms_uncut Operator.Tail i e bit x b v n f = absurd n
 forms_uncut o i e true x b v n f = f.0
 forms_uncut o i e false x b v n f = f.0
 

@@ -1,15 +1,5 @@
 -- The parts of a sound set of templates are field parts.
-use Rattle.std.proofs.Common.{List, [], ◌∷◌, sym, subst, refl}
-use Rattle.std.specs.List.{AllByRecursion}
-use Rattle.fast_template.specs.Resolved.{Instruction, Instructions, whole_field, field_in_parts, group_of, sequence_of, no_instructions, then_instruction, Resolved}
-use Rattle.fast_template.specs.TemplateSets.{IsPartOf, HasTypedParts, HaveTypedParts, TemplateList, templates_in, IsSound}
-use Rattle.fast_value.specs.declared.kind.Kind.{Kind}
-use Rattle.fast_value.specs.declared.kind.Kind.TheVariants as kind
-use Rattle.fast_value.specs.declared.kind.Part.{Part}
-use Rattle.fast_value.specs.declared.kind.Part.TheVariants as part
-use Rattle.fast_value.specs.declared.kind.Presence.{Presence}
-use Rattle.fast_template.specs.declared.resolved.FieldPart.{FieldPart}
-use Rattle.fast_field.specs.Parts.{IsKindOfPart, IsFieldPart, HasDefault, EachPart, EachPartIn}
+use Rattle.fast_field.proofs.Common.{List, [], ◌∷◌, sym, subst, refl, AllByRecursion, Instruction, Instructions, whole_field, field_in_parts, group_of, sequence_of, no_instructions, then_instruction, Resolved, IsPartOf, HasTypedParts, HaveTypedParts, TemplateList, templates_in, IsSound, Kind, Part, Presence, FieldPart, IsKindOfPart, IsFieldPart, HasDefault, EachPart, EachPartIn}
 
 pub has_default : (i : FieldPart) → IsFieldPart i → HasDefault i
 has_default i is = is.typed.default_has_value
@@ -20,10 +10,10 @@ part_is pt k p i kind is =
 
 mutual
   part_of_one : (instruction : Instruction) → HasTypedParts instruction → EachPart IsFieldPart instruction
-  part_of_one (whole_field name number presence whole) h = part_is part.Whole whole.kind presence whole tt h
-  part_of_one (field_in_parts name number presence exponent mantissa) h = (part_is part.Exponent kind.Int32 _ exponent refl h.0, part_is part.Mantissa kind.Int64 _ mantissa refl h.1)
+  part_of_one (whole_field name number presence whole) h = part_is Part.Whole whole.kind presence whole tt h
+  part_of_one (field_in_parts name number presence exponent mantissa) h = (part_is Part.Exponent Kind.Int32 _ exponent refl h.0, part_is Part.Mantissa Kind.Int64 _ mantissa refl h.1)
   part_of_one (group_of name number presence members) h = part_of_each members h
-  part_of_one (sequence_of name number presence length members) h = (part_is part.Length kind.UInt32 _ length refl h.0, part_of_each members h.1)
+  part_of_one (sequence_of name number presence length members) h = (part_is Part.Length Kind.UInt32 _ length refl h.0, part_of_each members h.1)
 
   part_of_each : (members : Instructions) → HaveTypedParts members → EachPartIn IsFieldPart members
   part_of_each no_instructions h = tt

@@ -1,31 +1,5 @@
 -- What fields that bit 0 gives rest on, and numbers as values.
-use Rattle.std.proofs.Common.{◌≡◌, Bool, true, false, [], Result, Ok, refl, sym, ap, subst, ◌∙◌}
-use Rattle.std.specs.Prelude.{ℤ, pos, ◌+ℤ◌, int_lt, if◌then◌else◌, Option, Some, None, IsTrue}
-use Rattle.fast_wire.specs.declared.level.Level.{Level}
-use Rattle.fast_wire.specs.declared.level.Level.TheVariants.{Usual}
-use Rattle.fast_template.specs.Resolved.{operator_needs_bit}
-use Rattle.fast_value.specs.Scalar.{is_of, kind_of, least_of, greatest_of, of_integer}
-use Rattle.fast_value.specs.declared.kind.Kind.{Kind}
-use Rattle.fast_value.specs.declared.kind.Operator.{Operator}
-use Rattle.fast_value.specs.declared.kind.Operator.TheVariants as operator
-use Rattle.fast_value.specs.declared.kind.Part.{Part}
-use Rattle.fast_value.specs.declared.kind.Part.TheVariants as part
-use Rattle.fast_value.specs.declared.kind.Presence.{Presence}
-use Rattle.fast_value.specs.declared.kind.Presence.TheVariants.{Mandatory, Optional}
-use Rattle.fast_template.specs.declared.resolved.FieldPart.{FieldPart}
-use Rattle.fast_value.specs.declared.scalar.Scalar.{Scalar}
-use Rattle.fast_dictionary.specs.declared.entry.Entry.{Entry}
-use Rattle.fast_dictionary.specs.declared.entry.Entry.TheVariants.{Empty, Assigned}
-use Rattle.fast_field.specs.declared.fault.FieldFault.{FieldFault}
-use Rattle.fast_field.specs.declared.passed.Passed.TheVariants.{Absent, Present}
-use Rattle.fast_field.specs.Bases.{repeated, predicted, next, next_of, written_entry}
-use Rattle.fast_field.specs.Deltas.{uncut}
-use Rattle.fast_field.specs.Fields.{FormOf, FormBy, IsWithin, within_part}
-use Rattle.fast_field.specs.Found.{assigned_of}
-use Rattle.fast_field.specs.Numbers.{IsNumber, number_within, IsFieldNumber, next_number, IsNumberOf, HasNumber, Repeats, Predicts}
-use Rattle.fast_field.specs.Parts.{IsBitOf, HasDefault}
-use Rattle.fast_field.specs.Passed.{Passes, IsPassed}
-use Rattle.fast_field.specs.Values.{integer_of, increased}
+use Rattle.fast_field.proofs.Common.{◌≡◌, Bool, true, false, [], Result, Ok, refl, sym, ap, subst, ◌∙◌, ℤ, pos, ◌+ℤ◌, int_lt, if◌then◌else◌, Option, Some, None, IsTrue, Level, Usual, operator_needs_bit, is_of, kind_of, least_of, greatest_of, of_integer, Kind, Operator, Part, Presence, Mandatory, Optional, FieldPart, Scalar, Entry, Empty, Assigned, FieldFault, Absent, Present, repeated, predicted, next, next_of, written_entry, uncut, FormOf, FormBy, IsWithin, within_part, assigned_of, IsNumber, number_within, IsFieldNumber, next_number, IsNumberOf, HasNumber, Repeats, Predicts, IsBitOf, HasDefault, Passes, IsPassed, integer_of, increased}
 use Rattle.fast_field.proofs.BaseSteps.{is_of-kind}
 use Rattle.fast_field.proofs.BestForms.{bit_zero_is_best}
 use Rattle.fast_field.proofs.FieldForms.{field_forms}
@@ -44,8 +18,8 @@ pub number_back : (k : Kind) (z : ℤ) → IsNumber k z → integer_of (of_integ
 number_back k z h = number_of k z h.integer h.range
 
 within_as : (p : Part) (v : Scalar) (z : ℤ) → integer_of v ≡ z → IsTrue (number_within p z) → IsTrue (within_part p v)
-within_as part.Exponent v z e h = rw e h
-within_as part.Length v z e h = rw e h
+within_as Part.Exponent v z e h = rw e h
+within_as Part.Length v z e h = rw e h
 within_as p v z e h = refl
 
 pub within_number : (k : Kind) (p : Part) (z : ℤ) → IsFieldNumber k p z → IsTrue (within_part p (of_integer k z))
@@ -72,19 +46,19 @@ increased_is k v z h =
 -- an operator that predicts has a bit, and writes what it predicted
 record Predicting (o : Operator) : Type 0 where
   bit : (p : Presence) → operator_needs_bit o p ≡ false → false ≡ true
-  default : o ≡ operator.Default → ⊥
+  default : o ≡ Operator.Default → ⊥
   row : (i : FieldPart) (e : Entry) (v : Option Scalar) → predicted i e ≡ Ok v → FormOf Usual o i e false uncut [] v
   entry : (e : Entry) (v : Option Scalar) → written_entry v ≡ next_of o e v
 
 predicting : (o : Operator) → Predicts o → Predicting o
-predicting operator.Copy h = record { bit = λ p e. absurd cc; default = λ e. cc; row = λ i e v p. (refl, refl, p); entry = λ e v. refl }
-predicting operator.Increment h = record { bit = λ p e. absurd cc; default = λ e. cc; row = λ i e v p. (refl, refl, p); entry = λ e v. refl }
-predicting operator.Tail h = record { bit = λ p e. absurd cc; default = λ e. cc; row = λ i e v p. (refl, refl, p); entry = λ e v. refl }
+predicting Operator.Copy h = record { bit = λ p e. absurd cc; default = λ e. cc; row = λ i e v p. (refl, refl, p); entry = λ e v. refl }
+predicting Operator.Increment h = record { bit = λ p e. absurd cc; default = λ e. cc; row = λ i e v p. (refl, refl, p); entry = λ e v. refl }
+predicting Operator.Tail h = record { bit = λ p e. absurd cc; default = λ e. cc; row = λ i e v p. (refl, refl, p); entry = λ e v. refl }
 predicting o h = absurd h
 
 -- bit 0 takes no bytes, so no level judges it
 bit_zero_row_at : (level : Level) (o : Operator) (i : FieldPart) (e : Entry) (v : Option Scalar) → FormOf Usual o i e false uncut [] v → FormOf level o i e false uncut [] v
-bit_zero_row_at level operator.Plain i e v h = h
+bit_zero_row_at level Operator.Plain i e v h = h
 bit_zero_row_at level o i e v h = h
 
 passes : (i : FieldPart) (old new : Entry) (v : Option Scalar) → IsBitOf i false → HasDefault i → FormBy Usual i old false uncut [] v → new ≡ next i old v → Passes i old new v
@@ -100,13 +74,13 @@ predicted_passes i old v h p within =
     passes i old (written_entry v) v (o.bit i.presence) (λ is m. absurd (o.default is)) (record { row = o.row i old v p; within = within }) (o.entry old v)
 
 repeats_predicts : (o : Operator) → Repeats o → Predicts o
-repeats_predicts operator.Copy h = tt
-repeats_predicts operator.Tail h = tt
+repeats_predicts Operator.Copy h = tt
+repeats_predicts Operator.Tail h = tt
 repeats_predicts o h = absurd h
 
 repeats : (o : Operator) (v : Scalar) → Repeats o → repeated o v ≡ v
-repeats operator.Copy v h = refl
-repeats operator.Tail v h = refl
+repeats Operator.Copy v h = refl
+repeats Operator.Tail v h = refl
 repeats o v h = absurd h
 
 abbrev known : Option Scalar → Result (Option Scalar) FieldFault
@@ -121,19 +95,19 @@ kept_given i v h is within = predicted_passes i (Assigned v) (Some v) (repeats_p
 pub kept_passes : (i : FieldPart) (v : Scalar) → Repeats i.operator → is_of i.kind v ≡ true → IsTrue (within_part i.part v) → IsPassed i (Assigned v) (Assigned v) Present
 kept_passes i v h is within = (v, is, kept_given i v h is within)
 
-assigned_given : (i : FieldPart) (v : Scalar) (z : ℤ) → i.operator ≡ operator.Increment → IsNumberOf i.kind v z → IsFieldNumber i.kind i.part (next_number i.kind z)
+assigned_given : (i : FieldPart) (v : Scalar) (z : ℤ) → i.operator ≡ Operator.Increment → IsNumberOf i.kind v z → IsFieldNumber i.kind i.part (next_number i.kind z)
     → Passes i (Assigned v) (Assigned (of_integer i.kind (next_number i.kind z))) (Some (of_integer i.kind (next_number i.kind z)))
 assigned_given i v z o h n =
     let w = of_integer i.kind (next_number i.kind z) in
     let e : repeated i.operator v ≡ w = rw o (increased_is i.kind v z h) in
     predicted_passes i (Assigned v) (Some w) (rw o tt) (assigned_predicted i v w (kind_is i.kind v z h) e) (within_number i.kind i.part (next_number i.kind z) n)
 
-entry_given : (i : FieldPart) (e : Entry) (z : ℤ) → i.operator ≡ operator.Increment → HasNumber i.kind e z → IsFieldNumber i.kind i.part (next_number i.kind z)
+entry_given : (i : FieldPart) (e : Entry) (z : ℤ) → i.operator ≡ Operator.Increment → HasNumber i.kind e z → IsFieldNumber i.kind i.part (next_number i.kind z)
     → Passes i e (Assigned (of_integer i.kind (next_number i.kind z))) (Some (of_integer i.kind (next_number i.kind z)))
 entry_given i (Assigned v) z o h n = assigned_given i v z o h n
 entry_given i e z o h n = absurd h
 
-pub next_given : (k : Kind) (i : FieldPart) (e : Entry) (z : ℤ) → k ≡ i.kind → i.operator ≡ operator.Increment → HasNumber k e z → IsFieldNumber k i.part (next_number k z)
+pub next_given : (k : Kind) (i : FieldPart) (e : Entry) (z : ℤ) → k ≡ i.kind → i.operator ≡ Operator.Increment → HasNumber k e z → IsFieldNumber k i.part (next_number k z)
     → Passes i e (Assigned (of_integer k (next_number k z))) (Some (of_integer k (next_number k z)))
 next_given k i e z same o =
     subst (λ (k : Kind). HasNumber k e z → IsFieldNumber k i.part (next_number k z) → Passes i e (Assigned (of_integer k (next_number k z))) (Some (of_integer k (next_number k z)))) (sym same) (entry_given i e z o)
@@ -141,7 +115,7 @@ next_given k i e z same o =
 next_of_kind : (k : Kind) (i : FieldPart) (z : ℤ) → k ≡ i.kind → IsNumber k z → IsTrue (is_of i.kind (of_integer k z))
 next_of_kind k i z same = subst (λ (k : Kind). IsNumber k z → IsTrue (is_of i.kind (of_integer k z))) (sym same) (of_kind i.kind z)
 
-pub next_passes : (k : Kind) (i : FieldPart) (e : Entry) (z : ℤ) → k ≡ i.kind → i.operator ≡ operator.Increment → HasNumber k e z → IsFieldNumber k i.part (next_number k z) → IsPassed i e (Assigned (of_integer k (next_number k z))) Present
+pub next_passes : (k : Kind) (i : FieldPart) (e : Entry) (z : ℤ) → k ≡ i.kind → i.operator ≡ Operator.Increment → HasNumber k e z → IsFieldNumber k i.part (next_number k z) → IsPassed i e (Assigned (of_integer k (next_number k z))) Present
 next_passes k i e z same o h n = (of_integer k (next_number k z), next_of_kind k i (next_number k z) same n.number, next_given k i e z same o h n)
 
 pub empty_passes : (i : FieldPart) → Predicts i.operator → i.presence ≡ Optional → IsPassed i Empty Empty Absent
@@ -152,38 +126,38 @@ left_given : (o : Operator) (i : FieldPart) (e : Entry) (v : Option Scalar) → 
     → Passes i e e v
 left_given o i e v is bit default row within entry = passes i e e v (rw is bit) default (record { row = subst (λ (x : Operator). FormOf Usual x i e false uncut [] v) (sym is) row; within = within }) (rw is entry)
 
-pub initial_given : (i : FieldPart) (e : Entry) (v : Scalar) → i.operator ≡ operator.Default → i.initial ≡ Some v → IsTrue (within_part i.part v) → Passes i e e (Some v)
-initial_given i e v o initial within = left_given operator.Default i e (Some v) o (λ h. absurd cc) (λ d m. rw initial refl) (refl, refl, initial) within refl
+pub initial_given : (i : FieldPart) (e : Entry) (v : Scalar) → i.operator ≡ Operator.Default → i.initial ≡ Some v → IsTrue (within_part i.part v) → Passes i e e (Some v)
+initial_given i e v o initial within = left_given Operator.Default i e (Some v) o (λ h. absurd cc) (λ d m. rw initial refl) (refl, refl, initial) within refl
 
-pub initial_passes : (i : FieldPart) (e : Entry) (v : Scalar) → i.operator ≡ operator.Default → i.initial ≡ Some v → is_of i.kind v ≡ true → IsTrue (within_part i.part v) → IsPassed i e e Present
+pub initial_passes : (i : FieldPart) (e : Entry) (v : Scalar) → i.operator ≡ Operator.Default → i.initial ≡ Some v → is_of i.kind v ≡ true → IsTrue (within_part i.part v) → IsPassed i e e Present
 initial_passes i e v o initial is within = (v, is, initial_given i e v o initial within)
 
 optional_default : (i : FieldPart) → i.presence ≡ Optional → HasDefault i
 optional_default i optional d m = absurd (let no : Mandatory ≡ Optional = sym m ∙ optional in cc)
 
-pub no_initial_passes : (i : FieldPart) (e : Entry) → i.operator ≡ operator.Default → i.initial ≡ None → i.presence ≡ Optional → IsPassed i e e Absent
-no_initial_passes i e o initial optional = left_given operator.Default i e None o (λ h. absurd cc) (optional_default i optional) (refl, refl, (initial, optional)) tt refl
+pub no_initial_passes : (i : FieldPart) (e : Entry) → i.operator ≡ Operator.Default → i.initial ≡ None → i.presence ≡ Optional → IsPassed i e e Absent
+no_initial_passes i e o initial optional = left_given Operator.Default i e None o (λ h. absurd cc) (optional_default i optional) (refl, refl, (initial, optional)) tt refl
 
-pub constant_passes : (i : FieldPart) (e : Entry) → i.operator ≡ operator.Constant → i.presence ≡ Optional → IsPassed i e e Absent
-constant_passes i e o optional = left_given operator.Constant i e None o (rw optional (λ h. absurd cc)) (optional_default i optional) (refl, refl, optional, refl) tt refl
+pub constant_passes : (i : FieldPart) (e : Entry) → i.operator ≡ Operator.Constant → i.presence ≡ Optional → IsPassed i e e Absent
+constant_passes i e o optional = left_given Operator.Constant i e None o (rw optional (λ h. absurd cc)) (optional_default i optional) (refl, refl, optional, refl) tt refl
 
 -- ---- where what bit 0 gave is found
 
 passed_row : (i : FieldPart) (old new : Entry) (v : Scalar) (o : Operator) → i.operator ≡ o → (p : Passes i old new (Some v)) → FormOf Usual o i old false p.best.cut [] (Some v)
 passed_row i old new v o is p = subst (λ (o : Operator). FormOf Usual o i old false p.best.cut [] (Some v)) is p.best.form.row
 
-pub initial_found : (i : FieldPart) (old new : Entry) → i.operator ≡ operator.Default → IsPassed i old new Present → Passes i old new i.initial
-initial_found i old new o h = subst (λ (v : Option Scalar). Passes i old new v) (sym (passed_row i old new h.0 operator.Default o h.2).2) h.2
+pub initial_found : (i : FieldPart) (old new : Entry) → i.operator ≡ Operator.Default → IsPassed i old new Present → Passes i old new i.initial
+initial_found i old new o h = subst (λ (v : Option Scalar). Passes i old new v) (sym (passed_row i old new h.0 Operator.Default o h.2).2) h.2
 
 assigned_found : (i : FieldPart) (old new : Entry) (v : Scalar) → new ≡ Assigned v → Passes i old new (Some v) → Passes i old new (assigned_of new)
 assigned_found i old new v e p = let same : assigned_of new ≡ Some v = rw e refl in subst (λ (v : Option Scalar). Passes i old new v) (sym same) p
 
-kept_by : (o : Operator) (i : FieldPart) (old new : Entry) (v : Scalar) → i.operator ≡ o → (o ≡ operator.Default → ⊥) → Passes i old new (Some v) → Passes i old new (assigned_of new)
-kept_by operator.Plain i old new v o other p = absurd (passed_row i old new v operator.Plain o p)
-kept_by operator.Constant i old new v o other p = let none = (passed_row i old new v operator.Constant o p).3 in absurd cc
-kept_by operator.Default i old new v o other p = absurd (other refl)
-kept_by operator.Delta i old new v o other p = absurd (passed_row i old new v operator.Delta o p)
+kept_by : (o : Operator) (i : FieldPart) (old new : Entry) (v : Scalar) → i.operator ≡ o → (o ≡ Operator.Default → ⊥) → Passes i old new (Some v) → Passes i old new (assigned_of new)
+kept_by Operator.Plain i old new v o other p = absurd (passed_row i old new v Operator.Plain o p)
+kept_by Operator.Constant i old new v o other p = let none = (passed_row i old new v Operator.Constant o p).3 in absurd cc
+kept_by Operator.Default i old new v o other p = absurd (other refl)
+kept_by Operator.Delta i old new v o other p = absurd (passed_row i old new v Operator.Delta o p)
 kept_by o i old new v is other p = assigned_found i old new v (p.entry ∙ rw is refl) p
 
-pub kept_found : (i : FieldPart) (old new : Entry) → (i.operator ≡ operator.Default → ⊥) → IsPassed i old new Present → Passes i old new (assigned_of new)
+pub kept_found : (i : FieldPart) (old new : Entry) → (i.operator ≡ Operator.Default → ⊥) → IsPassed i old new Present → Passes i old new (assigned_of new)
 kept_found i old new other h = kept_by i.operator i old new h.0 refl other h.2

@@ -1,19 +1,6 @@
 -- What was sent and units of a base, put together.
-use Rattle.std.proofs.Common.{◌≡◌, ℕ, ◌+◌, ◌-◌, ◌%◌, ◌<◌, ◌≤◌, ◌⊎◌, true, List, ◌++◌, length, get_or, set, refl, ap, ◌∙◌, inl, inr, arith, length-append}
-use Rattle.std.specs.Prelude.{nat_lt}
-use Rattle.std.proofs.lemmas.Bool.Decides.{nat_tests}
-use Rattle.std.proofs.lemmas.List.{get_or-append_right, set-append_right, length-map}
-use Rattle.fast_wire.specs.Entity.{groups}
-use Rattle.fast_wire.specs.Reading.{Fails}
+use Rattle.fast_field.proofs.Common.{◌≡◌, ℕ, ◌+◌, ◌-◌, ◌%◌, ◌<◌, ◌≤◌, ◌⊎◌, true, List, ◌++◌, length, get_or, set, refl, ap, ◌∙◌, inl, inr, arith, length-append, nat_lt, nat_tests, get_or-append_right, set-append_right, length-map, groups, Fails, tail_text, Kind, FieldFault, OrRefused, limited_value, units_sent}
 use Rattle.fast_wire.specs.Spans.{IsTail}
-use Rattle.fast_wire.proofs.AsciiForms.{tail_text}
-use Rattle.fast_value.specs.declared.kind.Kind.{Kind}
-use Rattle.fast_value.specs.declared.kind.Kind.TheVariants as kind
-use Rattle.fast_field.specs.declared.fault.FieldFault.{FieldFault}
-use Rattle.fast_field.specs.declared.fault.FieldFault.TheVariants as fault
-use Rattle.fast_field.specs.Calls.{OrRefused}
-use Rattle.fast_field.specs.FieldReading.{limited_value}
-use Rattle.fast_field.specs.Sent.{units_sent}
 use Rattle.fast_field.proofs.ValueFaults.{never, few_made}
 
 -- the characters of the last bytes of an entity, where the stop bit was taken off the last
@@ -30,15 +17,15 @@ last_cleared front tail items size x h parts some long read =
 
 -- as many units as there are bytes
 pub sent_length : (k : Kind) (sent : List ℕ) → length (units_sent k sent) ≡ length sent
-sent_length kind.Ascii sent = length-map sent (λ b. b % 128)
+sent_length Kind.Ascii sent = length-map sent (λ b. b % 128)
 sent_length k sent = refl
 
 -- ---- where memory was refused, or there are too many units
 
-pub no_memory : (e : FieldFault) (k : Kind) (units : List ℕ) → e ≡ fault.Memory → Fails OrRefused e (limited_value k units)
+pub no_memory : (e : FieldFault) (k : Kind) (units : List ℕ) → e ≡ FieldFault.Memory → Fails OrRefused e (limited_value k units)
 no_memory e k units refused = inr (refused, never (limited_value k units) (few_made k units))
 
-pub no_room : (e : FieldFault) (k : Kind) (units : List ℕ) (n : ℕ) → length units ≡ n → (e ≡ fault.Memory) ⊎ ((e ≡ fault.Limit) × (65535 < n)) → Fails OrRefused e (limited_value k units)
+pub no_room : (e : FieldFault) (k : Kind) (units : List ℕ) (n : ℕ) → length units ≡ n → (e ≡ FieldFault.Memory) ⊎ ((e ≡ FieldFault.Limit) × (65535 < n)) → Fails OrRefused e (limited_value k units)
 unfolding limited_value
 no_room e k units n all (inl refused) = no_memory e k units refused
 no_room e k units n all (inr h) =

@@ -1,13 +1,6 @@
 -- What a call that gives what reading gives says of forms.
 use Rattle.std.proofs.Common.{◌≡◌, ℕ, suc, ◌+◌, ◌-◌, ◌<◌, ◌≤◌, List, [], ◌∷◌, ◌++◌, length, take, drop, get_or, Result, Ok, Err, sym, ap, subst, ◌∙◌, arith, inl, inr, length-append, length-drop, take-append-drop, drop-drop, get_or-drop}
-use Rattle.std.specs.Prelude.{slice_range, MatchResult, IfOk}
-use Rattle.std.proofs.lemmas.List.{take_at}
-use Rattle.fast_wire.specs.Reader.{IsBytes, IsReader, GoesOn}
-use Rattle.fast_wire.specs.Reading.{Gives, Fails, Reads}
-use Rattle.fast_wire.proofs.Readers.{done, ok_is}
-use Rattle.fast_field.specs.declared.fault.FieldFault.{FieldFault}
-use Rattle.fast_field.specs.declared.fault.FieldFault.TheVariants as fault
-use Rattle.fast_field.specs.Calls.{OrRefused}
+use Rattle.fast_field.proofs.Common.{slice_range, MatchResult, IfOk, take_at, IsBytes, IsReader, GoesOn, Gives, Fails, Reads, done, ok_is, FieldFault, OrRefused}
 
 pub all_bytes : (xs : List ℕ) → ((k : ℕ) → get_or xs k 0 < 256) → IsBytes xs
 all_bytes [] h = tt
@@ -22,7 +15,7 @@ taken bytes front at next le within e =
     let n : length front ≡ next - at = omega (arith, length-drop at bytes, length-drop next bytes) in
     ap (take (next - at)) e ∙ take_at front (drop next bytes) (next - at) n
 
-module _ {V : Type 0} (read : List ℕ → Result (V × List ℕ) FieldFault) (Form : List ℕ → V → Type 0) (is : IsReader fault.NeedMore read Form) (bytes : List ℕ) (at : ℕ) where
+module _ {V : Type 0} (read : List ℕ → Result (V × List ℕ) FieldFault) (Form : List ℕ → V → Type 0) (is : IsReader FieldFault.NeedMore read Form) (bytes : List ℕ) (at : ℕ) where
   -- what is read is a form
   pub found_here : (v : V) (next : ℕ) → IsBytes (drop at bytes) → at ≤ next → next ≤ length bytes → read (drop at bytes) ≡ Ok (v, drop next bytes) → Reads Form bytes at (v, next)
   found_here v next fits le within e =
@@ -45,19 +38,19 @@ module _ {V : Type 0} (read : List ℕ → Result (V × List ℕ) FieldFault) (F
       let inside = h.1 in
       (ap (λ p. p.0) both, omega (arith, length-drop n bytes, length-drop next bytes))
 
-  only_memory : (e : FieldFault) → Fails OrRefused e (read (drop at bytes)) → (next : ℕ) (value : V) → Reads Form bytes at (value, next) → e ≡ fault.Memory
+  only_memory : (e : FieldFault) → Fails OrRefused e (read (drop at bytes)) → (next : ℕ) (value : V) → Reads Form bytes at (value, next) → e ≡ FieldFault.Memory
   only_memory e (inl f) next value h = let s = spelled_here next value h in absurd cc
   only_memory e (inr f) next value h = f.0
 
 -- the same of a call's answer, seen by value and place
-module _ {X V : Type 0} (read : List ℕ → Result (V × List ℕ) FieldFault) (Form : List ℕ → V → Type 0) (is : IsReader fault.NeedMore read Form) (bytes : List ℕ) (at : ℕ) (view : X → V) (place : X → ℕ) where
+module _ {X V : Type 0} (read : List ℕ → Result (V × List ℕ) FieldFault) (Form : List ℕ → V → Type 0) (is : IsReader FieldFault.NeedMore read Form) (bytes : List ℕ) (at : ℕ) (view : X → V) (place : X → ℕ) where
   pub call_answers : (r : Result X FieldFault) → IsBytes (drop at bytes) → IfOk r (λ x. (at ≤ place x) × (place x ≤ length bytes)) → Gives OrRefused (λ x. (view x, drop (place x) bytes)) r (read (drop at bytes))
       → MatchResult r (λ x. Reads Form bytes at (view x, place x)) (λ e. Fails OrRefused e (read (drop at bytes)))
   call_answers (Ok x) fits inside gives = found_here read Form is bytes at (view x) (place x) fits inside.0 inside.1 gives
   call_answers (Err e) fits inside gives = gives
 
   pub call_only : (r : Result X FieldFault) → IfOk r (λ x. (at ≤ place x) × (place x ≤ length bytes)) → Gives OrRefused (λ x. (view x, drop (place x) bytes)) r (read (drop at bytes))
-      → (next : ℕ) (value : V) → Reads Form bytes at (value, next) → MatchResult r (λ x. (view x ≡ value) × (place x ≡ next)) (λ e. e ≡ fault.Memory)
+      → (next : ℕ) (value : V) → Reads Form bytes at (value, next) → MatchResult r (λ x. (view x ≡ value) × (place x ≡ next)) (λ e. e ≡ FieldFault.Memory)
   call_only (Ok x) inside gives = only_found read Form is bytes at (view x) (place x) inside.1 gives
   call_only (Err e) inside gives = only_memory read Form is bytes at e gives
 

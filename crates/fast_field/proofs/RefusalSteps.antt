@@ -1,10 +1,6 @@
 -- How calls judge a value.
-use Rattle.std.proofs.Common.{◌≡◌, ℕ, zero, suc, ◌<◌, Bool, true, false, List, [], ◌∷◌, get_or, refl, arith}
-use Rattle.std.specs.Bool.{MatchBool}
-use Rattle.std.specs.Prelude.{nat_lt}
+use Rattle.fast_field.proofs.Common.{◌≡◌, ℕ, zero, suc, ◌<◌, Bool, true, false, List, [], ◌∷◌, get_or, refl, arith, MatchBool, nat_lt, nat_tests, are_characters}
 use Rattle.std.specs.Str.{IsAscii, IsNotAscii}
-use Rattle.std.proofs.lemmas.Bool.Decides.{nat_tests}
-use Rattle.fast_field.specs.Refusals.{are_characters}
 use Rattle.fast_field.proofs.ValuesWithin.{both}
 
 each_low : (s : List ℕ) → ((k : ℕ) → get_or s k 0 < 128) → are_characters s ≡ true

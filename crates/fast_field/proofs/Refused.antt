@@ -1,37 +1,6 @@
 -- What is refused has no form.
-use Rattle.std.proofs.Common.{◌≡◌, ℕ, ◌-◌, ◌<◌, ◌≤◌, Bool, true, false, List, [], ◌∷◌, length, take, refl, ap, subst, arith, Ok, length-append, length-take}
-use Rattle.std.specs.Prelude.{ℤ, pos, negsuc, int_lt, int_le, nat_lt, Option, Some, None, IsTrue, unwrap_or}
-use Rattle.std.specs.List.{AllByRecursion}
-use Rattle.std.proofs.lemmas.Bool.Decides.{nat_tests}
-use Rattle.fast_wire.specs.declared.level.Level.{Level}
-use Rattle.fast_wire.specs.declared.level.Level.TheVariants.{Usual}
-use Rattle.fast_wire.proofs.Readers.{ok_is}
-use Rattle.fast_value.specs.Scalar.{is_of, scalar_eq-same, IsScalar}
+use Rattle.fast_field.proofs.Common.{◌≡◌, ℕ, ◌-◌, ◌<◌, ◌≤◌, Bool, true, false, List, [], ◌∷◌, length, take, refl, ap, subst, arith, Ok, length-append, length-take, ℤ, pos, negsuc, int_lt, int_le, nat_lt, Option, Some, None, IsTrue, unwrap_or, AllByRecursion, nat_tests, Level, Usual, ok_is, is_of, scalar_eq-same, IsScalar, Kind, Operator, Part, Presence, Mandatory, Optional, FieldPart, Scalar, Decimal, Ascii, Unicode, Bytes, Entry, Undefined, Empty, Assigned, FieldFault, FieldRefusal, integer_of, units_of, of_units, default_of, IsFieldPart, start_of, absent_or, initial_or, repeated, tail_base, predicted, IsOfUnits, Cut, ended_by, FormOf, Form, within_part, HoldsScalar, IsFieldValue, are_characters, has_characters, has_too_many, is_far, constant_refusal, tail_refusal, operator_refusal, value_refusal, refusal_of}
 use Rattle.fast_value.specs.contracts.scalar.ScalarPartialEq.TheImpl as scalar_eq
-use Rattle.fast_value.specs.declared.kind.Kind.{Kind}
-use Rattle.fast_value.specs.declared.kind.Kind.TheVariants as kind
-use Rattle.fast_value.specs.declared.kind.Operator.{Operator}
-use Rattle.fast_value.specs.declared.kind.Operator.TheVariants as operator
-use Rattle.fast_value.specs.declared.kind.Part.{Part}
-use Rattle.fast_value.specs.declared.kind.Part.TheVariants as part
-use Rattle.fast_value.specs.declared.kind.Presence.{Presence}
-use Rattle.fast_value.specs.declared.kind.Presence.TheVariants.{Mandatory, Optional}
-use Rattle.fast_template.specs.declared.resolved.FieldPart.{FieldPart}
-use Rattle.fast_value.specs.declared.scalar.Scalar.{Scalar}
-use Rattle.fast_value.specs.declared.scalar.Scalar.TheVariants.{Decimal, Ascii, Unicode, Bytes}
-use Rattle.fast_dictionary.specs.declared.entry.Entry.{Entry}
-use Rattle.fast_dictionary.specs.declared.entry.Entry.TheVariants.{Undefined, Empty, Assigned}
-use Rattle.fast_field.specs.declared.fault.FieldFault.{FieldFault}
-use Rattle.fast_field.specs.declared.fault.FieldFault.TheVariants as fault
-use Rattle.fast_field.specs.declared.fault.FieldRefusal.{FieldRefusal}
-use Rattle.fast_field.specs.Values.{integer_of, units_of, of_units, default_of}
-use Rattle.fast_field.specs.Parts.{IsFieldPart}
-use Rattle.fast_field.specs.Bases.{start_of, absent_or, initial_or, repeated, tail_base, predicted}
-use Rattle.fast_field.specs.Spelled.{IsOfUnits}
-use Rattle.fast_field.specs.Deltas.{Cut, ended_by}
-use Rattle.fast_field.specs.Fields.{FormOf, Form, within_part}
-use Rattle.fast_field.specs.Within.{HoldsScalar, IsFieldValue}
-use Rattle.fast_field.specs.Refusals.{are_characters, has_characters, has_too_many, is_far, constant_refusal, tail_refusal, operator_refusal, value_refusal, refusal_of}
 use Rattle.fast_field.proofs.SpelledForms.{if_ok}
 use Rattle.fast_field.proofs.FieldsWithin.{values_within}
 use Rattle.fast_field.proofs.StrictForms.{form_usually}
@@ -60,11 +29,11 @@ few_elements (pos n) h = let le = h in grind (arith, nat_tests)
 few_elements (negsuc n) h = refl
 
 few_enough : (p : Part) (v : Scalar) → IsScalar v → IsTrue (within_part p v) → has_too_many p v ≡ false
-few_enough part.Length v h w = few_elements (integer_of v) w
+few_enough Part.Length v h w = few_elements (integer_of v) w
 few_enough p v h w = not_more (length (units_of v)) (few_units v h)
 
 near : (p : Part) (v : Scalar) → IsScalar v → IsTrue (within_part p v) → is_far p v ≡ false
-near part.Exponent v h w = rw w refl
+near Part.Exponent v h w = rw w refl
 near p (Decimal e m) h w = rw h.0 refl
 near p v h w = refl
 
@@ -78,11 +47,11 @@ constant_same p (Some w) v e =
     rw t refl
 
 units_of-of_units : (k : Kind) (s : List ℕ) → units_of (of_units k s) ≡ s
-units_of-of_units kind.Ascii s = refl
+units_of-of_units Kind.Ascii s = refl
 units_of-of_units k s = refl
 
 pub units_are : (k : Kind) (s : List ℕ) (v : Scalar) → IsOfUnits k s v → units_of v ≡ s
-units_are kind.Unicode s v h = rw h.1 refl
+units_are Kind.Unicode s v h = rw h.1 refl
 units_are k s v h = rw h (units_of-of_units k s)
 
 not_less : (m n : ℕ) → n ≤ m → nat_lt m n ≡ false
@@ -94,13 +63,13 @@ as_long base v h = let t : nat_lt (length (units_of v)) (length (units_of base))
 pub ended_is_longer : (base tail : List ℕ) → length base ≤ length (ended_by base tail)
 ended_is_longer base tail = omega (arith, length-append (take (length base - length tail) base) tail, length-take (length base - length tail) base)
 
-tail_same : (i : FieldPart) (e : Entry) (v : Scalar) → predicted i e ≡ Ok (Some v) → i.operator ≡ operator.Tail → tail_refusal (tail_base i e) v ≡ None
+tail_same : (i : FieldPart) (e : Entry) (v : Scalar) → predicted i e ≡ Ok (Some v) → i.operator ≡ Operator.Tail → tail_refusal (tail_base i e) v ≡ None
 tail_same i Undefined v h o = first i.initial h
   where
-    first : (x : Option Scalar) → initial_or fault.D5 i x ≡ Ok (Some v) → tail_refusal (Ok (unwrap_or x (default_of i.kind))) v ≡ None
+    first : (x : Option Scalar) → initial_or FieldFault.D5 i x ≡ Ok (Some v) → tail_refusal (Ok (unwrap_or x (default_of i.kind))) v ≡ None
     first None h = absent i.presence h
       where
-        absent : (p : Presence) → absent_or fault.D5 p ≡ Ok (Some v) → tail_refusal (Ok (default_of i.kind)) v ≡ None
+        absent : (p : Presence) → absent_or FieldFault.D5 p ≡ Ok (Some v) → tail_refusal (Ok (default_of i.kind)) v ≡ None
         absent Mandatory h = absurd cc
         absent Optional h = absurd (let w = ok_is {F = FieldFault} None (Some v) h in cc)
     first (Some w) h =
@@ -108,22 +77,22 @@ tail_same i Undefined v h o = first i.initial h
         as_long w v (rw same (omega arith))
 tail_same i Empty v h o = absent i.presence h
   where
-    absent : (p : Presence) → absent_or fault.D6 p ≡ Ok (Some v) → tail_refusal (Ok (start_of i)) v ≡ None
+    absent : (p : Presence) → absent_or FieldFault.D6 p ≡ Ok (Some v) → tail_refusal (Ok (start_of i)) v ≡ None
     absent Mandatory h = absurd cc
     absent Optional h = absurd (let w = ok_is {F = FieldFault} None (Some v) h in cc)
 tail_same i (Assigned w) v h o =
-    let t = if_ok (is_of i.kind w) (Some (repeated i.operator w)) (Some v) fault.D4 h in
+    let t = if_ok (is_of i.kind w) (Some (repeated i.operator w)) (Some v) FieldFault.D4 h in
     let same : repeated i.operator w ≡ v = ap (λ (x : Option Scalar). unwrap_or x v) t.1 in
     let kept : w ≡ v = subst (λ (x : Operator). repeated x w ≡ v) o same in
     rw t.0 (as_long w v (rw kept (omega arith)))
 
 form_not_refused : (o : Operator) (i : FieldPart) (e : Entry) (bit : Bool) (cut : Cut) (b : List ℕ) (v : Scalar) → i.operator ≡ o → FormOf Usual o i e bit cut b (Some v) → operator_refusal o i e v ≡ None
-form_not_refused operator.Constant i e false cut b v o f = let w = f.3 in absurd cc
-form_not_refused operator.Constant i e true cut b v o f = constant_same i.part i.initial v f.2
-form_not_refused operator.Delta i e false cut b v o f = absurd f
-form_not_refused operator.Delta i e true cut b v o f = rw f.1 refl
-form_not_refused operator.Tail i e false cut b v o f = tail_same i e v f.2 o
-form_not_refused operator.Tail i e true cut b v o f =
+form_not_refused Operator.Constant i e false cut b v o f = let w = f.3 in absurd cc
+form_not_refused Operator.Constant i e true cut b v o f = constant_same i.part i.initial v f.2
+form_not_refused Operator.Delta i e false cut b v o f = absurd f
+form_not_refused Operator.Delta i e true cut b v o f = rw f.1 refl
+form_not_refused Operator.Tail i e false cut b v o f = tail_same i e v f.2 o
+form_not_refused Operator.Tail i e true cut b v o f =
     let units = units_are i.kind (ended_by (units_of f.0) f.2.tail) v f.2.value.1 in
     rw f.1 (as_long f.0 v (rw units (ended_is_longer (units_of f.0) f.2.tail)))
 form_not_refused o i e bit cut b v is f = refl

@@ -1,21 +1,5 @@
 -- The shortest bytes of pieces, as forms of a field's parts.
-use Rattle.std.proofs.Common.{◌≡◌, ℕ, ◌^◌, ◌<◌, ◌≤◌, true, false, List, ◌++◌, length, refl, ap, arith, length-append}
-use Rattle.std.specs.Prelude.{ℤ, pos}
-use Rattle.fast_wire.specs.declared.level.Level.TheVariants.{Usual}
-use Rattle.fast_wire.specs.Ascii.{IsAscii, IsAsciiNullable}
-use Rattle.fast_wire.specs.Integer.{IsSigned, magnitude}
-use Rattle.fast_wire.specs.Nullable.{IsSignedNullable}
-use Rattle.fast_wire.specs.Vector.{IsVector, IsVectorNullable}
-use Rattle.fast_wire.specs.Writing.{IsShortest}
-use Rattle.fast_wire.specs.declared.nullable.Nullable.TheVariants.{Value}
-use Rattle.fast_wire.specs.Sizes.{signed_size, signed_nullable_size, ascii_size, ascii_nullable_size, vector_size, vector_nullable_size}
-use Rattle.fast_wire.proofs.FormSizes.{signed_sizes, signed_nullable_sizes, ascii_sizes, ascii_nullable_sizes, vector_sizes, vector_nullable_sizes, shortest_size}
-use Rattle.fast_value.specs.declared.kind.Kind.{Kind}
-use Rattle.fast_value.specs.declared.kind.Kind.TheVariants as kind
-use Rattle.fast_value.specs.declared.kind.Presence.{Presence}
-use Rattle.fast_value.specs.declared.kind.Presence.TheVariants.{Mandatory, Optional}
-use Rattle.fast_field.specs.Spelled.{SpellsInteger, SpellsPart, SpellsUnits, SpellsPair}
-use Rattle.fast_field.specs.Chosen.{ShortestUnsigned, ShortestSigned, ShortestPart, ShortestUnits, ShortestPair, length_size, part_size, tail_size}
+use Rattle.fast_field.proofs.Common.{◌≡◌, ℕ, ◌^◌, ◌<◌, ◌≤◌, true, false, List, ◌++◌, length, refl, ap, arith, length-append, ℤ, pos, Usual, IsAscii, IsAsciiNullable, IsSigned, magnitude, IsSignedNullable, IsVector, IsVectorNullable, IsShortest, Value, signed_size, signed_nullable_size, ascii_size, ascii_nullable_size, vector_size, vector_nullable_size, signed_sizes, signed_nullable_sizes, ascii_sizes, ascii_nullable_sizes, vector_sizes, vector_nullable_sizes, shortest_size, Kind, Presence, Mandatory, Optional, SpellsInteger, SpellsPart, SpellsUnits, SpellsPair, ShortestUnsigned, ShortestSigned, ShortestPart, ShortestUnits, ShortestPair, length_size, part_size, tail_size}
 use Rattle.fast_field.proofs.ValuesWithin.{IsString}
 use Rattle.fast_field.proofs.StandingForms.{signed_stands, part_stands, units_stand}
 
@@ -30,12 +14,12 @@ signed_form Mandatory z b h = record { form = h.form; least = h.least }
 signed_form Optional z b h = record { form = h.form; least = h.least }
 
 pub part_form : (k : Kind) (s b : List ℕ) → ShortestPart k s b → IsShortest (SpellsPart Usual k) b s
-part_form kind.Ascii s b h = record { form = h.form; least = h.least }
+part_form Kind.Ascii s b h = record { form = h.form; least = h.least }
 part_form k s b h = record { form = h.form; least = h.least }
 
 pub units_form : (k : Kind) (p : Presence) (s b : List ℕ) → ShortestUnits k p s b → IsShortest (SpellsUnits Usual k p) b (Value s)
 units_form k Mandatory s b h = let f = part_form k s b h in record { form = f.form; least = f.least }
-units_form kind.Ascii Optional s b h = record { form = h.form; least = h.least }
+units_form Kind.Ascii Optional s b h = record { form = h.form; least = h.least }
 units_form k Optional s b h = record { form = h.form; least = h.least }
 
 pub pair_form : (p : Presence) (e m : ℤ) (b : List ℕ) → ShortestPair p e m b → SpellsPair Usual p b e m
@@ -52,12 +36,12 @@ length_is Mandatory z b h = shortest_size IsSigned _ signed_size signed_sizes b 
 length_is Optional z b h = shortest_size IsSignedNullable _ signed_nullable_size signed_nullable_sizes b (Value z) h
 
 pub part_is : (k : Kind) (s b : List ℕ) → ShortestPart k s b → length b ≡ part_size k s
-part_is kind.Ascii s b h = shortest_size IsAscii _ ascii_size ascii_sizes b s h
+part_is Kind.Ascii s b h = shortest_size IsAscii _ ascii_size ascii_sizes b s h
 part_is k s b h = shortest_size IsVector _ vector_size vector_sizes b s h
 
 pub units_is : (k : Kind) (p : Presence) (s b : List ℕ) → ShortestUnits k p s b → length b ≡ tail_size k p s
 units_is k Mandatory s b h = part_is k s b h
-units_is kind.Ascii Optional s b h = shortest_size IsAsciiNullable _ ascii_nullable_size ascii_nullable_sizes b (Value s) h
+units_is Kind.Ascii Optional s b h = shortest_size IsAsciiNullable _ ascii_nullable_size ascii_nullable_sizes b (Value s) h
 units_is k Optional s b h = shortest_size IsVectorNullable _ vector_nullable_size vector_nullable_sizes b (Value s) h
 
 -- ---- and stands
@@ -67,12 +51,12 @@ shortest_signed Mandatory z lt = let s = signed_stands Mandatory z lt in (s.0, r
 shortest_signed Optional z lt = let s = signed_stands Optional z lt in (s.0, record { form = s.1.form; least = s.1.least })
 
 pub shortest_part : (k : Kind) (s : List ℕ) → IsString k s → (b : List ℕ) × ShortestPart k s b
-shortest_part kind.Ascii s h = let t = part_stands kind.Ascii s h in (t.0, record { form = t.1.form; least = t.1.least })
+shortest_part Kind.Ascii s h = let t = part_stands Kind.Ascii s h in (t.0, record { form = t.1.form; least = t.1.least })
 shortest_part k s h = let t = part_stands k s h in (t.0, record { form = t.1.form; least = t.1.least })
 
 pub shortest_units : (k : Kind) (p : Presence) (s : List ℕ) → IsString k s → (b : List ℕ) × ShortestUnits k p s b
 shortest_units k Mandatory s h = shortest_part k s h
-shortest_units kind.Ascii Optional s h = let t = units_stand kind.Ascii Optional s h in (t.0, record { form = t.1.form; least = t.1.least })
+shortest_units Kind.Ascii Optional s h = let t = units_stand Kind.Ascii Optional s h in (t.0, record { form = t.1.form; least = t.1.least })
 shortest_units k Optional s h = let t = units_stand k Optional s h in (t.0, record { form = t.1.form; least = t.1.least })
 
 pub shortest_pair : (p : Presence) (e m : ℤ) → magnitude e < 2 ^ 68 → magnitude m < 2 ^ 68 → (b : List ℕ) × ShortestPair p e m b

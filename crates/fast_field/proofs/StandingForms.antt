@@ -1,27 +1,5 @@
 -- Each value of a type has a shortest form that stands whole.
-use Rattle.std.proofs.Common.{◌≡◌, ℕ, ◌*◌, ◌^◌, ◌<◌, ◌≤◌, Bool, true, false, List, ◌++◌, length, refl, sym, ap, subst, ◌∙◌, arith, length-append}
-use Rattle.std.specs.Prelude.{ℤ, pos, negsuc, nat_le, int_le, ◌&&◌, Some, None, IsTrue}
-use Rattle.std.specs.List.{AllByRecursion}
-use Rattle.std.proofs.lemmas.List.Elements.{All-from_recursion}
-use Rattle.std.proofs.lemmas.Bool.{leb-true}
-use Rattle.fast_wire.specs.declared.level.Level.TheVariants.{Usual}
-use Rattle.fast_wire.specs.Ascii.{IsAscii, IsAsciiNullable, IsAsciiText}
-use Rattle.fast_wire.specs.Integer.{IsUnsigned, IsSigned, magnitude}
-use Rattle.fast_wire.specs.Nullable.{IsUnsignedNullable, IsSignedNullable, sent_signed}
-use Rattle.fast_wire.specs.Sizes.{HasSizes}
-use Rattle.fast_wire.specs.Vector.{IsVector, IsVectorNullable}
-use Rattle.fast_wire.specs.Writing.{IsShortest}
-use Rattle.fast_wire.specs.declared.nullable.Nullable.TheVariants.{Null, Value}
-use Rattle.fast_wire.proofs.FormSizes.{unsigned_sizes, signed_sizes, unsigned_nullable_sizes, signed_nullable_sizes, ascii_sizes, ascii_nullable_sizes, vector_sizes, vector_nullable_sizes}
-use Rattle.fast_value.specs.Scalar.{is_integer, in_range, exponent_in_range, of_integer}
-use Rattle.fast_value.specs.declared.kind.Kind.{Kind}
-use Rattle.fast_value.specs.declared.kind.Kind.TheVariants as kind
-use Rattle.fast_value.specs.declared.kind.Presence.{Presence}
-use Rattle.fast_value.specs.declared.kind.Presence.TheVariants.{Mandatory, Optional}
-use Rattle.fast_value.specs.declared.scalar.Scalar.{Scalar}
-use Rattle.fast_value.specs.declared.scalar.Scalar.TheVariants.{U32, I32, U64, I64, Decimal, Ascii, Unicode, Bytes}
-use Rattle.fast_field.specs.Values.{is_unsigned, integer_of, exponent_of, mantissa_of, units_of, IsUnitKind}
-use Rattle.fast_field.specs.Spelled.{SpellsInteger, SpellsPart, SpellsUnits, SpellsPair, IsOfUnits, SpelledNumber, SpelledString, Spelled}
+use Rattle.fast_field.proofs.Common.{◌≡◌, ℕ, ◌*◌, ◌^◌, ◌<◌, ◌≤◌, Bool, true, false, List, ◌++◌, length, refl, sym, ap, subst, ◌∙◌, arith, length-append, ℤ, pos, negsuc, nat_le, int_le, ◌&&◌, Some, None, IsTrue, AllByRecursion, All-from_recursion, leb-true, Usual, IsAscii, IsAsciiNullable, IsAsciiText, IsUnsigned, IsSigned, magnitude, IsUnsignedNullable, IsSignedNullable, sent_signed, HasSizes, IsVector, IsVectorNullable, IsShortest, Null, Value, unsigned_sizes, signed_sizes, unsigned_nullable_sizes, signed_nullable_sizes, ascii_sizes, ascii_nullable_sizes, vector_sizes, vector_nullable_sizes, is_integer, in_range, exponent_in_range, of_integer, Kind, Presence, Mandatory, Optional, Scalar, U32, I32, U64, I64, Decimal, Ascii, Unicode, Bytes, is_unsigned, integer_of, exponent_of, mantissa_of, units_of, IsUnitKind, SpellsInteger, SpellsPart, SpellsUnits, SpellsPair, IsOfUnits, SpelledNumber, SpelledString, Spelled}
 use Rattle.fast_field.proofs.Refused.{units_are}
 use Rattle.fast_field.proofs.FieldsWithin.{uint_in_range}
 use Rattle.fast_field.proofs.ValuesWithin.{both, IsOfType, IsString, units_of_string}
@@ -63,16 +41,16 @@ pub text_of : (s : List ℕ) → (length s ≤ 65535) × AllByRecursion (λ c. c
 text_of s h = (All-from_recursion (λ c. c < 128) s h.1, h.0)
 
 pub part_stands : (k : Kind) (s : List ℕ) → IsString k s → Stands (SpellsPart Usual k) s
-part_stands kind.Ascii s h = stands_of IsAscii _ _ ascii_sizes s (text_of s h)
+part_stands Kind.Ascii s h = stands_of IsAscii _ _ ascii_sizes s (text_of s h)
 part_stands k s h = stands_of IsVector _ _ vector_sizes s (h.1, h.0)
 
 pub units_stand : (k : Kind) (p : Presence) (s : List ℕ) → IsString k s → Stands (SpellsUnits Usual k p) (Value s)
 units_stand k Mandatory s h = stands_as (SpellsPart Usual k) (SpellsUnits Usual k Mandatory) s (Value s) (λ b h. h) (λ b h. h) (part_stands k s h)
-units_stand kind.Ascii Optional s h = stands_of IsAsciiNullable _ _ ascii_nullable_sizes (Value s) (text_of s h)
+units_stand Kind.Ascii Optional s h = stands_of IsAsciiNullable _ _ ascii_nullable_sizes (Value s) (text_of s h)
 units_stand k Optional s h = stands_of IsVectorNullable _ _ vector_nullable_sizes (Value s) (h.1, h.0)
 
 pub null_units_stand : (k : Kind) → Stands (SpellsUnits Usual k Optional) Null
-null_units_stand kind.Ascii = stands_of IsAsciiNullable _ _ ascii_nullable_sizes Null tt
+null_units_stand Kind.Ascii = stands_of IsAsciiNullable _ _ ascii_nullable_sizes Null tt
 null_units_stand k = stands_of IsVectorNullable _ _ vector_nullable_sizes Null tt
 
 -- ---- pairs of signed numbers
@@ -90,10 +68,10 @@ pair_stands p e m small_e small_m =
 
 -- the number of a value of an integer type is the one that it was made of
 pub number_of : (k : Kind) (z : ℤ) → IsTrue (is_integer k) → IsTrue (in_range k z) → integer_of (of_integer k z) ≡ z
-number_of kind.UInt32 (pos n) i h = refl
-number_of kind.UInt64 (pos n) i h = refl
-number_of kind.Int32 z i h = refl
-number_of kind.Int64 z i h = refl
+number_of Kind.UInt32 (pos n) i h = refl
+number_of Kind.UInt64 (pos n) i h = refl
+number_of Kind.Int32 z i h = refl
+number_of Kind.Int64 z i h = refl
 number_of k z i h = absurd cc
 
 pub record IsNumber (k : Kind) (v : Scalar) : Type 0 where
@@ -101,10 +79,10 @@ pub record IsNumber (k : Kind) (v : Scalar) : Type 0 where
   pub range : IsTrue (in_range k (integer_of v))
 
 pub number_is : (k : Kind) (v : Scalar) → IsTrue (is_integer k) → IsOfType k v → IsNumber k v
-number_is kind.UInt32 (U32 n) i h = record { made = refl; range = uint_in_range n 4294967295 h.1 }
-number_is kind.UInt64 (U64 n) i h = record { made = refl; range = uint_in_range n 18446744073709551615 h.1 }
-number_is kind.Int32 (I32 z) i h = record { made = refl; range = h.1 }
-number_is kind.Int64 (I64 z) i h = record { made = refl; range = h.1 }
+number_is Kind.UInt32 (U32 n) i h = record { made = refl; range = uint_in_range n 4294967295 h.1 }
+number_is Kind.UInt64 (U64 n) i h = record { made = refl; range = uint_in_range n 18446744073709551615 h.1 }
+number_is Kind.Int32 (I32 z) i h = record { made = refl; range = h.1 }
+number_is Kind.Int64 (I64 z) i h = record { made = refl; range = h.1 }
 number_is k v i h = let e = h.0 in absurd cc
 
 signed_small : (z : ℤ) (m n : ℕ) → (int_le (negsuc m) z && int_le z (pos n)) ≡ true → m < 2 ^ 64 → n < 2 ^ 64 → magnitude z < 2 ^ 64
@@ -116,19 +94,19 @@ unsigned_small (pos a) n h high = let w = both (nat_le 0 a) (nat_le a n) h in om
 unsigned_small (negsuc a) n h high = absurd cc
 
 pub range_small : (k : Kind) (z : ℤ) → IsTrue (is_integer k) → IsTrue (in_range k z) → magnitude z < 2 ^ 64
-range_small kind.UInt32 z i h = unsigned_small z 4294967295 h (omega arith)
-range_small kind.UInt64 z i h = unsigned_small z 18446744073709551615 h (omega arith)
-range_small kind.Int32 z i h = signed_small z 2147483647 2147483647 h (omega arith) (omega arith)
-range_small kind.Int64 z i h = signed_small z 9223372036854775807 9223372036854775807 h (omega arith) (omega arith)
+range_small Kind.UInt32 z i h = unsigned_small z 4294967295 h (omega arith)
+range_small Kind.UInt64 z i h = unsigned_small z 18446744073709551615 h (omega arith)
+range_small Kind.Int32 z i h = signed_small z 2147483647 2147483647 h (omega arith) (omega arith)
+range_small Kind.Int64 z i h = signed_small z 9223372036854775807 9223372036854775807 h (omega arith) (omega arith)
 range_small k z i h = absurd cc
 
 -- ---- what stands whole
 
 number_stands : (k : Kind) (p : Presence) (z : ℤ) → IsTrue (is_integer k) → IsTrue (in_range k z) → Stands (SpellsInteger Usual (is_unsigned k) p) (Value z)
-number_stands kind.UInt32 p (pos n) i h = unsigned_stands p n (omega (arith, range_small kind.UInt32 (pos n) i h))
-number_stands kind.UInt64 p (pos n) i h = unsigned_stands p n (omega (arith, range_small kind.UInt64 (pos n) i h))
-number_stands kind.Int32 p z i h = signed_stands p z (omega (arith, range_small kind.Int32 z i h))
-number_stands kind.Int64 p z i h = signed_stands p z (omega (arith, range_small kind.Int64 z i h))
+number_stands Kind.UInt32 p (pos n) i h = unsigned_stands p n (omega (arith, range_small Kind.UInt32 (pos n) i h))
+number_stands Kind.UInt64 p (pos n) i h = unsigned_stands p n (omega (arith, range_small Kind.UInt64 (pos n) i h))
+number_stands Kind.Int32 p z i h = signed_stands p z (omega (arith, range_small Kind.Int32 z i h))
+number_stands Kind.Int64 p z i h = signed_stands p z (omega (arith, range_small Kind.Int64 z i h))
 number_stands k p z i h = absurd cc
 
 pub number_shortest : (k : Kind) (p : Presence) (v : Scalar) (b : List ℕ) → IsTrue (is_integer k) → IsOfType k v → IsShortest (SpellsInteger Usual (is_unsigned k) p) b (Value (integer_of v)) → IsShortest (SpelledNumber Usual k p) b (Some v)
@@ -142,9 +120,9 @@ number_shortest k p v b i h s =
     }
 
 pub of_units_is : (k : Kind) (v : Scalar) → IsUnitKind k → IsOfType k v → IsOfUnits k (units_of v) v
-of_units_is kind.Ascii (Ascii s) u h = refl
-of_units_is kind.Unicode (Unicode s) u h = (h.1.2, refl)
-of_units_is kind.Bytes (Bytes s) u h = refl
+of_units_is Kind.Ascii (Ascii s) u h = refl
+of_units_is Kind.Unicode (Unicode s) u h = (h.1.2, refl)
+of_units_is Kind.Bytes (Bytes s) u h = refl
 of_units_is k v u h = let e = h.0 in absurd (first_of (cc, assumption))
 
 string_shortest : (k : Kind) (p : Presence) (v : Scalar) (b : List ℕ) → IsUnitKind k → IsOfType k v → IsShortest (SpellsUnits Usual k p) b (Value (units_of v)) → IsShortest (SpelledString Usual k p) b (Some v)
@@ -154,15 +132,15 @@ string_shortest k p v b u h s = record {
 }
 
 pub string_is_shortest : (k : Kind) (p : Presence) (v : Scalar) (b : List ℕ) → IsUnitKind k → IsOfType k v → IsShortest (SpellsUnits Usual k p) b (Value (units_of v)) → IsShortest (Spelled Usual k p) b (Some v)
-string_is_shortest kind.Ascii p v b u h s = let n = string_shortest kind.Ascii p v b u h s in record { form = n.form; least = n.least }
-string_is_shortest kind.Unicode p v b u h s = let n = string_shortest kind.Unicode p v b u h s in record { form = n.form; least = n.least }
-string_is_shortest kind.Bytes p v b u h s = let n = string_shortest kind.Bytes p v b u h s in record { form = n.form; least = n.least }
+string_is_shortest Kind.Ascii p v b u h s = let n = string_shortest Kind.Ascii p v b u h s in record { form = n.form; least = n.least }
+string_is_shortest Kind.Unicode p v b u h s = let n = string_shortest Kind.Unicode p v b u h s in record { form = n.form; least = n.least }
+string_is_shortest Kind.Bytes p v b u h s = let n = string_shortest Kind.Bytes p v b u h s in record { form = n.form; least = n.least }
 string_is_shortest k p v b u h s = absurd u
 
 pub exponent_small : (e : ℤ) → IsTrue (exponent_in_range e) → magnitude e < 2 ^ 64
 exponent_small e h = signed_small e 62 63 h (omega arith) (omega arith)
 
-pub decimal_is_shortest : (p : Presence) (e m : ℤ) (b : List ℕ) → IsOfType kind.Decimal (Decimal e m) → SpellsPair Usual p b e m → ((o : List ℕ) → SpellsPair Usual p o e m → length b ≤ length o) → IsShortest (Spelled Usual kind.Decimal p) b (Some (Decimal e m))
+pub decimal_is_shortest : (p : Presence) (e m : ℤ) (b : List ℕ) → IsOfType Kind.Decimal (Decimal e m) → SpellsPair Usual p b e m → ((o : List ℕ) → SpellsPair Usual p o e m → length b ≤ length o) → IsShortest (Spelled Usual Kind.Decimal p) b (Some (Decimal e m))
 decimal_is_shortest p e m b h form least = record {
   form = record { exponent = e; mantissa = m; form = form; value = (h.1.0, h.1.1, refl) };
   least = λ other o.
@@ -179,22 +157,22 @@ whole_number k p v i h = let s = number_stands k p (integer_of v) i (number_is k
 whole_string : (k : Kind) (p : Presence) (v : Scalar) → IsUnitKind k → IsOfType k v → Stands (Spelled Usual k p) (Some v)
 whole_string k p v u h = let s = units_stand k p (units_of v) (units_of_string k v u h) in (s.0, string_is_shortest k p v s.0 u h s.1)
 
-whole_decimal : (p : Presence) (v : Scalar) → IsOfType kind.Decimal v → Stands (Spelled Usual kind.Decimal p) (Some v)
+whole_decimal : (p : Presence) (v : Scalar) → IsOfType Kind.Decimal v → Stands (Spelled Usual Kind.Decimal p) (Some v)
 whole_decimal p (Decimal e m) h =
-    let s = pair_stands p e m (omega (arith, exponent_small e h.1.0)) (omega (arith, range_small kind.Int64 m refl h.1.1)) in
+    let s = pair_stands p e m (omega (arith, exponent_small e h.1.0)) (omega (arith, range_small Kind.Int64 m refl h.1.1)) in
     (s.0, decimal_is_shortest p e m s.0 h s.1 s.2)
 whole_decimal p v h = let e = h.0 in absurd cc
 
 pub whole_stands : (k : Kind) (p : Presence) (v : Scalar) → IsOfType k v → Stands (Spelled Usual k p) (Some v)
-whole_stands kind.Decimal p v h = whole_decimal p v h
-whole_stands kind.Ascii p v h = whole_string kind.Ascii p v tt h
-whole_stands kind.Unicode p v h = whole_string kind.Unicode p v tt h
-whole_stands kind.Bytes p v h = whole_string kind.Bytes p v tt h
+whole_stands Kind.Decimal p v h = whole_decimal p v h
+whole_stands Kind.Ascii p v h = whole_string Kind.Ascii p v tt h
+whole_stands Kind.Unicode p v h = whole_string Kind.Unicode p v tt h
+whole_stands Kind.Bytes p v h = whole_string Kind.Bytes p v tt h
 whole_stands k p v h = whole_number k p v refl h
 
 pub null_whole_stands : (k : Kind) → Stands (Spelled Usual k Optional) None
-null_whole_stands kind.Decimal = stands_as (SpellsInteger Usual false Optional) (Spelled Usual kind.Decimal Optional) Null None (λ b h. h) (λ b h. h) (null_stands false)
-null_whole_stands kind.Ascii = stands_as (SpellsUnits Usual kind.Ascii Optional) (Spelled Usual kind.Ascii Optional) Null None (λ b h. h) (λ b h. h) (null_units_stand kind.Ascii)
-null_whole_stands kind.Unicode = stands_as (SpellsUnits Usual kind.Unicode Optional) (Spelled Usual kind.Unicode Optional) Null None (λ b h. h) (λ b h. h) (null_units_stand kind.Unicode)
-null_whole_stands kind.Bytes = stands_as (SpellsUnits Usual kind.Bytes Optional) (Spelled Usual kind.Bytes Optional) Null None (λ b h. h) (λ b h. h) (null_units_stand kind.Bytes)
+null_whole_stands Kind.Decimal = stands_as (SpellsInteger Usual false Optional) (Spelled Usual Kind.Decimal Optional) Null None (λ b h. h) (λ b h. h) (null_stands false)
+null_whole_stands Kind.Ascii = stands_as (SpellsUnits Usual Kind.Ascii Optional) (Spelled Usual Kind.Ascii Optional) Null None (λ b h. h) (λ b h. h) (null_units_stand Kind.Ascii)
+null_whole_stands Kind.Unicode = stands_as (SpellsUnits Usual Kind.Unicode Optional) (Spelled Usual Kind.Unicode Optional) Null None (λ b h. h) (λ b h. h) (null_units_stand Kind.Unicode)
+null_whole_stands Kind.Bytes = stands_as (SpellsUnits Usual Kind.Bytes Optional) (Spelled Usual Kind.Bytes Optional) Null None (λ b h. h) (λ b h. h) (null_units_stand Kind.Bytes)
 null_whole_stands k = stands_as (SpellsInteger Usual (is_unsigned k) Optional) (Spelled Usual k Optional) Null None (λ b h. h) (λ b h. h) (null_stands (is_unsigned k))

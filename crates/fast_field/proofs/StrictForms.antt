@@ -1,29 +1,6 @@
 -- A form at a level is one at the usual level; and a best form has no entity that is longer than it needs to be, so it is
 -- one at the strict level.
-use Rattle.std.proofs.Common.{◌≡◌, ℕ, ◌≤◌, Bool, true, false, List, ◌++◌, length, refl, ap, arith, inl, inr, length-append}
-use Rattle.std.specs.Prelude.{ℤ, pos, Option, Some, None}
-use Rattle.fast_wire.specs.Level.{BeginsShort, AtLevel, overlong_signed}
-use Rattle.fast_wire.specs.Integer.{IsSigned}
-use Rattle.fast_wire.specs.Writing.{IsShortest}
-use Rattle.fast_wire.specs.declared.level.Level.{Level}
-use Rattle.fast_wire.specs.declared.level.Level.TheVariants.{Usual, Strict}
-use Rattle.fast_wire.specs.declared.nullable.Nullable.{Nullable}
-use Rattle.fast_wire.specs.declared.nullable.Nullable.TheVariants.{Null, Value}
-use Rattle.fast_wire.proofs.NotOverlong.{shortest_unsigned_begins, shortest_unsigned_nullable_begins, shortest_signed_begins, shortest_signed_nullable_begins, shortest_ascii_begins, shortest_ascii_nullable_begins, shortest_vector_begins, shortest_vector_nullable_begins}
-use Rattle.fast_value.specs.declared.kind.Kind.{Kind}
-use Rattle.fast_value.specs.declared.kind.Kind.TheVariants as kind
-use Rattle.fast_value.specs.declared.kind.Operator.{Operator}
-use Rattle.fast_value.specs.declared.kind.Operator.TheVariants as operator
-use Rattle.fast_value.specs.declared.kind.Presence.{Presence}
-use Rattle.fast_value.specs.declared.kind.Presence.TheVariants.{Mandatory, Optional}
-use Rattle.fast_value.specs.declared.scalar.Scalar.{Scalar}
-use Rattle.fast_template.specs.declared.resolved.FieldPart.{FieldPart}
-use Rattle.fast_dictionary.specs.declared.entry.Entry.{Entry}
-use Rattle.fast_field.specs.Values.{is_unsigned}
-use Rattle.fast_field.specs.Spelled.{overlong_number, overlong_units, SpellsIntegerUsually, SpellsInteger, SpellsMantissa, SpellsPartUsually, SpellsPart, SpellsUnitsUsually, SpellsUnits, SpellsNumber, SpellsString, SpellsPair, SpellsDecimal, Spelled}
-use Rattle.fast_field.specs.Deltas.{Cut, SpellsCut, DeltaValue, DeltaForm, TailForm}
-use Rattle.fast_field.specs.Fields.{FormOf, Form}
-use Rattle.fast_field.specs.Best.{NoLater, IsBest}
+use Rattle.fast_field.proofs.Common.{◌≡◌, ℕ, ◌≤◌, Bool, true, false, List, ◌++◌, length, refl, ap, arith, inl, inr, length-append, ℤ, pos, Option, Some, None, BeginsShort, AtLevel, overlong_signed, IsSigned, IsShortest, Level, Usual, Strict, Nullable, Null, Value, shortest_unsigned_begins, shortest_unsigned_nullable_begins, shortest_signed_begins, shortest_signed_nullable_begins, shortest_ascii_begins, shortest_ascii_nullable_begins, shortest_vector_begins, shortest_vector_nullable_begins, Kind, Operator, Presence, Mandatory, Optional, Scalar, FieldPart, Entry, is_unsigned, overlong_number, overlong_units, SpellsIntegerUsually, SpellsInteger, SpellsMantissa, SpellsPartUsually, SpellsPart, SpellsUnitsUsually, SpellsUnits, SpellsNumber, SpellsString, SpellsPair, SpellsDecimal, Spelled, Cut, SpellsCut, DeltaValue, DeltaForm, TailForm, FormOf, Form, NoLater, IsBest}
 
 -- ---- the shortest entities
 
@@ -36,13 +13,13 @@ integer_begins false Optional b z h = shortest_signed_nullable_begins b z (recor
 integer_begins u p b z h = absurd h.form
 
 part_begins : (k : Kind) (b s : List ℕ) → IsShortest (SpellsPartUsually k) b s → BeginsShort (overlong_units k Mandatory) b
-part_begins kind.Ascii b s h = shortest_ascii_begins b s (record { form = h.form; least = h.least })
+part_begins Kind.Ascii b s h = shortest_ascii_begins b s (record { form = h.form; least = h.least })
 part_begins k b s h = shortest_vector_begins b s (record { form = h.form; least = h.least })
 
 units_begin : (k : Kind) (p : Presence) (b : List ℕ) (s : Nullable (List ℕ)) → IsShortest (SpellsUnitsUsually k p) b s → BeginsShort (overlong_units k p) b
 units_begin k Mandatory b Null h = absurd h.form
 units_begin k Mandatory b (Value s) h = part_begins k b s (record { form = h.form; least = h.least })
-units_begin kind.Ascii Optional b s h = shortest_ascii_nullable_begins b s (record { form = h.form; least = h.least })
+units_begin Kind.Ascii Optional b s h = shortest_ascii_nullable_begins b s (record { form = h.form; least = h.least })
 units_begin k Optional b s h = shortest_vector_nullable_begins b s (record { form = h.form; least = h.least })
 
 abbrev AreNoShorter : (List ℕ → Type 0) → List ℕ → Type 0
@@ -111,14 +88,14 @@ module _ (from to : Level) where
   }
 
   spelled : (k : Kind) (p : Presence) (b : List ℕ) (v : Option Scalar) → Spelled from k p b v → (to ≡ Strict → AreNoShorter (λ o. Spelled from k p o v) b) → Spelled to k p b v
-  spelled kind.Decimal p b None h least = integer false p b Null h least
-  spelled kind.Decimal p b (Some v) h least = decimal p b v h least
-  spelled kind.Ascii p b None h least = units kind.Ascii p b Null h least
-  spelled kind.Ascii p b (Some v) h least = string kind.Ascii p b v h least
-  spelled kind.Unicode p b None h least = units kind.Unicode p b Null h least
-  spelled kind.Unicode p b (Some v) h least = string kind.Unicode p b v h least
-  spelled kind.Bytes p b None h least = units kind.Bytes p b Null h least
-  spelled kind.Bytes p b (Some v) h least = string kind.Bytes p b v h least
+  spelled Kind.Decimal p b None h least = integer false p b Null h least
+  spelled Kind.Decimal p b (Some v) h least = decimal p b v h least
+  spelled Kind.Ascii p b None h least = units Kind.Ascii p b Null h least
+  spelled Kind.Ascii p b (Some v) h least = string Kind.Ascii p b v h least
+  spelled Kind.Unicode p b None h least = units Kind.Unicode p b Null h least
+  spelled Kind.Unicode p b (Some v) h least = string Kind.Unicode p b v h least
+  spelled Kind.Bytes p b None h least = units Kind.Bytes p b Null h least
+  spelled Kind.Bytes p b (Some v) h least = string Kind.Bytes p b v h least
   spelled k p b None h least = integer (is_unsigned k) p b Null h least
   spelled k p b (Some v) h least = number k p b v h least
 
@@ -138,16 +115,16 @@ module _ (from to : Level) where
   }
 
   delta_value : (k : Kind) (p : Presence) (base : Scalar) (c : Cut) (b : List ℕ) (v : Scalar) → DeltaValue from k p base c b v → (to ≡ Strict → AreNoShorter (λ o. DeltaValue from k p base c o v) b) → DeltaValue to k p base c b v
-  delta_value kind.Decimal p base c b v h least = record {
+  delta_value Kind.Decimal p base c b v h least = record {
     exponent_delta = h.exponent_delta;
     mantissa_delta = h.mantissa_delta;
     form = pair p b h.exponent_delta h.mantissa_delta h.form (λ s o f. least s o (record { exponent_delta = h.exponent_delta; mantissa_delta = h.mantissa_delta; form = f; value = h.value; cut_is = h.cut_is }));
     value = h.value;
     cut_is = h.cut_is;
   }
-  delta_value kind.Ascii p base c b v h least = cut kind.Ascii p base c b v h least
-  delta_value kind.Unicode p base c b v h least = cut kind.Unicode p base c b v h least
-  delta_value kind.Bytes p base c b v h least = cut kind.Bytes p base c b v h least
+  delta_value Kind.Ascii p base c b v h least = cut Kind.Ascii p base c b v h least
+  delta_value Kind.Unicode p base c b v h least = cut Kind.Unicode p base c b v h least
+  delta_value Kind.Bytes p base c b v h least = cut Kind.Bytes p base c b v h least
   delta_value k p base c b v h least = record {
     delta = h.delta;
     form = integer false p b (Value h.delta) h.form (λ s o f. least s o (record { delta = h.delta; form = f; range = h.range; value = h.value; cut_is = h.cut_is }));
@@ -175,10 +152,10 @@ module _ (from to : Level) where
       )
 
   row : (o : Operator) (i : FieldPart) (e : Entry) (bit : Bool) (c : Cut) (b : List ℕ) (v : Option Scalar) → FormOf from o i e bit c b v → (to ≡ Strict → AreNoShorter (λ x. FormOf from o i e bit c x v) b) → FormOf to o i e bit c b v
-  row operator.Plain i e false c b v h least = h
-  row operator.Constant i e true c b v h least = h
-  row operator.Delta i e true c b v h least = delta i e c b v h least
-  row operator.Tail i e true c b v h least = tail i e c b v h least
+  row Operator.Plain i e false c b v h least = h
+  row Operator.Constant i e true c b v h least = h
+  row Operator.Delta i e true c b v h least = delta i e c b v h least
+  row Operator.Tail i e true c b v h least = tail i e c b v h least
   row o i e false c b v h least = h
   row o i e true c b v h least = (h.0, spelled i.kind i.presence b v h.1 (λ s o f. least s o (h.0, f)))
 

@@ -1,11 +1,5 @@
 -- Two pieces, one behind the other.
-use Rattle.std.proofs.lemmas.Int.{to_z-of_z}
-use Rattle.std.proofs.Common.{◌≡◌, ℕ, ◌+◌, List, ◌++◌, refl, ap, ◌∙◌, arith, SFits, length-append}
-use Rattle.std.proofs.lemmas.List.{append_assoc}
-use Rattle.std.proofs.lemmas.Int.{ints}
-use Rattle.std.specs.Int.{w128}
-use Rattle.std.specs.Prelude.{ℤ, pos, negsuc}
-use Rattle.fast_field.specs.Chosen.{Both, HasSize, IsSmall}
+use Rattle.fast_field.proofs.Common.{to_z-of_z, ◌≡◌, ℕ, ◌+◌, List, ◌++◌, refl, ap, ◌∙◌, arith, SFits, length-append, append_assoc, ints, w128, ℤ, pos, negsuc, Both, HasSize, IsSmall}
 
 pub both_size : (First Second : List ℕ → Type 0) (m n : ℕ) → HasSize First m → HasSize Second n → HasSize (Both First Second) (m + n)
 both_size First Second m n a b =

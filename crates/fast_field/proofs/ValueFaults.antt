@@ -1,44 +1,20 @@
 -- What makes values refuses them for a check that fails: it neither wants more bytes nor memory.
-use Rattle.std.proofs.Common.{◌≡◌, ℕ, true, false, Bool, List, length, Result, Ok, Err, subst}
-use Rattle.std.specs.Prelude.{ℤ, ◌+ℤ◌, nat_lt, if◌then◌else◌, Option, Some, None}
-use Rattle.std.specs.Str.{is_utf8}
-use Rattle.fast_wire.specs.Reading.{◌>>=◌}
-use Rattle.fast_wire.specs.declared.nullable.Nullable.{Nullable}
-use Rattle.fast_wire.specs.declared.nullable.Nullable.TheVariants.{Null, Value}
-use Rattle.fast_value.specs.Scalar.{is_of, in_range}
-use Rattle.fast_value.specs.declared.kind.Kind.{Kind}
-use Rattle.fast_value.specs.declared.kind.Kind.TheVariants as kind
-use Rattle.fast_value.specs.declared.kind.Part.{Part}
-use Rattle.fast_value.specs.declared.kind.Part.TheVariants as part
-use Rattle.fast_value.specs.declared.kind.Presence.{Presence}
-use Rattle.fast_value.specs.declared.kind.Presence.TheVariants.{Mandatory, Optional}
-use Rattle.fast_template.specs.declared.resolved.FieldPart.{FieldPart}
-use Rattle.fast_value.specs.declared.scalar.Scalar.{Scalar}
-use Rattle.fast_dictionary.specs.declared.entry.Entry.{Entry}
-use Rattle.fast_dictionary.specs.declared.entry.Entry.TheVariants.{Undefined, Empty, Assigned}
-use Rattle.fast_field.specs.declared.fault.FieldFault.{FieldFault}
-use Rattle.fast_field.specs.declared.fault.FieldFault.TheVariants as fault
-use Rattle.fast_field.specs.Values.{integer_of}
-use Rattle.fast_field.specs.Bases.{delta_base, tail_base, absent_or, initial_or, predicted}
-use Rattle.fast_field.specs.Deltas.{ended_by}
-use Rattle.fast_field.specs.Values.{units_of}
-use Rattle.fast_field.specs.Fields.{within_part}
-use Rattle.fast_field.specs.FieldReading.{as_value, check, unless_null, range_fault, integer_value, decimal_value, unit_value, limited_value, integer_sum, ended_value, part_checked}
+use Rattle.fast_field.proofs.Common.{◌≡◌, ℕ, true, false, Bool, List, length, Result, Ok, Err, subst, ℤ, ◌+ℤ◌, nat_lt, if◌then◌else◌, Option, Some, None, is_utf8, ◌>>=◌, Nullable, Null, Value, is_of, in_range, Kind, Part, Presence, Mandatory, Optional, FieldPart, Scalar, Entry, Undefined, Empty, Assigned, FieldFault, integer_of, delta_base, tail_base, absent_or, initial_or, predicted, ended_by, units_of, within_part, as_value, check, unless_null, range_fault, integer_value, decimal_value, unit_value, limited_value, integer_sum, ended_value, part_checked}
 
 -- ---- steps
 
 -- no fault, or that of a check: neither bytes nor memory are wanted
 abbrev pub NoWant : {A : Type 0} → Result A FieldFault → Type 0
 NoWant (Ok x) = Unit {0}
-NoWant (Err fault.NeedMore) = ⊥
-NoWant (Err fault.Memory) = ⊥
+NoWant (Err FieldFault.NeedMore) = ⊥
+NoWant (Err FieldFault.Memory) = ⊥
 NoWant (Err f) = Unit {0}
 
-pub never : {A : Type 0} (r : Result A FieldFault) → NoWant r → r ≡ Err fault.NeedMore → ⊥
+pub never : {A : Type 0} (r : Result A FieldFault) → NoWant r → r ≡ Err FieldFault.NeedMore → ⊥
 never {A} r h e = subst (λ (x : Result A FieldFault). NoWant x) e h
 
 -- after a step that wants no bytes
-pub never_then : {A B : Type 0} (r : Result A FieldFault) (k : A → Result B FieldFault) → (r ≡ Err fault.NeedMore → ⊥) → ((x : A) → NoWant (k x)) → (r >>= k) ≡ Err fault.NeedMore → ⊥
+pub never_then : {A B : Type 0} (r : Result A FieldFault) (k : A → Result B FieldFault) → (r ≡ Err FieldFault.NeedMore → ⊥) → ((x : A) → NoWant (k x)) → (r >>= k) ≡ Err FieldFault.NeedMore → ⊥
 never_then (Ok x) k h on e = never (k x) (on x) e
 never_then (Err d) k h on e = h cc
 
@@ -67,8 +43,8 @@ if_allowed true x d h = tt
 if_allowed false x d h = h
 
 range : (p : Part) → NoWant {A = Scalar} (Err (range_fault p))
-range part.Exponent = tt
-range part.Mantissa = tt
+range Part.Exponent = tt
+range Part.Mantissa = tt
 range p = tt
 
 -- ---- values
@@ -79,16 +55,16 @@ integer_made pt k z = if_allowed (in_range k z) _ (range_fault pt) (range pt)
 
 pub decimal_made : (e m : ℤ) → NoWant (decimal_value e m)
 unfolding decimal_value
-decimal_made e m = if_allowed (in_range kind.Int64 m) _ fault.R1 tt
+decimal_made e m = if_allowed (in_range Kind.Int64 m) _ FieldFault.R1 tt
 
 pub unit_made : (k : Kind) (s : List ℕ) → NoWant (unit_value k s)
 unfolding unit_value
-unit_made kind.Unicode s = if_allowed (is_utf8 s) _ fault.R2 tt
+unit_made Kind.Unicode s = if_allowed (is_utf8 s) _ FieldFault.R2 tt
 unit_made k s = tt
 
 pub few_made : (k : Kind) (s : List ℕ) → NoWant (limited_value k s)
 unfolding limited_value
-few_made k s = elim (nat_lt 65535 (length s)) as (λ t. NoWant (if t then Err fault.Limit else unit_value k s)) [
+few_made k s = elim (nat_lt 65535 (length s)) as (λ t. NoWant (if t then Err FieldFault.Limit else unit_value k s)) [
   | true ↦ tt
   | false ↦ unit_made k s
 ]
@@ -98,24 +74,24 @@ few_made k s = elim (nat_lt 65535 (length s)) as (λ t. NoWant (if t then Err fa
 pub base_of_delta : (i : FieldPart) (e : Entry) → NoWant (delta_base i e)
 base_of_delta i Undefined = tt
 base_of_delta i Empty = tt
-base_of_delta i (Assigned v) = if_allowed (is_of i.kind v) v fault.D4 tt
+base_of_delta i (Assigned v) = if_allowed (is_of i.kind v) v FieldFault.D4 tt
 
 base_of_tail : (i : FieldPart) (e : Entry) → NoWant (tail_base i e)
-base_of_tail i (Assigned v) = if_allowed (is_of i.kind v) v fault.D4 tt
+base_of_tail i (Assigned v) = if_allowed (is_of i.kind v) v FieldFault.D4 tt
 base_of_tail i e = tt
 
 absent : (d : FieldFault) (p : Presence) → NoWant {A = Option Scalar} (Err d) → NoWant (absent_or d p)
 absent d Mandatory h = h
 absent d Optional h = tt
 
-initial : (i : FieldPart) (v : Option Scalar) → NoWant (initial_or fault.D5 i v)
-initial i None = absent fault.D5 i.presence tt
+initial : (i : FieldPart) (v : Option Scalar) → NoWant (initial_or FieldFault.D5 i v)
+initial i None = absent FieldFault.D5 i.presence tt
 initial i (Some v) = tt
 
 pub foretold : (i : FieldPart) (e : Entry) → NoWant (predicted i e)
 foretold i Undefined = initial i i.initial
-foretold i Empty = absent fault.D6 i.presence tt
-foretold i (Assigned v) = if_allowed (is_of i.kind v) _ fault.D4 tt
+foretold i Empty = absent FieldFault.D6 i.presence tt
+foretold i (Assigned v) = if_allowed (is_of i.kind v) _ FieldFault.D4 tt
 
 pub summed : (i : FieldPart) (e : Entry) (d : ℤ) → NoWant (integer_sum i e d)
 unfolding integer_sum
@@ -128,6 +104,6 @@ ended i e tail = both_calm (tail_base i e) _ (base_of_tail i e) (λ base. few_ma
 pub part_allowed : (p : Part) (v : Option Scalar) → NoWant (part_checked p v)
 unfolding part_checked
 part_allowed p None = tt
-part_allowed part.Exponent (Some v) = if_allowed (within_part part.Exponent v) _ fault.R1 tt
-part_allowed part.Length (Some v) = if_allowed (within_part part.Length v) _ fault.Limit tt
+part_allowed Part.Exponent (Some v) = if_allowed (within_part Part.Exponent v) _ FieldFault.R1 tt
+part_allowed Part.Length (Some v) = if_allowed (within_part Part.Length v) _ FieldFault.Limit tt
 part_allowed p (Some v) = tt

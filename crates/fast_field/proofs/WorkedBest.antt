@@ -1,27 +1,9 @@
 -- Worked rows: the form that a writer chooses.
-use Rattle.std.proofs.Common.{ℕ, Bool, true, false, List, [], ◌∷◌, Some, None, pos, negsuc, refl, arith}
-use Rattle.std.specs.Prelude.{codes, IsTrue}
-use Rattle.fast_wire.specs.declared.level.Level.TheVariants.{Usual}
-use Rattle.fast_wire.specs.Reading.{entity_at, signed_at, ascii_at, ascii_nullable_at}
-use Rattle.fast_wire.specs.Sizes.{groups_from, signed_size}
-use Rattle.fast_template.specs.TemplateSets.{applies}
-use Rattle.fast_value.specs.declared.kind.Kind.{Kind}
-use Rattle.fast_value.specs.declared.kind.Kind.TheVariants as kind
-use Rattle.fast_value.specs.declared.kind.Operator.TheVariants.{Tail}
-use Rattle.fast_value.specs.declared.kind.Presence.{Presence}
-use Rattle.fast_value.specs.declared.kind.Presence.TheVariants.{Mandatory, Optional}
-use Rattle.fast_value.specs.declared.scalar.Scalar.TheVariants.{U32, I32, Ascii, Unicode}
-use Rattle.fast_dictionary.specs.declared.entry.Entry.TheVariants.{Undefined, Empty}
-use Rattle.fast_field.specs.FieldReading.{integer_at, part_at, units_at}
-use Rattle.fast_field.specs.Fields.{Form}
-use Rattle.fast_field.specs.Best.{IsBest}
+use Rattle.fast_field.proofs.Common.{ℕ, Bool, true, false, List, [], ◌∷◌, Some, None, pos, negsuc, refl, arith, codes, IsTrue, Usual, entity_at, signed_at, ascii_at, ascii_nullable_at, groups_from, signed_size, applies, Kind, Tail, Presence, Mandatory, Optional, U32, I32, Ascii, Unicode, Undefined, Empty, integer_at, part_at, units_at, Form, IsBest, IsFieldPart, value_refusal, FieldRefusal}
 use Rattle.fast_field.proofs.BestForms.{bit_zero_is_best}
 use Rattle.fast_field.proofs.BestValues.{constant_is_first, best_under_one}
 use Rattle.fast_field.proofs.ComputedBest.{delta_row, tail_row, text_is}
 use Rattle.fast_field.proofs.Refused.{refused_has_none}
-use Rattle.fast_field.specs.Parts.{IsFieldPart}
-use Rattle.fast_field.specs.Refusals.{value_refusal}
-use Rattle.fast_field.specs.declared.fault.FieldRefusal.TheVariants as refusal
 use Rattle.fast_field.proofs.WorkedFields.{field, text, number, quote_seq, quote_sym, quote_qty, opt_px_exponent, fixed_px_exponent, tail_s, init_s, delta_s, uni_s, const_k, const_o, const_d}
 
 -- ---- what bit 0 gives is never sent
@@ -100,16 +82,16 @@ tail_part k p applies = record {
 
 other_than_constant : (bit : Bool) (b : List ℕ) → Form Usual const_k Undefined bit b (Some (U32 8)) → ⊥
 unfolding value_refusal
-other_than_constant = refused_has_none Usual const_k Undefined (Some (U32 8)) refusal.NotConstant whole_constant tt refl
+other_than_constant = refused_has_none Usual const_k Undefined (Some (U32 8)) FieldRefusal.NotConstant whole_constant tt refl
 
 other_than_constant_exponent : (bit : Bool) (b : List ℕ) → Form Usual fixed_px_exponent Undefined bit b (Some (I32 (negsuc 0))) → ⊥
 unfolding value_refusal
-other_than_constant_exponent = refused_has_none Usual fixed_px_exponent Undefined (Some (I32 (negsuc 0))) refusal.D3 constant_exponent tt refl
+other_than_constant_exponent = refused_has_none Usual fixed_px_exponent Undefined (Some (I32 (negsuc 0))) FieldRefusal.D3 constant_exponent tt refl
 
 shorter_than_base : (bit : Bool) (b : List ℕ) → Form Usual tail_s (text (codes "xab")) bit b (Some (Ascii (codes "x"))) → ⊥
 unfolding value_refusal
-shorter_than_base = refused_has_none Usual tail_s (text (codes "xab")) (Some (Ascii (codes "x"))) refusal.TooShort (tail_part kind.Ascii Optional refl) (text_is (codes "xab") refl).1 refl
+shorter_than_base = refused_has_none Usual tail_s (text (codes "xab")) (Some (Ascii (codes "x"))) FieldRefusal.TooShort (tail_part Kind.Ascii Optional refl) (text_is (codes "xab") refl).1 refl
 
 base_of_another_type : (bit : Bool) (b : List ℕ) → Form Usual uni_s (text (codes "xab")) bit b (Some (Unicode (0xC3 ∷ 0xA9 ∷ []))) → ⊥
 unfolding value_refusal
-base_of_another_type = refused_has_none Usual uni_s (text (codes "xab")) (Some (Unicode (0xC3 ∷ 0xA9 ∷ []))) refusal.D4 (tail_part kind.Unicode Mandatory refl) (text_is (codes "xab") refl).1 refl
+base_of_another_type = refused_has_none Usual uni_s (text (codes "xab")) (Some (Unicode (0xC3 ∷ 0xA9 ∷ []))) FieldRefusal.D4 (tail_part Kind.Unicode Mandatory refl) (text_is (codes "xab") refl).1 refl

@@ -1,25 +1,5 @@
 -- The fields of the worked rows, and how a row reads.
-use Rattle.std.proofs.Common.{◌≡◌, ℕ, List, [], ◌∷◌, drop, Option, Some, None, Bool, Result, Ok, Err, pos, negsuc}
-use Rattle.std.specs.Prelude.{codes}
-use Rattle.fast_wire.specs.declared.level.Level.TheVariants.{Usual}
-use Rattle.fast_value.specs.declared.kind.Kind.{Kind}
-use Rattle.fast_value.specs.declared.kind.Kind.TheVariants as kind
-use Rattle.fast_value.specs.declared.kind.Presence.{Presence}
-use Rattle.fast_value.specs.declared.kind.Presence.TheVariants.{Mandatory, Optional}
-use Rattle.fast_value.specs.declared.kind.Operator.{Operator}
-use Rattle.fast_value.specs.declared.kind.Operator.TheVariants.{Constant, Default, Copy, Increment, Delta, Tail}
-use Rattle.fast_value.specs.declared.kind.Part.{Part}
-use Rattle.fast_value.specs.declared.kind.Part.TheVariants.{Whole, Exponent}
-use Rattle.fast_value.specs.declared.key.Scope.TheVariants.{Global}
-use Rattle.fast_template.specs.declared.resolved.FieldPart.{FieldPart}
-use Rattle.fast_value.specs.declared.scalar.Scalar.{Scalar}
-use Rattle.fast_value.specs.declared.scalar.Scalar.TheVariants.{U32, I32, Ascii}
-use Rattle.fast_dictionary.specs.declared.entry.Entry.{Entry}
-use Rattle.fast_dictionary.specs.declared.entry.Entry.TheVariants.{Assigned}
-use Rattle.fast_wire.specs.Reading.{◌>>=◌}
-use Rattle.fast_field.specs.declared.fault.FieldFault.{FieldFault}
-use Rattle.fast_field.specs.Bases.{next}
-use Rattle.fast_field.specs.FieldReading.{field_at}
+use Rattle.fast_field.proofs.Common.{◌≡◌, ℕ, List, [], ◌∷◌, drop, Option, Some, None, Bool, Result, Ok, Err, pos, negsuc, codes, Usual, Kind, Presence, Mandatory, Optional, Operator, Constant, Default, Copy, Increment, Delta, Tail, Part, Whole, Exponent, Global, FieldPart, Scalar, U32, I32, Ascii, Entry, Assigned, ◌>>=◌, FieldFault, next, field_at}
 
 abbrev pub part_of : Part → Kind → Presence → Operator → Option Scalar → FieldPart
 part_of p k presence operator initial = record {
@@ -40,40 +20,40 @@ field_with k presence operator initial = part_of Whole k presence operator (Some
 
 -- each field by the names of its template and of itself
 abbrev pub quote_seq : FieldPart
-quote_seq = field kind.UInt32 Mandatory Increment
+quote_seq = field Kind.UInt32 Mandatory Increment
 
 abbrev pub quote_sym : FieldPart
-quote_sym = field kind.Ascii Mandatory Copy
+quote_sym = field Kind.Ascii Mandatory Copy
 
 abbrev pub quote_qty : FieldPart
-quote_qty = field kind.UInt32 Optional Copy
+quote_qty = field Kind.UInt32 Optional Copy
 
 abbrev pub opt_px_exponent : FieldPart
-opt_px_exponent = part_of Exponent kind.Int32 Optional Default (Some (I32 (pos 2)))
+opt_px_exponent = part_of Exponent Kind.Int32 Optional Default (Some (I32 (pos 2)))
 
 abbrev pub fixed_px_exponent : FieldPart
-fixed_px_exponent = part_of Exponent kind.Int32 Mandatory Constant (Some (I32 (negsuc 1)))
+fixed_px_exponent = part_of Exponent Kind.Int32 Mandatory Constant (Some (I32 (negsuc 1)))
 
 abbrev pub tail_s : FieldPart
-tail_s = field kind.Ascii Optional Tail
+tail_s = field Kind.Ascii Optional Tail
 
 abbrev pub init_s : FieldPart
-init_s = field_with kind.Ascii Optional Tail (Ascii (codes "ab"))
+init_s = field_with Kind.Ascii Optional Tail (Ascii (codes "ab"))
 
 abbrev pub delta_s : FieldPart
-delta_s = field kind.Ascii Mandatory Delta
+delta_s = field Kind.Ascii Mandatory Delta
 
 abbrev pub uni_s : FieldPart
-uni_s = field kind.Unicode Mandatory Tail
+uni_s = field Kind.Unicode Mandatory Tail
 
 abbrev pub const_k : FieldPart
-const_k = field_with kind.UInt32 Mandatory Constant (U32 7)
+const_k = field_with Kind.UInt32 Mandatory Constant (U32 7)
 
 abbrev pub const_o : FieldPart
-const_o = field_with kind.UInt32 Optional Constant (U32 9)
+const_o = field_with Kind.UInt32 Optional Constant (U32 9)
 
 abbrev pub const_d : FieldPart
-const_d = field_with kind.UInt32 Mandatory Default (U32 3)
+const_d = field_with Kind.UInt32 Mandatory Default (U32 3)
 
 -- an entry with a text, and with a number
 abbrev pub text : List ℕ → Entry

@@ -1,11 +1,5 @@
 -- What was appended is the best form.
-use Rattle.std.proofs.Common.{◌≡◌, Bool, List, ℕ, ◌++◌}
-use Rattle.std.specs.Prelude.{Option}
-use Rattle.fast_template.specs.declared.resolved.FieldPart.{FieldPart}
-use Rattle.fast_value.specs.declared.scalar.Scalar.{Scalar}
-use Rattle.fast_dictionary.specs.declared.entry.Entry.{Entry}
-use Rattle.fast_field.specs.Best.{IsBest}
-use Rattle.fast_field.specs.Written.{AppendsBest}
+use Rattle.fast_field.proofs.Common.{◌≡◌, Bool, List, ℕ, ◌++◌, Option, FieldPart, Scalar, Entry, IsBest, AppendsBest}
 use Rattle.fast_field.proofs.BestValues.{none_shorter}
 use Rattle.fast_field.proofs.OneBest.{shortest_are_one}
 

@@ -1,17 +1,8 @@
 -- What an entry gives a field, and the entry afterwards.
 -- FAST 1.1, Field Operators, Dictionaries and Previous Values.
 use Rattle.std.specs.Prelude.{if◌then◌else◌, Option, Some, None, Result, Ok, Err, unwrap_or}
-use Rattle.fast_value.specs.Scalar.{is_of}
-use Rattle.fast_value.specs.declared.kind.Operator.{Operator}
-use Rattle.fast_value.specs.declared.kind.Operator.TheVariants as operator
-use Rattle.fast_value.specs.declared.kind.Presence.{Presence}
-use Rattle.fast_value.specs.declared.kind.Presence.TheVariants.{Mandatory, Optional}
-use Rattle.fast_template.specs.declared.resolved.FieldPart.{FieldPart}
-use Rattle.fast_value.specs.declared.scalar.Scalar.{Scalar}
-use Rattle.fast_dictionary.specs.declared.entry.Entry.{Entry}
-use Rattle.fast_dictionary.specs.declared.entry.Entry.TheVariants.{Undefined, Empty, Assigned}
+use Rattle.fast_field.specs.Prelude.{is_of, Operator, Presence, Mandatory, Optional, FieldPart, Scalar, Entry, Undefined, Empty, Assigned}
 use Rattle.fast_field.specs.declared.fault.FieldFault.{FieldFault}
-use Rattle.fast_field.specs.declared.fault.FieldFault.TheVariants as fault
 use Rattle.fast_field.specs.Values.{default_of, increased}
 
 -- ---- What is kept
@@ -22,12 +13,12 @@ start_of i = unwrap_or i.initial (default_of i.kind)
 
 -- the previous value of the field's own type
 abbrev pub kept_of : FieldPart → Scalar → Result Scalar FieldFault
-kept_of i v = if is_of i.kind v then Ok v else Err fault.D4
+kept_of i v = if is_of i.kind v then Ok v else Err FieldFault.D4
 
 -- the value that a delta changes, or why there is none
 abbrev pub delta_base : FieldPart → Entry → Result Scalar FieldFault
 delta_base i Undefined = Ok (start_of i)
-delta_base i Empty = Err fault.D6
+delta_base i Empty = Err FieldFault.D6
 delta_base i (Assigned v) = kept_of i v
 
 -- the value that a tail changes; that an empty entry gives one is own
@@ -46,14 +37,14 @@ initial_or f i None = absent_or f i.presence
 initial_or f i (Some v) = Ok (Some v)
 
 abbrev pub repeated : Operator → Scalar → Scalar
-repeated operator.Increment v = increased v
+repeated Operator.Increment v = increased v
 repeated o v = v
 
 abbrev pub predicted : FieldPart → Entry → Result (Option Scalar) FieldFault
-predicted i Undefined = initial_or fault.D5 i i.initial
-predicted i Empty = absent_or fault.D6 i.presence
+predicted i Undefined = initial_or FieldFault.D5 i i.initial
+predicted i Empty = absent_or FieldFault.D6 i.presence
 predicted i (Assigned v) =
-    if is_of i.kind v then Ok (Some (repeated i.operator v)) else Err fault.D4
+    if is_of i.kind v then Ok (Some (repeated i.operator v)) else Err FieldFault.D4
 
 -- ---- The entry afterwards: it follows from the value, and not from how that was spelled.
 
@@ -66,13 +57,13 @@ delta_entry e None = e
 delta_entry e (Some v) = Assigned v
 
 abbrev pub next_of : Operator → Entry → Option Scalar → Entry
-next_of operator.Plain e v = e
-next_of operator.Constant e v = e
-next_of operator.Default e v = e
-next_of operator.Copy e v = written_entry v
-next_of operator.Increment e v = written_entry v
-next_of operator.Delta e v = delta_entry e v
-next_of operator.Tail e v = written_entry v
+next_of Operator.Plain e v = e
+next_of Operator.Constant e v = e
+next_of Operator.Default e v = e
+next_of Operator.Copy e v = written_entry v
+next_of Operator.Increment e v = written_entry v
+next_of Operator.Delta e v = delta_entry e v
+next_of Operator.Tail e v = written_entry v
 
 abbrev pub next : FieldPart → Entry → Option Scalar → Entry
 next i e v = next_of i.operator e v

@@ -1,13 +1,6 @@
 -- The form that a writer chooses. (Own: FAST 1.1 leaves the choice to the writer.)
 use Rattle.std.specs.Prelude.{◌≡◌, ℕ, ◌<◌, ◌≤◌, Bool, true, false, List, length, Option, ◌⊎◌}
-use Rattle.fast_wire.specs.declared.level.Level.TheVariants.{Usual}
-use Rattle.fast_value.specs.declared.kind.Kind.{Kind}
-use Rattle.fast_value.specs.declared.kind.Kind.TheVariants as kind
-use Rattle.fast_value.specs.declared.kind.Operator.{Operator}
-use Rattle.fast_value.specs.declared.kind.Operator.TheVariants as operator
-use Rattle.fast_template.specs.declared.resolved.FieldPart.{FieldPart}
-use Rattle.fast_value.specs.declared.scalar.Scalar.{Scalar}
-use Rattle.fast_dictionary.specs.declared.entry.Entry.{Entry}
+use Rattle.fast_field.specs.Prelude.{Usual, Kind, Operator, FieldPart, Scalar, Entry}
 use Rattle.fast_field.specs.Deltas.{Side, at_end, in_front, Cut}
 use Rattle.fast_field.specs.Fields.{FormBy}
 
@@ -38,8 +31,8 @@ pub record IsBest (i : FieldPart) (e : Entry) (bit : Bool) (b : List ℕ)
 
 -- no form of such a field cuts a base: it is no tail, and no delta of a string or vector
 abbrev pub CutsNothing : Operator → Kind → Type 0
-CutsNothing operator.Tail k = ⊥
-CutsNothing operator.Delta kind.Ascii = ⊥
-CutsNothing operator.Delta kind.Unicode = ⊥
-CutsNothing operator.Delta kind.Bytes = ⊥
+CutsNothing Operator.Tail k = ⊥
+CutsNothing Operator.Delta Kind.Ascii = ⊥
+CutsNothing Operator.Delta Kind.Unicode = ⊥
+CutsNothing Operator.Delta Kind.Bytes = ⊥
 CutsNothing o k = Unit {0}

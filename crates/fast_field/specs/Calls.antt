@@ -1,7 +1,6 @@
 -- What a call answered, against what reading gives. (Own.)
 use Rattle.std.specs.Prelude.{◌≡◌, ℕ, ◌^◌, ℤ, pos, negsuc, ◌<ℤ◌, List, drop, Option, Some, None, Result, Ok, Err}
 use Rattle.fast_field.specs.declared.fault.FieldFault.{FieldFault}
-use Rattle.fast_field.specs.declared.fault.FieldFault.TheVariants as fault
 
 -- a call that takes no memory answered, seen by view, what reading gives
 abbrev pub Answers : {F X Y : Type 0} → (X → Y) → Result X F → Result Y F → Type 0
@@ -16,7 +15,7 @@ AnswersAt read view bytes at r =
 
 -- memory was refused, where no more bytes are needed
 abbrev pub OrRefused : {Y : Type 0} → Result Y FieldFault → FieldFault → Type 0
-OrRefused read e = (e ≡ fault.Memory) × (read ≡ Err fault.NeedMore → ⊥)
+OrRefused read e = (e ≡ FieldFault.Memory) × (read ≡ Err FieldFault.NeedMore → ⊥)
 
 -- what ten bytes can spell, with a sign or with none
 abbrev pub IsSentRange : ℤ → Type 0

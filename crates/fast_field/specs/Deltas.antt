@@ -1,15 +1,7 @@
 -- What a delta and a tail make of a base.
 -- FAST 1.1, Field Operators, Delta Operator and Tail Operator.
 use Rattle.std.specs.Prelude.{◌≡◌, ℕ, ◌-◌, ◌≤◌, ℤ, pos, negsuc, ◌+ℤ◌, false, List, ◌++◌, length, take, drop, Option, Ok, IsTrue}
-use Rattle.fast_wire.specs.declared.level.Level.{Level}
-use Rattle.fast_wire.specs.declared.nullable.Nullable.TheVariants.{Null, Value}
-use Rattle.fast_value.specs.Scalar.{in_range, of_integer}
-use Rattle.fast_value.specs.declared.kind.Kind.{Kind}
-use Rattle.fast_value.specs.declared.kind.Kind.TheVariants as kind
-use Rattle.fast_value.specs.declared.kind.Presence.{Presence}
-use Rattle.fast_template.specs.declared.resolved.FieldPart.{FieldPart}
-use Rattle.fast_value.specs.declared.scalar.Scalar.{Scalar}
-use Rattle.fast_dictionary.specs.declared.entry.Entry.{Entry}
+use Rattle.fast_field.specs.Prelude.{Level, Null, Value, in_range, of_integer, Kind, Presence, FieldPart, Scalar, Entry}
 use Rattle.fast_field.specs.Values.{integer_of, exponent_of, mantissa_of, units_of}
 use Rattle.fast_field.specs.Bases.{delta_base, tail_base}
 use Rattle.fast_field.specs.Spelled.{SpellsInteger, SpellsPart, SpellsUnits, IsOfUnits, SpellsPair, IsOfPair, OrNull}
@@ -58,7 +50,7 @@ pub record SpellsCut (level : Level) (k : Kind) (p : Presence) (base : Scalar) (
   pub back : List ℕ
   pub parts : b ≡ front ++ back
   pub removal_form : SpellsInteger level false p front (Value removal)
-  pub is_int32 : IsTrue (in_range kind.Int32 removal)
+  pub is_int32 : IsTrue (in_range Kind.Int32 removal)
   pub there : removed_of removal ≤ length (units_of base)
   pub part_form : SpellsPart level k back new_part
   pub value : IsOfFewUnits k (put_together removal (units_of base) new_part) v
@@ -84,10 +76,10 @@ pub record SpellsDeltas (level : Level) (p : Presence) (base : Scalar) (cut : Cu
 
 -- the value that a delta makes of a base
 abbrev pub DeltaValue : (level : Level) → Kind → Presence → Scalar → Cut → List ℕ → Scalar → Type 0
-DeltaValue level kind.Decimal p base c b v = SpellsDeltas level p base c b v
-DeltaValue level kind.Ascii p base c b v = SpellsCut level kind.Ascii p base c b v
-DeltaValue level kind.Unicode p base c b v = SpellsCut level kind.Unicode p base c b v
-DeltaValue level kind.Bytes p base c b v = SpellsCut level kind.Bytes p base c b v
+DeltaValue level Kind.Decimal p base c b v = SpellsDeltas level p base c b v
+DeltaValue level Kind.Ascii p base c b v = SpellsCut level Kind.Ascii p base c b v
+DeltaValue level Kind.Unicode p base c b v = SpellsCut level Kind.Unicode p base c b v
+DeltaValue level Kind.Bytes p base c b v = SpellsCut level Kind.Bytes p base c b v
 DeltaValue level k p base c b v = SpellsDelta level k p base c b v
 
 -- NULL, alone, is absent on every entry, and asks for no base; of a string it is the subtraction length's

@@ -1,16 +1,7 @@
 -- The forms of one field, by operator and bit. Where a field has no bit, the bit is true.
 -- FAST 1.1, Field Operators. The limits are this project's own.
 use Rattle.std.specs.Prelude.{◌≡◌, ℕ, pos, Bool, true, false, int_le, List, [], Option, Some, None, Ok, IsTrue}
-use Rattle.fast_wire.specs.declared.level.Level.{Level}
-use Rattle.fast_value.specs.Scalar.{exponent_in_range}
-use Rattle.fast_value.specs.declared.kind.Operator.{Operator}
-use Rattle.fast_value.specs.declared.kind.Operator.TheVariants as operator
-use Rattle.fast_value.specs.declared.kind.Part.{Part}
-use Rattle.fast_value.specs.declared.kind.Part.TheVariants as part
-use Rattle.fast_value.specs.declared.kind.Presence.TheVariants.{Optional}
-use Rattle.fast_template.specs.declared.resolved.FieldPart.{FieldPart}
-use Rattle.fast_value.specs.declared.scalar.Scalar.{Scalar}
-use Rattle.fast_dictionary.specs.declared.entry.Entry.{Entry}
+use Rattle.fast_field.specs.Prelude.{Level, exponent_in_range, Operator, Part, Optional, FieldPart, Scalar, Entry}
 use Rattle.fast_field.specs.Values.{integer_of}
 use Rattle.fast_field.specs.Bases.{predicted}
 use Rattle.fast_field.specs.Spelled.{Spelled}
@@ -22,26 +13,26 @@ InitialOrAbsent i (Some v) = i.initial ≡ Some v
 InitialOrAbsent i None = (i.initial ≡ None) × (i.presence ≡ Optional)
 
 abbrev pub FormOf : (level : Level) → Operator → FieldPart → Entry → Bool → Cut → List ℕ → Option Scalar → Type 0
-FormOf level operator.Plain i e false c b v = ⊥
-FormOf level operator.Plain i e true c b v = (c ≡ uncut) × Spelled level i.kind i.presence b v
-FormOf level operator.Constant i e false c b v = (c ≡ uncut) × (b ≡ []) × (i.presence ≡ Optional)
+FormOf level Operator.Plain i e false c b v = ⊥
+FormOf level Operator.Plain i e true c b v = (c ≡ uncut) × Spelled level i.kind i.presence b v
+FormOf level Operator.Constant i e false c b v = (c ≡ uncut) × (b ≡ []) × (i.presence ≡ Optional)
     × (v ≡ None)
-FormOf level operator.Constant i e true c b v = (c ≡ uncut) × (b ≡ []) × (v ≡ i.initial)
-FormOf level operator.Default i e false c b v = (c ≡ uncut) × (b ≡ []) × InitialOrAbsent i v
-FormOf level operator.Default i e true c b v = (c ≡ uncut) × Spelled level i.kind i.presence b v
-FormOf level operator.Copy i e false c b v = (c ≡ uncut) × (b ≡ []) × (predicted i e ≡ Ok v)
-FormOf level operator.Copy i e true c b v = (c ≡ uncut) × Spelled level i.kind i.presence b v
-FormOf level operator.Increment i e false c b v = (c ≡ uncut) × (b ≡ []) × (predicted i e ≡ Ok v)
-FormOf level operator.Increment i e true c b v = (c ≡ uncut) × Spelled level i.kind i.presence b v
-FormOf level operator.Delta i e false c b v = ⊥
-FormOf level operator.Delta i e true c b v = DeltaForm level i e c b v
-FormOf level operator.Tail i e false c b v = (c ≡ uncut) × (b ≡ []) × (predicted i e ≡ Ok v)
-FormOf level operator.Tail i e true c b v = TailForm level i e c b v
+FormOf level Operator.Constant i e true c b v = (c ≡ uncut) × (b ≡ []) × (v ≡ i.initial)
+FormOf level Operator.Default i e false c b v = (c ≡ uncut) × (b ≡ []) × InitialOrAbsent i v
+FormOf level Operator.Default i e true c b v = (c ≡ uncut) × Spelled level i.kind i.presence b v
+FormOf level Operator.Copy i e false c b v = (c ≡ uncut) × (b ≡ []) × (predicted i e ≡ Ok v)
+FormOf level Operator.Copy i e true c b v = (c ≡ uncut) × Spelled level i.kind i.presence b v
+FormOf level Operator.Increment i e false c b v = (c ≡ uncut) × (b ≡ []) × (predicted i e ≡ Ok v)
+FormOf level Operator.Increment i e true c b v = (c ≡ uncut) × Spelled level i.kind i.presence b v
+FormOf level Operator.Delta i e false c b v = ⊥
+FormOf level Operator.Delta i e true c b v = DeltaForm level i e c b v
+FormOf level Operator.Tail i e false c b v = (c ≡ uncut) × (b ≡ []) × (predicted i e ≡ Ok v)
+FormOf level Operator.Tail i e true c b v = TailForm level i e c b v
 
 -- limits, also of what bit 0 gives: an exponent's, and a length's
 abbrev pub within_part : Part → Scalar → Bool
-within_part part.Exponent v = exponent_in_range (integer_of v)
-within_part part.Length v = int_le (integer_of v) (pos 65535)
+within_part Part.Exponent v = exponent_in_range (integer_of v)
+within_part Part.Length v = int_le (integer_of v) (pos 65535)
 within_part p v = true
 
 abbrev pub IsWithin : Part → Option Scalar → Type 0

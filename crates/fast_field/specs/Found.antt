@@ -1,10 +1,6 @@
 -- Values by where they lie. (Own.)
 use Rattle.std.specs.Prelude.{Option, Some, None, unwrap_or}
-use Rattle.fast_value.specs.declared.kind.Kind.{Kind}
-use Rattle.fast_template.specs.declared.resolved.FieldPart.{FieldPart}
-use Rattle.fast_value.specs.declared.scalar.Scalar.{Scalar}
-use Rattle.fast_dictionary.specs.declared.entry.Entry.{Entry}
-use Rattle.fast_dictionary.specs.declared.entry.Entry.TheVariants.{Undefined, Empty, Assigned}
+use Rattle.fast_field.specs.Prelude.{Kind, FieldPart, Scalar, Entry, Undefined, Empty, Assigned}
 use Rattle.fast_field.specs.declared.found.Found.{Found}
 use Rattle.fast_field.specs.declared.found.Found.TheVariants.{Absent, Initial, Kept, Value}
 use Rattle.fast_field.specs.Values.{default_of}

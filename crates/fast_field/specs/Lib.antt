@@ -1,3 +1,4 @@
+mod Prelude
 pub mod Values
 pub mod Parts
 pub mod Bases

@@ -1,14 +1,6 @@
 -- Integers by their numbers alone. (Own.)
 use Rattle.std.specs.Prelude.{◌≡◌, ℤ, pos, ◌+ℤ◌, int_le, int_lt, if◌then◌else◌, Bool, true, IsTrue}
-use Rattle.fast_value.specs.Scalar.{in_range, is_integer, least_of, greatest_of, exponent_in_range, of_integer}
-use Rattle.fast_value.specs.declared.kind.Kind.{Kind}
-use Rattle.fast_value.specs.declared.kind.Operator.{Operator}
-use Rattle.fast_value.specs.declared.kind.Operator.TheVariants as operator
-use Rattle.fast_value.specs.declared.kind.Part.{Part}
-use Rattle.fast_value.specs.declared.kind.Part.TheVariants as part
-use Rattle.fast_value.specs.declared.scalar.Scalar.{Scalar}
-use Rattle.fast_dictionary.specs.declared.entry.Entry.{Entry}
-use Rattle.fast_dictionary.specs.declared.entry.Entry.TheVariants.{Assigned}
+use Rattle.fast_field.specs.Prelude.{in_range, is_integer, least_of, greatest_of, exponent_in_range, of_integer, Kind, Operator, Part, Scalar, Entry, Assigned}
 
 -- a number in the range of an integer type
 pub record IsNumber (k : Kind) (z : ℤ) : Type 0 where
@@ -17,8 +9,8 @@ pub record IsNumber (k : Kind) (z : ℤ) : Type 0 where
 
 -- within the limit of a part
 abbrev pub number_within : Part → ℤ → Bool
-number_within part.Exponent z = exponent_in_range z
-number_within part.Length z = int_le z (pos 65535)
+number_within Part.Exponent z = exponent_in_range z
+number_within Part.Length z = int_le z (pos 65535)
 number_within p z = true
 
 -- what a field can have
@@ -42,13 +34,13 @@ HasNumber k e z = ⊥
 
 -- bit 0 gives the value that the entry has
 abbrev pub Repeats : Operator → Type 0
-Repeats operator.Copy = Unit {0}
-Repeats operator.Tail = Unit {0}
+Repeats Operator.Copy = Unit {0}
+Repeats Operator.Tail = Unit {0}
 Repeats o = ⊥
 
 -- bit 0 gives what follows from the entry
 abbrev pub Predicts : Operator → Type 0
-Predicts operator.Copy = Unit {0}
-Predicts operator.Increment = Unit {0}
-Predicts operator.Tail = Unit {0}
+Predicts Operator.Copy = Unit {0}
+Predicts Operator.Increment = Unit {0}
+Predicts Operator.Tail = Unit {0}
 Predicts o = ⊥

@@ -1,15 +1,7 @@
 -- The instructions that the calls and laws of fields speak of.
 -- FAST 1.1, Templates, and Transfer Encoding, Presence Map.
 use Rattle.std.specs.Prelude.{◌≡◌, Bool, true, false, IsSome}
-use Rattle.fast_template.specs.Resolved.{Instruction, Instructions, whole_field, field_in_parts, group_of, sequence_of, no_instructions, then_instruction, part_needs_bit}
-use Rattle.fast_template.specs.TemplateSets.{IsTyped}
-use Rattle.fast_value.specs.declared.kind.Kind.{Kind}
-use Rattle.fast_value.specs.declared.kind.Kind.TheVariants as kind
-use Rattle.fast_value.specs.declared.kind.Operator.TheVariants as operator
-use Rattle.fast_value.specs.declared.kind.Part.{Part}
-use Rattle.fast_value.specs.declared.kind.Part.TheVariants as part
-use Rattle.fast_value.specs.declared.kind.Presence.TheVariants.{Mandatory}
-use Rattle.fast_template.specs.declared.resolved.FieldPart.{FieldPart}
+use Rattle.fast_field.specs.Prelude.{Instruction, Instructions, whole_field, field_in_parts, group_of, sequence_of, no_instructions, then_instruction, part_needs_bit, IsTyped, Kind, Operator, Part, Mandatory, FieldPart}
 
 -- a bit that a field can have: without one it is true
 abbrev pub IsBitOf : FieldPart → Bool → Type 0
@@ -17,14 +9,14 @@ IsBitOf i bit = part_needs_bit i ≡ false → bit ≡ true
 
 -- a mandatory default has an initial value
 abbrev pub HasDefault : FieldPart → Type 0
-HasDefault i = i.operator ≡ operator.Default → i.presence ≡ Mandatory → IsSome i.initial
+HasDefault i = i.operator ≡ Operator.Default → i.presence ≡ Mandatory → IsSome i.initial
 
 -- an exponent is an int32, a mantissa an int64, a length a uInt32
 abbrev pub IsKindOfPart : Part → Kind → Type 0
-IsKindOfPart part.Whole k = Unit {0}
-IsKindOfPart part.Exponent k = k ≡ kind.Int32
-IsKindOfPart part.Mantissa k = k ≡ kind.Int64
-IsKindOfPart part.Length k = k ≡ kind.UInt32
+IsKindOfPart Part.Whole k = Unit {0}
+IsKindOfPart Part.Exponent k = k ≡ Kind.Int32
+IsKindOfPart Part.Mantissa k = k ≡ Kind.Int64
+IsKindOfPart Part.Length k = k ≡ Kind.UInt32
 
 pub record IsFieldPart (i : FieldPart) : Type 0 where
   pub typed : IsTyped i

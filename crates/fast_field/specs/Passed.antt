@@ -1,10 +1,6 @@
 -- A field that bit 0 gives, and no byte: its value and the entry afterwards. (Own.)
 use Rattle.std.specs.Prelude.{◌≡◌, ℕ, false, List, [], Option, Some, None, Ok, IsTrue}
-use Rattle.fast_wire.specs.declared.level.Level.{Level}
-use Rattle.fast_value.specs.Scalar.{is_of}
-use Rattle.fast_template.specs.declared.resolved.FieldPart.{FieldPart}
-use Rattle.fast_value.specs.declared.scalar.Scalar.{Scalar}
-use Rattle.fast_dictionary.specs.declared.entry.Entry.{Entry}
+use Rattle.fast_field.specs.Prelude.{Level, is_of, FieldPart, Scalar, Entry}
 use Rattle.fast_field.specs.declared.passed.Passed.{Passed}
 use Rattle.fast_field.specs.declared.passed.Passed.TheVariants.{Absent, Present, Elsewhere}
 use Rattle.fast_field.specs.Bases.{next}

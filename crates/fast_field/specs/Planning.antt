@@ -1,13 +1,7 @@
 -- Whether a value can be left out: bit 0 of the presence map gives it. FAST 1.1, Field Operators.
 use Rattle.std.specs.Prelude.{Bool, true, false, Option, Some, None, Result, Ok, Err}
 use Rattle.fast_value.specs.contracts.scalar.ScalarPartialEq.TheImpl as scalar_eq
-use Rattle.fast_value.specs.declared.kind.Operator.{Operator}
-use Rattle.fast_value.specs.declared.kind.Operator.TheVariants as operator
-use Rattle.fast_value.specs.declared.kind.Presence.{Presence}
-use Rattle.fast_value.specs.declared.kind.Presence.TheVariants.{Mandatory, Optional}
-use Rattle.fast_template.specs.declared.resolved.FieldPart.{FieldPart}
-use Rattle.fast_value.specs.declared.scalar.Scalar.{Scalar}
-use Rattle.fast_dictionary.specs.declared.entry.Entry.{Entry}
+use Rattle.fast_field.specs.Prelude.{Operator, Presence, Mandatory, Optional, FieldPart, Scalar, Entry}
 use Rattle.fast_field.specs.declared.fault.FieldFault.{FieldFault}
 use Rattle.fast_field.specs.Bases.{predicted}
 
@@ -34,10 +28,10 @@ constant_gives p None = is_optional p
 constant_gives p (Some v) = false
 
 abbrev pub left_out_of : Operator → FieldPart → Entry → Option Scalar → Bool
-left_out_of operator.Plain i e v = false
-left_out_of operator.Constant i e v = constant_gives i.presence v
-left_out_of operator.Default i e v = default_gives i.presence i.initial v
-left_out_of operator.Copy i e v = gives_same (predicted i e) v
-left_out_of operator.Increment i e v = gives_same (predicted i e) v
-left_out_of operator.Delta i e v = false
-left_out_of operator.Tail i e v = gives_same (predicted i e) v
+left_out_of Operator.Plain i e v = false
+left_out_of Operator.Constant i e v = constant_gives i.presence v
+left_out_of Operator.Default i e v = default_gives i.presence i.initial v
+left_out_of Operator.Copy i e v = gives_same (predicted i e) v
+left_out_of Operator.Increment i e v = gives_same (predicted i e) v
+left_out_of Operator.Delta i e v = false
+left_out_of Operator.Tail i e v = gives_same (predicted i e) v

@@ -1,19 +1,15 @@
 -- The characters or bytes of a string or vector as they stand in the bytes that were read. (Own.)
 use Rattle.std.specs.Prelude.{ℕ, List}
-use Rattle.fast_wire.specs.Entity.{groups}
-use Rattle.fast_wire.specs.Spans.{IsTail, bytes_in}
-use Rattle.fast_wire.specs.declared.span.Span.{Span}
-use Rattle.fast_value.specs.declared.kind.Kind.{Kind}
-use Rattle.fast_value.specs.declared.kind.Kind.TheVariants as kind
+use Rattle.fast_field.specs.Prelude.{groups, IsTail, bytes_in, Span, Kind}
 
 -- what can stand there: of ASCII the last bytes of an entity, or none
 abbrev pub IsSent : Kind → List ℕ → Type 0
-IsSent kind.Ascii sent = IsTail sent
+IsSent Kind.Ascii sent = IsTail sent
 IsSent k sent = Unit {0}
 
 -- the units that it spells: of ASCII the characters, without the stop bit of the last
 abbrev pub units_sent : Kind → List ℕ → List ℕ
-units_sent kind.Ascii sent = groups sent
+units_sent Kind.Ascii sent = groups sent
 units_sent k sent = sent
 
 -- the units that stand between two places

@@ -1,22 +1,7 @@
 -- What stands whole in a stream for a value of a type: an optional field has the nullable form.
 -- FAST 1.1, Transfer Encoding, Field Encoding.
 use Rattle.std.specs.Prelude.{◌≡◌, ℕ, ℤ, pos, Bool, true, false, List, ◌++◌, Option, Some, None, IsTrue, IsUtf8}
-use Rattle.fast_wire.specs.Level.{AtLevel, overlong_unsigned, overlong_signed, overlong_ascii}
-use Rattle.fast_wire.specs.declared.level.Level.{Level}
-use Rattle.fast_wire.specs.declared.level.Level.TheVariants.{Usual}
-use Rattle.fast_wire.specs.Ascii.{IsAscii, IsAsciiNullable}
-use Rattle.fast_wire.specs.Integer.{IsUnsigned, IsSigned}
-use Rattle.fast_wire.specs.Nullable.{IsUnsignedNullable, IsSignedNullable}
-use Rattle.fast_wire.specs.Vector.{IsVector, IsVectorNullable}
-use Rattle.fast_wire.specs.declared.nullable.Nullable.{Nullable}
-use Rattle.fast_wire.specs.declared.nullable.Nullable.TheVariants.{Null, Value}
-use Rattle.fast_value.specs.Scalar.{in_range, exponent_in_range, of_integer}
-use Rattle.fast_value.specs.declared.kind.Kind.{Kind}
-use Rattle.fast_value.specs.declared.kind.Kind.TheVariants as kind
-use Rattle.fast_value.specs.declared.kind.Presence.{Presence}
-use Rattle.fast_value.specs.declared.kind.Presence.TheVariants.{Mandatory, Optional}
-use Rattle.fast_value.specs.declared.scalar.Scalar.{Scalar}
-use Rattle.fast_value.specs.declared.scalar.Scalar.TheVariants.{Decimal, Unicode}
+use Rattle.fast_field.specs.Prelude.{AtLevel, overlong_unsigned, overlong_signed, overlong_ascii, Level, Usual, IsAscii, IsAsciiNullable, IsUnsigned, IsSigned, IsUnsignedNullable, IsSignedNullable, IsVector, IsVectorNullable, Nullable, Null, Value, in_range, exponent_in_range, of_integer, Kind, Presence, Mandatory, Optional, Scalar, Decimal, Unicode}
 use Rattle.fast_field.specs.Values.{is_unsigned, of_units}
 
 -- ---- at any level
@@ -28,8 +13,8 @@ overlong_number false = overlong_signed
 
 -- whether the entity is that a string or vector begins with: an ASCII string's own, or a length
 abbrev pub overlong_units : Kind → Presence → List ℕ → Bool
-overlong_units kind.Ascii Mandatory bytes = overlong_ascii bytes false
-overlong_units kind.Ascii Optional bytes = overlong_ascii bytes true
+overlong_units Kind.Ascii Mandatory bytes = overlong_ascii bytes false
+overlong_units Kind.Ascii Optional bytes = overlong_ascii bytes true
 overlong_units k p bytes = overlong_unsigned bytes
 
 -- an integer, with no sign where the first argument is true
@@ -50,7 +35,7 @@ SpellsMantissa level b m = AtLevel level overlong_signed IsSigned b m
 
 -- characters or bytes, of Unicode its bytes, in the form that is not nullable
 abbrev pub SpellsPartUsually : Kind → List ℕ → List ℕ → Type 0
-SpellsPartUsually kind.Ascii b s = IsAscii b s
+SpellsPartUsually Kind.Ascii b s = IsAscii b s
 SpellsPartUsually k b s = IsVector b s
 
 abbrev pub SpellsPart : (level : Level) → Kind → List ℕ → List ℕ → Type 0
@@ -60,7 +45,7 @@ SpellsPart level k b s = AtLevel level (overlong_units k Mandatory) (SpellsPartU
 abbrev pub SpellsUnitsUsually : Kind → Presence → List ℕ → Nullable (List ℕ) → Type 0
 SpellsUnitsUsually k Mandatory b (Value s) = SpellsPart Usual k b s
 SpellsUnitsUsually k Mandatory b Null = ⊥
-SpellsUnitsUsually kind.Ascii Optional b s = IsAsciiNullable b s
+SpellsUnitsUsually Kind.Ascii Optional b s = IsAsciiNullable b s
 SpellsUnitsUsually k Optional b s = IsVectorNullable b s
 
 abbrev pub SpellsUnits : (level : Level) → Kind → Presence → List ℕ → Nullable (List ℕ) → Type 0
@@ -75,7 +60,7 @@ pub record SpellsNumber (level : Level) (k : Kind) (p : Presence) (b : List ℕ)
 
 -- these characters or bytes, of Unicode UTF-8, are the value
 abbrev pub IsOfUnits : Kind → List ℕ → Scalar → Type 0
-IsOfUnits kind.Unicode s v = IsUtf8 s × (v ≡ Unicode s)
+IsOfUnits Kind.Unicode s v = IsUtf8 s × (v ≡ Unicode s)
 IsOfUnits k s v = v ≡ of_units k s
 
 pub record SpellsString (level : Level) (k : Kind) (p : Presence) (b : List ℕ) (v : Scalar) : Type 0 where
@@ -93,7 +78,7 @@ pub record SpellsPair (level : Level) (p : Presence) (b : List ℕ) (exponent ma
 
 -- an exponent and a mantissa in range are the value
 abbrev pub IsOfPair : ℤ → ℤ → Scalar → Type 0
-IsOfPair e m v = IsTrue (exponent_in_range e) × IsTrue (in_range kind.Int64 m) × (v ≡ Decimal e m)
+IsOfPair e m v = IsTrue (exponent_in_range e) × IsTrue (in_range Kind.Int64 m) × (v ≡ Decimal e m)
 
 pub record SpellsDecimal (level : Level) (p : Presence) (b : List ℕ) (v : Scalar) : Type 0 where
   pub exponent : ℤ
@@ -118,8 +103,8 @@ SpelledDecimal level p = OrNull (λ b. SpellsInteger level false p b Null) (Spel
 
 -- the bytes spell a value of the type, or NULL for an absent one
 abbrev pub Spelled : (level : Level) → Kind → Presence → List ℕ → Option Scalar → Type 0
-Spelled level kind.Decimal p = SpelledDecimal level p
-Spelled level kind.Ascii p = SpelledString level kind.Ascii p
-Spelled level kind.Unicode p = SpelledString level kind.Unicode p
-Spelled level kind.Bytes p = SpelledString level kind.Bytes p
+Spelled level Kind.Decimal p = SpelledDecimal level p
+Spelled level Kind.Ascii p = SpelledString level Kind.Ascii p
+Spelled level Kind.Unicode p = SpelledString level Kind.Unicode p
+Spelled level Kind.Bytes p = SpelledString level Kind.Bytes p
 Spelled level k p = SpelledNumber level k p

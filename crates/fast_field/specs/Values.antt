@@ -1,16 +1,12 @@
 -- The numbers and the units of values.
 -- FAST 1.1, Templates, Field Instructions.
 use Rattle.std.specs.Prelude.{ℕ, ℤ, pos, ◌+ℤ◌, int_lt, if◌then◌else◌, Bool, true, false, List, []}
-use Rattle.fast_value.specs.Scalar.{kind_of, least_of, greatest_of, of_integer}
-use Rattle.fast_value.specs.declared.scalar.Scalar.{Scalar}
-use Rattle.fast_value.specs.declared.scalar.Scalar.TheVariants.{U32, I32, U64, I64, Decimal, Ascii, Unicode, Bytes}
-use Rattle.fast_value.specs.declared.kind.Kind.{Kind}
-use Rattle.fast_value.specs.declared.kind.Kind.TheVariants as kind
+use Rattle.fast_field.specs.Prelude.{kind_of, least_of, greatest_of, of_integer, Scalar, U32, I32, U64, I64, Decimal, Ascii, Unicode, Bytes, Kind}
 
 -- the types whose integers have no sign
 abbrev pub is_unsigned : Kind → Bool
-is_unsigned kind.UInt32 = true
-is_unsigned kind.UInt64 = true
+is_unsigned Kind.UInt32 = true
+is_unsigned Kind.UInt64 = true
 is_unsigned k = false
 
 -- the number of an integer
@@ -39,22 +35,22 @@ units_of v = []
 
 -- the types of strings and vectors
 abbrev pub IsUnitKind : Kind → Type 0
-IsUnitKind kind.Ascii = Unit {0}
-IsUnitKind kind.Unicode = Unit {0}
-IsUnitKind kind.Bytes = Unit {0}
+IsUnitKind Kind.Ascii = Unit {0}
+IsUnitKind Kind.Unicode = Unit {0}
+IsUnitKind Kind.Bytes = Unit {0}
 IsUnitKind k = ⊥
 
 abbrev pub of_units : Kind → List ℕ → Scalar
-of_units kind.Ascii s = Ascii s
-of_units kind.Unicode s = Unicode s
+of_units Kind.Ascii s = Ascii s
+of_units Kind.Unicode s = Unicode s
 of_units k s = Bytes s
 
 -- FAST 1.1, Field Operators, Delta Operator and Tail Operator: the base where there is no other
 abbrev pub default_of : Kind → Scalar
-default_of kind.Decimal = Decimal (pos 0) (pos 0)
-default_of kind.Ascii = Ascii []
-default_of kind.Unicode = Unicode []
-default_of kind.Bytes = Bytes []
+default_of Kind.Decimal = Decimal (pos 0) (pos 0)
+default_of Kind.Ascii = Ascii []
+default_of Kind.Unicode = Unicode []
+default_of Kind.Bytes = Bytes []
 default_of k = of_integer k (pos 0)
 
 -- FAST 1.1, Field Operators, Increment Operator: one more; after the greatest number the least (own)

@@ -2,24 +2,17 @@
 -- FAST 1.1, Templates, Field Instructions. The limits are this project's own.
 use Rattle.std.specs.Prelude.{◌≡◌, ◌^◌, ◌<◌, Option, Some, None, IsTrue, IsUtf8}
 use Rattle.std.specs.List.{AllByRecursion}
-use Rattle.fast_value.specs.Scalar.{is_of, in_range, IsScalar}
-use Rattle.fast_value.specs.declared.kind.Kind.TheVariants as kind
-use Rattle.fast_value.specs.declared.kind.Presence.TheVariants.{Optional}
-use Rattle.fast_template.specs.declared.resolved.FieldPart.{FieldPart}
-use Rattle.fast_value.specs.declared.scalar.Scalar.{Scalar}
-use Rattle.fast_value.specs.declared.scalar.Scalar.TheVariants.{U32, I32, U64, I64, Decimal, Ascii, Unicode, Bytes}
-use Rattle.fast_dictionary.specs.declared.entry.Entry.{Entry}
-use Rattle.fast_dictionary.specs.declared.entry.Entry.TheVariants.{Undefined, Empty, Assigned}
+use Rattle.fast_field.specs.Prelude.{is_of, in_range, IsScalar, Kind, Optional, FieldPart, Scalar, U32, I32, U64, I64, Decimal, Ascii, Unicode, Bytes, Entry, Undefined, Empty, Assigned}
 use Rattle.fast_field.specs.Fields.{IsWithin}
 
 -- what the types of the code say of a value: a number is in its type's range, units are bytes, and a text is UTF-8
 abbrev pub HasRange : Scalar → Type 0
 HasRange (U32 n) = n < 2 ^ 32
-HasRange (I32 z) = IsTrue (in_range kind.Int32 z)
+HasRange (I32 z) = IsTrue (in_range Kind.Int32 z)
 HasRange (U64 n) = n < 2 ^ 64
-HasRange (I64 z) = IsTrue (in_range kind.Int64 z)
-HasRange (Decimal exponent mantissa) = IsTrue (in_range kind.Int32 exponent)
-    × IsTrue (in_range kind.Int64 mantissa)
+HasRange (I64 z) = IsTrue (in_range Kind.Int64 z)
+HasRange (Decimal exponent mantissa) = IsTrue (in_range Kind.Int32 exponent)
+    × IsTrue (in_range Kind.Int64 mantissa)
 HasRange (Ascii s) = AllByRecursion (λ c. c < 256) s
 HasRange (Unicode s) = AllByRecursion (λ c. c < 256) s × IsUtf8 s
 HasRange (Bytes s) = AllByRecursion (λ c. c < 256) s

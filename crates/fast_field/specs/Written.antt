@@ -1,11 +1,7 @@
 -- What a call that writes the best form of a value leaves behind, and why it refuses one. (Own.)
 use Rattle.std.specs.Prelude.{◌≡◌, ◌⊎◌, ℕ, ◌≤◌, Bool, false, List, ◌++◌, length, Option, Some, None}
-use Rattle.fast_wire.specs.declared.level.Level.TheVariants.{Usual}
-use Rattle.fast_template.specs.declared.resolved.FieldPart.{FieldPart}
-use Rattle.fast_value.specs.declared.scalar.Scalar.{Scalar}
-use Rattle.fast_dictionary.specs.declared.entry.Entry.{Entry}
+use Rattle.fast_field.specs.Prelude.{Usual, FieldPart, Scalar, Entry}
 use Rattle.fast_field.specs.declared.fault.FieldRefusal.{FieldRefusal}
-use Rattle.fast_field.specs.declared.fault.FieldRefusal.TheVariants as refusal
 use Rattle.fast_field.specs.Fields.{Form}
 use Rattle.fast_field.specs.Best.{IsBest, CutsNothing}
 use Rattle.fast_field.specs.Refusals.{refusal_of}
@@ -26,4 +22,4 @@ pub record AppendsBest (i : FieldPart) (e : Entry) (v : Option Scalar) (bit : Bo
 -- the first reason why a value has no form; where it has one, memory was refused
 abbrev pub IsRefusal : FieldPart → Entry → Option Scalar → FieldRefusal → Type 0
 IsRefusal i e v f = (refusal_of i e v ≡ Some f)
-    ⊎ ((refusal_of i e v ≡ None) × (f ≡ refusal.Memory))
+    ⊎ ((refusal_of i e v ≡ None) × (f ≡ FieldRefusal.Memory))

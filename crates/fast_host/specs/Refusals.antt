@@ -4,7 +4,6 @@ use Rattle.std.specs.Prelude.{◌≡◌, ◌⊎◌, ℕ, List, [], ◌∷◌, �
 use Rattle.std.specs.String.{string_bytes}
 use Rattle.std.specs.declared.alloc.Global.{Global}
 use Rattle.fast_written.specs.declared.fault.LoadCause.{LoadCause}
-use Rattle.fast_written.specs.declared.fault.LoadCause.TheVariants as load
 use Rattle.fast_written.specs.declared.fault.LoadFault.{LoadFault}
 use Rattle.fast_written.specs.CauseNames.{name_of as load_name_of}
 use Rattle.fast_stream.specs.declared.fault.Cause.{Cause}
@@ -13,28 +12,24 @@ use Rattle.fast_stream.specs.declared.fault.Fault.{Fault}
 use Rattle.fast_stream.specs.CauseNames.{name_of}
 use Rattle.fast_stream.specs.declared.place.Place.{Place}
 use Rattle.fast_pass.specs.declared.fault.CanonFault.{CanonFault}
-use Rattle.fast_pass.specs.declared.fault.CanonFault.TheVariants as canon
 use Rattle.fast_host.specs.declared.hex_text.HexFault.{HexFault}
-use Rattle.fast_host.specs.declared.hex_text.HexFault.TheVariants as hex
 use Rattle.fast_host.specs.declared.input.TextFault.{TextFault}
-use Rattle.fast_host.specs.declared.input.TextFault.TheVariants as text
 use Rattle.fast_host.specs.declared.refusal.Refusal.{Refusal}
-use Rattle.fast_host.specs.declared.refusal.Refusal.TheVariants as refusal
 
 -- the exit status: 1 for a refused stream, 2 for a refused line or text, 3 for a fault of the machine
 abbrev pub status_of : Refusal → ℕ
-status_of (refusal.Stream line) = 1
-status_of (refusal.Line words) = 2
-status_of (refusal.Templates line) = 2
-status_of refusal.NotText = 2
-status_of refusal.TemplatesTooLong = 2
-status_of refusal.NotHex = 2
-status_of refusal.TooLong = 2
-status_of refusal.Open = 3
-status_of refusal.Read = 3
-status_of refusal.Write = 3
-status_of refusal.Turns = 3
-status_of refusal.Memory = 3
+status_of (Refusal.Stream line) = 1
+status_of (Refusal.Line words) = 2
+status_of (Refusal.Templates line) = 2
+status_of Refusal.NotText = 2
+status_of Refusal.TemplatesTooLong = 2
+status_of Refusal.NotHex = 2
+status_of Refusal.TooLong = 2
+status_of Refusal.Open = 3
+status_of Refusal.Read = 3
+status_of Refusal.Write = 3
+status_of Refusal.Turns = 3
+status_of Refusal.Memory = 3
 
 -- a word and a line feed
 abbrev pub line_of : List ℕ → List ℕ
@@ -42,22 +37,22 @@ line_of word = word ++ 10 ∷ []
 
 -- the text for the user
 abbrev pub text_of : Refusal → List ℕ
-text_of (refusal.Stream line) = string_bytes line
-text_of (refusal.Line words) = string_bytes words
-text_of (refusal.Templates line) = string_bytes line
-text_of refusal.NotText = line_of (codes "command line is not UTF-8")
-text_of refusal.TemplatesTooLong = line_of (codes "templates too long")
-text_of refusal.NotHex = line_of (codes "input is not hex")
-text_of refusal.TooLong = line_of (codes "input too long")
-text_of refusal.Open = line_of (codes "fault open")
-text_of refusal.Read = line_of (codes "fault read")
-text_of refusal.Write = line_of (codes "fault write")
-text_of refusal.Turns = line_of (codes "fault turns")
-text_of refusal.Memory = line_of (codes "fault memory")
+text_of (Refusal.Stream line) = string_bytes line
+text_of (Refusal.Line words) = string_bytes words
+text_of (Refusal.Templates line) = string_bytes line
+text_of Refusal.NotText = line_of (codes "command line is not UTF-8")
+text_of Refusal.TemplatesTooLong = line_of (codes "templates too long")
+text_of Refusal.NotHex = line_of (codes "input is not hex")
+text_of Refusal.TooLong = line_of (codes "input too long")
+text_of Refusal.Open = line_of (codes "fault open")
+text_of Refusal.Read = line_of (codes "fault read")
+text_of Refusal.Write = line_of (codes "fault write")
+text_of Refusal.Turns = line_of (codes "fault turns")
+text_of Refusal.Memory = line_of (codes "fault memory")
 
 -- the parser's text, or want of memory for it
 abbrev pub IsTextOrMemory : Refusal → Type 0
-IsTextOrMemory r = (r ≡ refusal.Memory) ⊎ ((words : String Global) × (r ≡ refusal.Line words))
+IsTextOrMemory r = (r ≡ Refusal.Memory) ⊎ ((words : String Global) × (r ≡ Refusal.Line words))
 
 -- the refusal that is known, or where none is one of these
 abbrev pub IsKnownOr : Option Refusal → (Refusal → Type 0) → Refusal → Type 0
@@ -68,10 +63,10 @@ IsKnownOr None IsOne r = IsOne r
 
 -- the refusal of an input that gives no text of templates
 abbrev pub of_template_text_lem : TextFault → Refusal
-of_template_text_lem text.TooLong = refusal.TemplatesTooLong
-of_template_text_lem text.Read = refusal.Read
-of_template_text_lem text.Turns = refusal.Turns
-of_template_text_lem text.Memory = refusal.Memory
+of_template_text_lem TextFault.TooLong = Refusal.TemplatesTooLong
+of_template_text_lem TextFault.Read = Refusal.Read
+of_template_text_lem TextFault.Turns = Refusal.Turns
+of_template_text_lem TextFault.Memory = Refusal.Memory
 
 -- the line of refused templates
 abbrev pub templates_line_of : LoadFault → List ℕ
@@ -82,11 +77,11 @@ templates_line_of fault =
 -- the line of the refused templates, or want of memory for it
 abbrev pub IsTemplatesOrMemory : LoadFault → Refusal → Type 0
 IsTemplatesOrMemory fault r =
-    (r ≡ refusal.Memory) ⊎ ((line : String Global) × (r ≡ refusal.Templates line) × (string_bytes line ≡ templates_line_of fault))
+    (r ≡ Refusal.Memory) ⊎ ((line : String Global) × (r ≡ Refusal.Templates line) × (string_bytes line ≡ templates_line_of fault))
 
 -- want of memory has a word of its own
 abbrev pub load_refusal_of : LoadCause → Option Refusal
-load_refusal_of load.Memory = Some refusal.Memory
+load_refusal_of LoadCause.Memory = Some Refusal.Memory
 load_refusal_of _ = None
 
 -- the refusal of templates
@@ -97,15 +92,15 @@ IsOfLoad fault r = IsKnownOr (load_refusal_of fault.cause) (IsTemplatesOrMemory 
 
 -- the refusal of an input that gives no hex text
 abbrev pub of_text_lem : TextFault → Refusal
-of_text_lem text.TooLong = refusal.TooLong
-of_text_lem text.Read = refusal.Read
-of_text_lem text.Turns = refusal.Turns
-of_text_lem text.Memory = refusal.Memory
+of_text_lem TextFault.TooLong = Refusal.TooLong
+of_text_lem TextFault.Read = Refusal.Read
+of_text_lem TextFault.Turns = Refusal.Turns
+of_text_lem TextFault.Memory = Refusal.Memory
 
 -- the refusal of a text that is no hex
 abbrev pub of_hex_lem : HexFault → Refusal
-of_hex_lem hex.NotHex = refusal.NotHex
-of_hex_lem hex.Memory = refusal.Memory
+of_hex_lem HexFault.NotHex = Refusal.NotHex
+of_hex_lem HexFault.Memory = Refusal.Memory
 
 -- ---- streams
 
@@ -122,13 +117,13 @@ stream_line_of fault = line_of (codes "refused " ++ name_of fault.cause ++ codes
 -- the line of the refused stream, or want of memory for it
 abbrev pub IsStreamOrMemory : Fault → Refusal → Type 0
 IsStreamOrMemory fault r =
-    (r ≡ refusal.Memory) ⊎ ((line : String Global) × (r ≡ refusal.Stream line) × (string_bytes line ≡ stream_line_of fault))
+    (r ≡ Refusal.Memory) ⊎ ((line : String Global) × (r ≡ Refusal.Stream line) × (string_bytes line ≡ stream_line_of fault))
 
 -- a fault of the machine in mid-stream has words of its own
 abbrev pub machine_refusal_of : Cause → Option Refusal
-machine_refusal_of Read = Some refusal.Read
-machine_refusal_of Turns = Some refusal.Turns
-machine_refusal_of Memory = Some refusal.Memory
+machine_refusal_of Read = Some Refusal.Read
+machine_refusal_of Turns = Some Refusal.Turns
+machine_refusal_of Memory = Some Refusal.Memory
 machine_refusal_of _ = None
 
 -- the refusal of a stream that was not read to its end
@@ -137,6 +132,6 @@ IsOfStream fault r = IsKnownOr (machine_refusal_of fault.cause) (IsStreamOrMemor
 
 -- the refusal of what a run answers
 abbrev pub IsOfRun : CanonFault → Refusal → Type 0
-IsOfRun (canon.Stream fault) r = IsOfStream fault r
-IsOfRun canon.Write r = r ≡ refusal.Write
-IsOfRun canon.Memory r = r ≡ refusal.Memory
+IsOfRun (CanonFault.Stream fault) r = IsOfStream fault r
+IsOfRun CanonFault.Write r = r ≡ Refusal.Write
+IsOfRun CanonFault.Memory r = r ≡ Refusal.Memory

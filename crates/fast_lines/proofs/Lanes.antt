@@ -1,12 +1,5 @@
 -- From the masks of bytes that are looked at in one step to the bytes that stand as they are.
-use Rattle.std.proofs.Common.{◌≡◌, ℕ, ◌+◌, ◌%◌, ◌^◌, ◌<◌, ◌≤◌, suc, [], ◌∷◌, leb, eqb, cond, Bool, true, false, List, map, length, get_or, replicate, refl, sym, ap, ◌∙◌, arith, slice_index, inl, inr, ◌⊎◌}
-use Rattle.std.proofs.lemmas.Bool.Decides.{nat_tests}
-use Rattle.std.proofs.lemmas.Simd.{zip2_splat, zip2_splat_left, bitmask_splat, length-chunk, none_from_empty_mask}
-use Rattle.std.specs.List.{list_all}
-use Rattle.fast_lines.specs.Signs.{is_plain}
-use lib.Dec.{ltb}
-use lib.Lanes.{chunk, zip2, mask_l, top}
-use mir.Syntax.{w8}
+use Rattle.fast_lines.proofs.Common.{◌≡◌, ℕ, ◌+◌, ◌%◌, ◌^◌, ◌<◌, ◌≤◌, suc, [], ◌∷◌, leb, eqb, cond, Bool, true, false, List, map, length, get_or, replicate, refl, sym, ap, ◌∙◌, arith, slice_index, inl, inr, ◌⊎◌, nat_tests, zip2_splat, zip2_splat_left, bitmask_splat, length-chunk, none_from_empty_mask, list_all, is_plain, ltb, chunk, zip2, mask_l, top, w8}
 
 abbrev mark : (ℕ → ℕ → Bool) → ℕ → ℕ → ℕ
 mark t a b = cond (t a b) 255 0

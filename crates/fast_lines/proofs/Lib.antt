@@ -1,3 +1,4 @@
+mod Common
 mod Lanes
 pub mod Written
 mod Nested

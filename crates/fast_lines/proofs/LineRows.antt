@@ -1,17 +1,6 @@
 -- The worked lines of each form, computed, and messages that have none.
-use Rattle.std.proofs.Common.{◌≡◌, ℕ, pos, negsuc, List, [], ◌∷◌, ◌++◌, Option, Some, None, map, refl}
-use Rattle.std.specs.Prelude.{codes}
-use Rattle.std.specs.Fmt.{digits}
-use Rattle.hex.specs.Hex.{encode_with}
-use Rattle.fast_template.specs.Resolved.{Instruction, Resolved, group_of, no_instructions, then_instruction}
-use Rattle.fast_value.specs.declared.kind.Presence.TheVariants.{Optional}
-use Rattle.fast_value.specs.declared.kind.Kind.TheVariants.{Int64, Ascii, Unicode, Bytes}
-use Rattle.fast_value.specs.declared.scalar.Scalar.TheVariants as value
-use Rattle.fast_template.proofs.WorkedSet.{quote, wrap, opt, legs, bare, tail, grp, uni, const, fixed, first}
-use Rattle.fast_stream.specs.Nodes.{Content}
+use Rattle.fast_lines.proofs.Common.{◌≡◌, ℕ, pos, negsuc, List, [], ◌∷◌, ◌++◌, Option, Some, None, map, refl, codes, digits, encode_with, Instruction, Resolved, group_of, no_instructions, then_instruction, Optional, Int64, Ascii, Unicode, Bytes, Scalar, quote, wrap, opt, legs, bare, tail, grp, uni, const, fixed, first, Content, Text, Json, line_by, value_text}
 use Rattle.fast_stream.proofs.Rows.{absent, decimal, group, message, sequence, text, u32, unicode, vector}
-use Rattle.fast_lines.specs.declared.form.Form.TheVariants.{Text, Json}
-use Rattle.fast_lines.specs.Lines.{line_by, value_text}
 
 -- the text of a message of a template
 abbrev shown : Resolved → Content → Option (List ℕ)
@@ -49,12 +38,12 @@ lines = refl
 -- ---- single values
 
 values : AllSo (
-    (value_text Text Int64 (value.I64 (negsuc 41)), Some (codes "-42")) ∷
+    (value_text Text Int64 (Scalar.I64 (negsuc 41)), Some (codes "-42")) ∷
     (shown fixed (message 15 (decimal (pos 0) (negsuc 0) ∷ absent ∷ [])), Some (codes "15 Fixed Px=-1e0 Raw=-\n")) ∷
     -- a quote, a backslash, a space, `~` and DEL
-    (value_text Text Ascii (value.Ascii (0x22 ∷ 0x5c ∷ 0x20 ∷ 0x7e ∷ 0x7f ∷ [])), Some (codes "\"\\x22\\x5c ~\\x7f\"")) ∷
-    (value_text Text Ascii (value.Ascii []), Some (codes "\"\"")) ∷
-    (value_text Text Bytes (value.Bytes []), Some (codes "x")) ∷
+    (value_text Text Ascii (Scalar.Ascii (0x22 ∷ 0x5c ∷ 0x20 ∷ 0x7e ∷ 0x7f ∷ [])), Some (codes "\"\\x22\\x5c ~\\x7f\"")) ∷
+    (value_text Text Ascii (Scalar.Ascii []), Some (codes "\"\"")) ∷
+    (value_text Text Bytes (Scalar.Bytes []), Some (codes "x")) ∷
     (line_by Text (codes "Void") no_instructions (message 20 []), Some (codes "20 Void\n")) ∷
     [])
 unfolding digits encode_with
@@ -77,17 +66,17 @@ json : AllSo (
     (in_json grp (message 11 (absent ∷ u32 6 ∷ [])), Some (codes "{\"template\":\"Grp\",\"id\":11,\"fields\":{\"Hd\":null,\"B\":6}}\n")) ∷
     (in_json fixed (message 15 (decimal (negsuc 1) (pos 100) ∷ vector (0x0a ∷ 0xff ∷ []) ∷ [])), Some (codes "{\"template\":\"Fixed\",\"id\":15,\"fields\":{\"Px\":100e-2,\"Raw\":\"0aff\"}}\n")) ∷
     -- a quote, a backslash, a space, `~`, and the control characters around them
-    (value_text Json Ascii (value.Ascii (0x22 ∷ 0x5c ∷ 0x20 ∷ 0x7e ∷ 0x00 ∷ 0x1f ∷ 0x7f ∷ [])), Some (codes "\"\\\"\\\\ ~\\u0000\\u001f\\u007f\"")) ∷
+    (value_text Json Ascii (Scalar.Ascii (0x22 ∷ 0x5c ∷ 0x20 ∷ 0x7e ∷ 0x00 ∷ 0x1f ∷ 0x7f ∷ [])), Some (codes "\"\\\"\\\\ ~\\u0000\\u001f\\u007f\"")) ∷
     -- bytes above 0x7F
-    (value_text Json Unicode (value.Unicode (0x22 ∷ 0xc2 ∷ 0x80 ∷ 0xf4 ∷ 0x8f ∷ 0xbf ∷ 0xbf ∷ [])), Some (codes "\"\\\"" ++ (0xc2 ∷ 0x80 ∷ 0xf4 ∷ 0x8f ∷ 0xbf ∷ 0xbf ∷ []) ++ codes "\"")) ∷
-    (value_text Json Ascii (value.Ascii []), Some (codes "\"\"")) ∷
-    (value_text Json Bytes (value.Bytes []), Some (codes "\"\"")) ∷
-    (value_text Json Int64 (value.I64 (negsuc 9223372036854775807)), Some (codes "-9223372036854775808")) ∷
+    (value_text Json Unicode (Scalar.Unicode (0x22 ∷ 0xc2 ∷ 0x80 ∷ 0xf4 ∷ 0x8f ∷ 0xbf ∷ 0xbf ∷ [])), Some (codes "\"\\\"" ++ (0xc2 ∷ 0x80 ∷ 0xf4 ∷ 0x8f ∷ 0xbf ∷ 0xbf ∷ []) ++ codes "\"")) ∷
+    (value_text Json Ascii (Scalar.Ascii []), Some (codes "\"\"")) ∷
+    (value_text Json Bytes (Scalar.Bytes []), Some (codes "\"\"")) ∷
+    (value_text Json Int64 (Scalar.I64 (negsuc 9223372036854775807)), Some (codes "-9223372036854775808")) ∷
     (line_by Json (codes "Void") no_instructions (message 20 []), Some (codes "{\"template\":\"Void\",\"id\":20,\"fields\":{}}\n")) ∷
     -- names that are escaped, that stand twice, and that are empty
     (line_by Json (codes "a\"b") (then_instruction (nothing_in (codes "\\")) (then_instruction (nothing_in (codes "\\")) (then_instruction (nothing_in []) no_instructions))) (message 20 (absent ∷ group [] ∷ absent ∷ [])), Some (codes "{\"template\":\"a\\\"b\",\"id\":20,\"fields\":{\"\\\\\":null,\"\\\\\":{},\"\":null}}\n")) ∷
     (in_json first (message 16 (u32 5 ∷ absent ∷ [])), None) ∷  -- absent mandatory
-    (value_text Json Ascii (value.Ascii (128 ∷ [])), None) ∷  -- no character
+    (value_text Json Ascii (Scalar.Ascii (128 ∷ [])), None) ∷  -- no character
     [])
 unfolding digits encode_with
 json = refl
@@ -102,7 +91,7 @@ others : AllSo (
     (shown bare (message 6 (absent ∷ [])), None) ∷  -- absent sequence
     (shown first (message 16 (u32 5 ∷ group [] ∷ [])), None) ∷  -- group for field
     (shown legs (message 4 (sequence ((u32 5 ∷ []) ∷ [] ∷ []) ∷ [])), None) ∷  -- element of none
-    (value_text Text Ascii (value.Ascii (128 ∷ [])), None) ∷  -- no character
+    (value_text Text Ascii (Scalar.Ascii (128 ∷ [])), None) ∷  -- no character
     [])
 unfolding digits encode_with
 others = refl

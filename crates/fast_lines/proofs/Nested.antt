@@ -1,26 +1,7 @@
 -- Texts of lists of nodes, from their front on.
-use Rattle.std.proofs.Common.{◌≡◌, ◌≢◌, ◌<◌, ◌≤◌, ◌+◌, ℕ, suc, List, [], ◌∷◌, ◌++◌, Option, Some, None, length, drop, get_or, map, option_map, Result, Ok, Err, refl, sym, subst, ap, ◌∙◌}
-use Rattle.std.specs.Prelude.{codes}
-use Rattle.std.proofs.lemmas.List.{append-nil, drop_all, drop_more}
-use Rattle.std.specs.Global.{Vec, Global}
-use Rattle.std.specs.formers.vec.Vec.{mapped}
-use mathlib.Core.Former.{this}
-use Rattle.fast_template.specs.declared.resolved.Flat.{Flat, fold-roll-Flat}
-use Rattle.fast_template.specs.declared.resolved.Flat.TheOpen.{Flat-F}
+use Rattle.fast_lines.proofs.Common.{◌≡◌, ◌≢◌, ◌<◌, ◌≤◌, ◌+◌, ℕ, suc, List, [], ◌∷◌, ◌++◌, Option, Some, None, length, drop, get_or, map, option_map, Result, Ok, Err, refl, sym, subst, ap, ◌∙◌, codes, append-nil, drop_all, drop_more, Vec, Global, mapped, this, Flat, fold-roll-Flat, Flat-F, rolls-Sequence, FieldPart, Presence, Instruction, flat_step, instruction_of, list_of, Node, fold_out-Node, Sequence, outs-Sequence, Item, Items, sequence_elements, item_of, items_of, items_in, elements_of, node_step, Form, between, braced, bracketed, elements_text, joined, member_text, members_text, node_text, sequence_text, Adds, Shows, ShowFault}
 use Rattle.fast_template.specs.declared.resolved.Flat.TheVariants as flat
-use Rattle.fast_template.specs.declared.resolved.Flat.TheVariants.{rolls-Sequence}
-use Rattle.fast_template.specs.declared.resolved.FieldPart.{FieldPart}
-use Rattle.fast_value.specs.declared.kind.Presence.{Presence}
-use Rattle.fast_template.specs.Resolved.{Instruction, flat_step, instruction_of, list_of}
-use Rattle.fast_stream.specs.declared.message.Node.{Node, fold_out-Node}
-use Rattle.fast_stream.specs.declared.message.Node.TheVariants.{Sequence, outs-Sequence}
-use Rattle.fast_stream.specs.Nodes.{Item, Items, sequence_elements, item_of, items_of, items_in, elements_of, node_step}
-use Rattle.fast_lines.specs.declared.form.Form.{Form}
-use Rattle.fast_lines.specs.Signs.{between}
-use Rattle.fast_lines.specs.Lines.{braced, bracketed, elements_text, joined, member_text, members_text, node_text, sequence_text}
 use Rattle.fast_lines.proofs.Written.{extends_by, joined_none, shows_behind, shows_err, shows_no_first, shows_then}
-use Rattle.fast_lines.specs.Written.{Adds, Shows}
-use Rattle.fast_lines.specs.declared.lines.ShowFault.{ShowFault}
 
 -- one list is longer than the other
 pub lengths_differ : (form : Form) (before : List ℕ) (flats : List Flat) (nodes : List Node) → length nodes ≢ length flats → members_text form before (list_of flats) (items_in nodes) ≡ None

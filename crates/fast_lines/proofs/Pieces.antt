@@ -1,10 +1,5 @@
 -- A short piece of a line, which is laid out from its end to its front.
-use Rattle.std.proofs.Common.{◌≡◌, ◌≤◌, ◌+◌, ◌-◌, ℕ, List, ◌++◌, length, take, drop, sym, ap, ap₂, subst, ◌∙◌, arith, length-drop, append_assoc, take-take}
-use Rattle.std.proofs.lemmas.List.{length-take-le, take-append-drop, take-append-le, drop-drop, drop-take, take_all}
-use Rattle.std.proofs.lemmas.Simd.{length-chunk, length-put_chunk, put_chunk_is}
-use Rattle.std.proofs.Math.Seq.{take-append-add, drop-append_seam, drop-append-add}
-use Rattle.fast_lines.specs.Pieces.{laid}
-use lib.Lanes.{chunk, put_chunk}
+use Rattle.fast_lines.proofs.Common.{◌≡◌, ◌≤◌, ◌+◌, ◌-◌, ℕ, List, ◌++◌, length, take, drop, sym, ap, ap₂, subst, ◌∙◌, arith, length-drop, append_assoc, take-take, length-take-le, take-append-drop, take-append-le, drop-drop, drop-take, take_all, length-chunk, length-put_chunk, put_chunk_is, take-append-add, drop-append_seam, drop-append-add, laid, chunk, put_chunk}
 
 -- more in front
 pub laid_more : (old new front : List ℕ) (start next : ℕ) → drop next new ≡ front ++ drop start old → next + length front ≡ start → start ≤ 64 → laid new next ≡ front ++ laid old start

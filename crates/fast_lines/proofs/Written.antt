@@ -1,22 +1,6 @@
 -- What calls one after the other have put behind an output.
-use Rattle.std.proofs.Common.{◌≡◌, ◌<◌, ◌≤◌, ◌+◌, ◌-◌, drop, arith, ◌/◌, ◌%◌, ℕ, List, [], ◌∷◌, ◌++◌, Option, Some, None, Ok, Err, Result, length, take, get_or, option_map, true≢false, true, refl, sym, ap, ap₂, ◌∙◌}
-use Rattle.std.specs.Prelude.{slice_index, IsErr}
+use Rattle.fast_lines.proofs.Common.{◌≡◌, ◌<◌, ◌≤◌, ◌+◌, ◌-◌, drop, arith, ◌/◌, ◌%◌, ℕ, List, [], ◌∷◌, ◌++◌, Option, Some, None, Ok, Err, Result, length, take, get_or, option_map, true≢false, true, refl, sym, ap, ap₂, ◌∙◌, slice_index, IsErr, take-append-add, take-length, AllocError, flat_map, list_all, flat_map-cons, and_parts, nat_tests, flat_map-append, encode_with, encode_lower, lower_digits, ShowFault, Mismatch, Memory, Form, Text, Json, joined, is_plain, unit_text, Extends, Writes, Adds, Shows}
 use Rattle.std.proofs.lemmas.List.{append-nil, append_assoc, drop_more, take_more, take-append-drop, length-drop, length-take-le}
-use Rattle.std.proofs.Math.Seq.{take-append-add, take-length}
-use Rattle.std.specs.declared.alloc.AllocError.{AllocError}
-use Rattle.std.specs.List.{flat_map, list_all}
-use Rattle.std.proofs.lemmas.List.Concat.{flat_map-cons}
-use Rattle.std.proofs.lemmas.Bool.{and_parts}
-use Rattle.std.proofs.lemmas.Bool.Decides.{nat_tests}
-use Rattle.std.proofs.lemmas.Grind.{flat_map-append}
-use Rattle.hex.specs.Hex.{encode_with, encode_lower, lower_digits}
-use Rattle.fast_lines.specs.declared.lines.ShowFault.{ShowFault}
-use Rattle.fast_lines.specs.declared.lines.ShowFault.TheVariants.{Mismatch, Memory}
-use Rattle.fast_lines.specs.declared.form.Form.{Form}
-use Rattle.fast_lines.specs.declared.form.Form.TheVariants.{Text, Json}
-use Rattle.fast_lines.specs.Lines.{joined}
-use Rattle.fast_lines.specs.Signs.{is_plain, unit_text}
-use Rattle.fast_lines.specs.Written.{Extends, Writes, Adds, Shows}
 
 -- ---- more behind an output
 

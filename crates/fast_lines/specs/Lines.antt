@@ -3,7 +3,6 @@ use Rattle.std.specs.Prelude.{ℕ, ℤ, ◌&&◌, if◌then◌else◌, List, [],
 use Rattle.std.specs.Fmt.{signed_decimal}
 use Rattle.fast_value.specs.Scalar.{is_of}
 use Rattle.fast_value.specs.declared.kind.Kind.{Kind}
-use Rattle.fast_value.specs.declared.kind.Kind.TheVariants as kind
 use Rattle.fast_value.specs.declared.kind.Presence.{Presence}
 use Rattle.fast_value.specs.declared.kind.Presence.TheVariants.{Mandatory, Optional}
 use Rattle.fast_value.specs.declared.scalar.Scalar.{Scalar}
@@ -96,7 +95,7 @@ abbrev mutual
   -- the value that stands behind the label
   pub node_text : Form → Instruction → Item → Option (List ℕ)
   node_text form (whole_field name number presence whole) n = field_text form whole.kind presence n
-  node_text form (field_in_parts name number presence exponent mantissa) n = field_text form kind.Decimal presence n
+  node_text form (field_in_parts name number presence exponent mantissa) n = field_text form Kind.Decimal presence n
   node_text form (group_of name number presence members) n =
       group_text form (λ ns. members_text form [] members ns) presence n
   node_text form (sequence_of name number presence length members) n =

@@ -1,6 +1,5 @@
 -- What holds of each element of two lists, and of both together.
-use Rattle.std.proofs.Common.{List, [], ◌∷◌, ◌++◌}
-use Rattle.std.specs.List.{AllByRecursion}
+use Rattle.fast_load.proofs.Common.{List, [], ◌∷◌, ◌++◌, AllByRecursion}
 
 module _ {A : Type 0} (P : A → Type 0) where
   pub all_of_both : (xs ys : List A) → AllByRecursion P xs → AllByRecursion P ys → AllByRecursion P (xs ++ ys)

@@ -1,13 +1,5 @@
 -- The keys of lists as they are put together have no slot yet.
-use Rattle.std.proofs.Common.{◌≡◌, ◌+◌, ℕ, suc, List, [], ◌∷◌, Option, Some, None, refl, sym, ap, subst}
-use Rattle.std.specs.Prelude.{slice_get}
-use Rattle.std.specs.List.{AllByRecursion}
-use Rattle.fast_value.specs.declared.kind.Part.{Part}
-use Rattle.fast_value.specs.declared.key.Key.{Key}
-use Rattle.fast_value.specs.declared.key.Scope.{Scope}
-use Rattle.fast_written.specs.Written.{WrittenOperation, WrittenInstruction, WrittenInstructions, WrittenTemplate, written_field, written_parts, written_group, written_sequence, written_reference, no_written, then_written, listed, listed_one}
-use Rattle.fast_template.specs.Resolved.{Instructions, no_instructions, then_instruction, joined, keys_of, keys_of_one}
-use Rattle.fast_load.specs.FlatLists.{Context, AreFlatLists, context_of, inside, scope_of, key_named, key_of, length_key, flat_one, flat_list}
+use Rattle.fast_load.proofs.Common.{◌≡◌, ◌+◌, ℕ, suc, List, [], ◌∷◌, Option, Some, None, refl, sym, ap, subst, slice_get, AllByRecursion, Part, Key, Scope, WrittenOperation, WrittenInstruction, WrittenInstructions, WrittenTemplate, written_field, written_parts, written_group, written_sequence, written_reference, no_written, then_written, listed, listed_one, Instructions, no_instructions, then_instruction, joined, keys_of, keys_of_one, Context, AreFlatLists, context_of, inside, scope_of, key_named, key_of, length_key, flat_one, flat_list}
 use Rattle.fast_load.proofs.AllOf.{all_of_both, all_of_front, all_of_back}
 
 abbrev Bare : Key → Type 0

@@ -1,22 +1,5 @@
 -- A set that is built from templates that no check fails.
-use Rattle.std.proofs.Common.{◌≡◌, ◌≤◌, ◌<◌, ◌+◌, ℕ, zero, suc, List, [], ◌∷◌, ◌++◌, length, map, take, drop, option_map, Option, Some, None, ◌⊎◌, inl, inr, refl, sym, ap, ap₂, subst, ◌∙◌, arith}
-use Rattle.std.specs.Prelude.{slice_get, slice_index_or, AllPairs, Contains, IsSome}
-use Rattle.std.specs.List.{AllByRecursion, AllZip}
-use Rattle.std.proofs.lemmas.Option.{slice_get_within, slice_get-get_or, slice_get-map}
-use Rattle.std.proofs.lemmas.List.{length-map, take_all, drop_all, append-nil}
-use Rattle.fast_value.specs.declared.key.Key.{Key}
-use Rattle.fast_template.specs.declared.resolved.FlatTemplate.{FlatTemplate}
-use Rattle.fast_written.specs.declared.written.Template.{Template}
-use Rattle.fast_written.specs.Written.{WrittenInstruction, WrittenInstructions, written_field, written_parts, written_group, written_sequence, written_reference, no_written, then_written, WrittenTemplate, written_template_of, listed}
-use Rattle.fast_template.specs.Resolved.{Instructions, Resolved, resolved_of, size_of, depth_of, keys_of, numbered, with_keys}
-use Rattle.fast_load.specs.FlatLists.{AreFlatLists, Resolves, AreResolved}
-use Rattle.fast_template.specs.TemplateSets.{HaveTypedParts, IsNumbered, Differ, AreSound, HasSlots, identifier_key, keys_of_all, size_of_all}
-use Rattle.fast_load.specs.LoadChecks.{Check, few_templates, names_well_made, name_new, id_new, operator_allowed, constant_has_value, default_has_value, value_spelled, reference_known, off_cycles, nests_little, sum_small, IsInstructionAt, IsAccepted, size_up_to, Fails}
-use Rattle.fast_load.specs.Phases.{phase_of, Passes}
-use Rattle.fast_load.specs.Links.{EachReference, EachReferenceOne, IsBehind, IsBuildOrder, references_in, references_in_one}
-use Rattle.fast_load.specs.NamedLists.{AreFlattened}
-use Rattle.fast_load.specs.Slots.{settled, AreSettled}
-use Rattle.fast_order.proofs.SearchSteps.{at_append}
+use Rattle.fast_load.proofs.Common.{◌≡◌, ◌≤◌, ◌<◌, ◌+◌, ℕ, zero, suc, List, [], ◌∷◌, ◌++◌, length, map, take, drop, option_map, Option, Some, None, ◌⊎◌, inl, inr, refl, sym, ap, ap₂, subst, ◌∙◌, arith, slice_get, slice_index_or, AllPairs, Contains, IsSome, AllByRecursion, AllZip, slice_get_within, slice_get-get_or, slice_get-map, length-map, take_all, drop_all, append-nil, Key, FlatTemplate, Template, WrittenInstruction, WrittenInstructions, written_field, written_parts, written_group, written_sequence, written_reference, no_written, then_written, WrittenTemplate, written_template_of, listed, Instructions, Resolved, resolved_of, size_of, depth_of, keys_of, numbered, with_keys, AreFlatLists, Resolves, AreResolved, HaveTypedParts, IsNumbered, Differ, AreSound, HasSlots, identifier_key, keys_of_all, size_of_all, Check, few_templates, names_well_made, name_new, id_new, operator_allowed, constant_has_value, default_has_value, value_spelled, reference_known, off_cycles, nests_little, sum_small, IsInstructionAt, IsAccepted, size_up_to, Fails, phase_of, Passes, EachReference, EachReferenceOne, IsBehind, IsBuildOrder, references_in, references_in_one, AreFlattened, settled, AreSettled, at_append}
 use Rattle.fast_load.proofs.LinkOrder.{named_there, listed_to}
 use Rattle.fast_load.proofs.SettledSound.{typed_settled, size_settled, depth_settled, in_order_settled}
 use Rattle.fast_load.proofs.TypedLists.{template_typed}

@@ -1,22 +1,6 @@
 -- The checks of a load at their limits: what fails, what does not, in which order, and how it is answered.
-use Rattle.std.proofs.Common.{◌≡◌, ◌<◌, ◌+◌, ℕ, zero, suc, List, [], ◌∷◌, length, map, nat_eq, if◌then◌else◌, Option, Some, None, true, false, refl, sym, ap, subst, ◌∙◌, lit<, arith}
-use Rattle.std.specs.Prelude.{codes, slice_get, option_and_then, IsSome}
-use Rattle.std.specs.Option.{option_map_or}
-use Rattle.std.specs.Cmp.Lexicographic.{pointwise}
-use Rattle.fast_value.specs.declared.kind.Kind.TheVariants.{UInt32}
-use Rattle.fast_value.specs.declared.kind.Presence.{Presence}
-use Rattle.fast_value.specs.declared.kind.Presence.TheVariants.{Mandatory, Optional}
-use Rattle.fast_value.specs.declared.kind.Operator.TheVariants.{Default, Copy}
-use Rattle.fast_written.specs.declared.fault.LoadFault.{LoadFault}
-use Rattle.fast_written.specs.declared.fault.LoadCause.{LoadCause}
-use Rattle.fast_written.specs.declared.fault.LoadCause.TheVariants as cause
-use Rattle.fast_written.specs.Written.{WrittenOperation, Surroundings, WrittenInstruction, WrittenInstructions, written_field, written_parts, written_group, written_sequence, written_reference, written_list, no_written, then_written, WrittenTemplate, WrittenPart, parts_of, listed}
-use Rattle.fast_template.specs.Resolved.{Instructions, no_instructions, joined, size_of, depth_of}
-use Rattle.fast_load.specs.FlatLists.{Context, context_of, flat_one, flat_list, AreFlatLists}
+use Rattle.fast_load.proofs.Common.{◌≡◌, ◌<◌, ◌+◌, ℕ, zero, suc, List, [], ◌∷◌, length, map, nat_eq, if◌then◌else◌, Option, Some, None, true, false, refl, sym, ap, subst, ◌∙◌, lit<, arith, codes, slice_get, option_and_then, IsSome, option_map_or, pointwise, UInt32, Presence, Mandatory, Optional, Default, Copy, LoadFault, LoadCause, WrittenOperation, Surroundings, WrittenInstruction, WrittenInstructions, written_field, written_parts, written_group, written_sequence, written_reference, written_list, no_written, then_written, WrittenTemplate, WrittenPart, parts_of, listed, Instructions, no_instructions, joined, size_of, depth_of, Context, context_of, flat_one, flat_list, AreFlatLists, want_of_memory, is_name, by, nothing_around, template}
 use Rattle.fast_load.specs.LoadChecks.{from_one, IsTemplateAt, IsInstructionAt, IsPartAt, HasNames, names_of, names_in, Refers, Leads, directly, onwards, size_up_to, Check, few_templates, names_well_made, name_new, id_new, operator_allowed, constant_has_value, default_has_value, value_spelled, reference_known, off_cycles, nests_little, sum_small, Fails, turn_of, Before, fault_of, IsAccepted, IsFirstFault}
-use Rattle.fast_written.specs.LoadFaults.{want_of_memory}
-use Rattle.fast_written.specs.Names.{is_name}
-use Rattle.fast_written.proofs.WorkedTemplates.{by, nothing_around, template}
 
 -- ---- names
 
@@ -93,13 +77,13 @@ abbrev fault : LoadCause → ℕ → ℕ → LoadFault
 fault c t i = record { cause = c; template = t; instruction = i }
 
 answers : map fault_of (few_templates ∷ names_well_made 7 8 ∷ name_new 7 ∷ id_new 7 ∷ operator_allowed 7 8 1 ∷ constant_has_value 7 8 1 ∷ default_has_value 7 8 1 ∷ value_spelled 7 8 1 ∷ reference_known 7 8 ∷ off_cycles 7 ∷ nests_little 7 ∷ sum_small 7 ∷ [])
-    ≡ fault cause.TooMany 0 0 ∷ fault cause.S1 7 8 ∷ fault cause.DuplicateName 7 0 ∷ fault cause.DuplicateId 7 0 ∷ fault cause.S2 7 8 ∷ fault cause.S4 7 8 ∷ fault cause.S5 7 8 ∷ fault cause.S3 7 8 ∷ fault cause.D8 7 8 ∷ fault cause.Cycle 7 0 ∷ fault cause.TooDeep 7 0 ∷ fault cause.TooMany 7 0 ∷ []
+    ≡ fault LoadCause.TooMany 0 0 ∷ fault LoadCause.S1 7 8 ∷ fault LoadCause.DuplicateName 7 0 ∷ fault LoadCause.DuplicateId 7 0 ∷ fault LoadCause.S2 7 8 ∷ fault LoadCause.S4 7 8 ∷ fault LoadCause.S5 7 8 ∷ fault LoadCause.S3 7 8 ∷ fault LoadCause.D8 7 8 ∷ fault LoadCause.Cycle 7 0 ∷ fault LoadCause.TooDeep 7 0 ∷ fault LoadCause.TooMany 7 0 ∷ []
 answers = refl
 
-great_numbers : fault_of (names_well_made 4294967296 4294967297) ∷ fault_of (names_well_made 4294967295 4294967294) ∷ [] ≡ fault cause.S1 4294967295 4294967295 ∷ fault cause.S1 4294967295 4294967294 ∷ []
+great_numbers : fault_of (names_well_made 4294967296 4294967297) ∷ fault_of (names_well_made 4294967295 4294967294) ∷ [] ≡ fault LoadCause.S1 4294967295 4294967295 ∷ fault LoadCause.S1 4294967295 4294967294 ∷ []
 great_numbers = refl
 
-memory : want_of_memory ≡ fault cause.Memory 0 0
+memory : want_of_memory ≡ fault LoadCause.Memory 0 0
 memory = refl
 
 -- ---- the order
@@ -331,5 +315,5 @@ unnamed_first (off_cycles t) before fails = absurd (cc before)
 unnamed_first (nests_little t) before fails = absurd (cc before)
 unnamed_first (sum_small t) before fails = absurd (cc before)
 
-unnamed_fault : IsFirstFault unnamed (fault cause.S1 1 0)
+unnamed_fault : IsFirstFault unnamed (fault LoadCause.S1 1 0)
 unnamed_fault = record { check = names_well_made 1 0; fails = (_, (_, refl, refl), refl); first = unnamed_first; answered = refl }

@@ -1,15 +1,5 @@
 -- A set that nests too deep fails that check.
-use Rattle.std.proofs.Common.{◌≡◌, ℕ, zero, suc, List, [], ◌∷◌, None, refl, ap, subst, lit<}
-use Rattle.std.specs.Option.{option_map_or}
-use Rattle.std.specs.Prelude.{codes}
-use Rattle.fast_value.specs.declared.kind.Kind.TheVariants.{UInt32}
-use Rattle.fast_value.specs.declared.kind.Presence.TheVariants.{Mandatory}
-use Rattle.fast_value.specs.declared.kind.Operator.TheVariants.{Plain}
-use Rattle.fast_written.specs.Written.{WrittenInstruction, written_field, written_group, written_list, WrittenTemplate}
-use Rattle.fast_template.specs.Resolved.{Instructions, no_instructions}
-use Rattle.fast_load.specs.FlatLists.{context_of, flat_list, AreFlatLists}
-use Rattle.fast_load.specs.LoadChecks.{nests_little, Fails}
-use Rattle.fast_written.proofs.WorkedTemplates.{by, nothing_around, template}
+use Rattle.fast_load.proofs.Common.{◌≡◌, ℕ, zero, suc, List, [], ◌∷◌, None, refl, ap, subst, lit<, option_map_or, codes, UInt32, Mandatory, Plain, WrittenInstruction, written_field, written_group, written_list, WrittenTemplate, Instructions, no_instructions, context_of, flat_list, AreFlatLists, nests_little, Fails, by, nothing_around, template}
 
 abbrev nested : ℕ → WrittenInstruction
 nested zero = written_field (codes "F") UInt32 Mandatory (by Plain)

@@ -1,21 +1,6 @@
 -- The phase of duplicates, from the first template that repeats something.
 use Rattle.std.proofs.Common.{◌≡◌, ◌≤◌, ◌<◌, ◌+◌, ℕ, zero, suc, List, [], ◌∷◌, ◌++◌, length, take, min, if◌then◌else◌, nat_eq, Option, Some, None, option_map, is_some, Bool, true, false, ◌⊎◌, inl, inr, refl, sym, ap, subst, ◌∙◌, append-nil, append_assoc, lit≤, arith, true≢false}
-use Rattle.std.specs.Prelude.{slice_get, IsSome}
-use Rattle.std.specs.Option.{option_map_or}
-use Rattle.std.specs.Ordering.{nat_cmp, ordering_then}
-use Rattle.std.specs.Cmp.{ranked, unsigned_Decides}
-use Rattle.std.specs.declared.cmp.Ordering.{Ordering}
-use Rattle.std.specs.declared.cmp.Ordering.TheVariants.{Less, Equal, Greater}
-use Rattle.std.specs.Cmp.Lexicographic.{pointwise, slice_cmp, same_text, nat_list_eq_equiv}
-use Rattle.fast_written.specs.declared.fault.LoadCause.{LoadCause}
-use Rattle.fast_written.specs.declared.fault.LoadCause.TheVariants.{DuplicateName, DuplicateId}
-use Rattle.fast_written.specs.declared.fault.LoadFault.{LoadFault}
-use Rattle.fast_written.specs.Written.{WrittenTemplate}
-use Rattle.fast_template.specs.TemplateSets.{has_id}
-use Rattle.fast_load.specs.LoadChecks.{Check, few_templates, names_well_made, name_new, id_new, operator_allowed, constant_has_value, default_has_value, value_spelled, reference_known, off_cycles, nests_little, sum_small, Fails, Before}
-use Rattle.fast_load.specs.Walks.{after_template}
-use Rattle.fast_load.specs.Duplicates.{place_where, place_named, place_of_id, repeats_id, duplicate_of, first_duplicate}
-use Rattle.fast_load.specs.Phases.{phase_of, Passes, IsFirstOf}
+use Rattle.fast_load.proofs.Common.{slice_get, IsSome, option_map_or, nat_cmp, ordering_then, ranked, unsigned_Decides, Ordering, Less, Equal, Greater, pointwise, slice_cmp, same_text, nat_list_eq_equiv, LoadCause, DuplicateName, DuplicateId, LoadFault, WrittenTemplate, has_id, Check, few_templates, names_well_made, name_new, id_new, operator_allowed, constant_has_value, default_has_value, value_spelled, reference_known, off_cycles, nests_little, sum_small, Fails, Before, after_template, place_where, place_named, place_of_id, repeats_id, duplicate_of, first_duplicate, phase_of, Passes, IsFirstOf}
 
 same_some : {A : Type 0} (x y : A) → Some x ≡ Some y → x ≡ y
 same_some x y e = ap (λ o. option_map_or (λ v. v) o x) e

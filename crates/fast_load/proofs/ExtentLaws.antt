@@ -1,17 +1,5 @@
 -- Extents are those of flat lists, up to where their counts stop.
-use Rattle.std.proofs.Common.{◌≡◌, ◌≤◌, ◌<◌, ◌+◌, ℕ, List, length, max, set, Some, inl, inr, refl, sym, ap, subst, ◌∙◌, arith}
-use Rattle.std.specs.Prelude.{slice_get, unwrap_or}
-use Rattle.std.specs.Option.{option_map_or}
-use Rattle.std.proofs.lemmas.Bool.{cases_lt}
-use Rattle.std.proofs.lemmas.Option.{slice_get_within, slice_get-get_or}
-use Rattle.fast_load.specs.declared.extents.Extent.{Extent}
-use Rattle.fast_written.specs.Written.{WrittenInstruction, WrittenInstructions, written_field, written_parts, written_group, written_sequence, written_reference, no_written, then_written, WrittenTemplate}
-use Rattle.fast_template.specs.Resolved.{Instructions, no_instructions, then_instruction, joined, size_of, depth_of}
-use Rattle.fast_load.specs.FlatLists.{Context, context_of, inside, flat_one, flat_list, AreFlatLists}
-use Rattle.fast_load.specs.Duplicates.{place_or}
-use Rattle.fast_load.specs.Links.{EachReference, EachReferenceOne, IsBehind, IsBuildOrder}
-use Rattle.fast_load.specs.Extents.{size_with, size_with_one, depth_with, depth_with_one, stopped_size, stopped_depth, size_named, depth_named, IsExtentOf}
-use Rattle.fast_order.proofs.SearchSteps.{at_set, at_set_same}
+use Rattle.fast_load.proofs.Common.{◌≡◌, ◌≤◌, ◌<◌, ◌+◌, ℕ, List, length, max, set, Some, inl, inr, refl, sym, ap, subst, ◌∙◌, arith, slice_get, unwrap_or, option_map_or, cases_lt, slice_get_within, slice_get-get_or, Extent, WrittenInstruction, WrittenInstructions, written_field, written_parts, written_group, written_sequence, written_reference, no_written, then_written, WrittenTemplate, Instructions, no_instructions, then_instruction, joined, size_of, depth_of, Context, context_of, inside, flat_one, flat_list, AreFlatLists, place_or, EachReference, EachReferenceOne, IsBehind, IsBuildOrder, size_with, size_with_one, depth_with, depth_with_one, stopped_size, stopped_depth, size_named, depth_named, IsExtentOf, at_set, at_set_same}
 use Rattle.fast_load.proofs.LinkOrder.{named_there}
 
 -- ---- flat lists

@@ -1,26 +1,9 @@
 -- Lists of resolved instructions, one after another.
-use Rattle.std.proofs.Common.{◌≡◌, ◌<◌, ◌≤◌, ◌+◌, ◌∷◌, ◌++◌, [], ℕ, List, map, drop, get_or, length, Option, option_map, String, Vec, string_bytes, refl, sym, ap, ◌∙◌}
-use Rattle.std.specs.declared.alloc.Global.{Global}
-use Rattle.std.specs.Option.{option_map_or}
-use Rattle.std.proofs.lemmas.Option.{slice_get_past}
-use Rattle.std.proofs.lemmas.List.{drop_more, drop_all}
-use Rattle.fast_value.specs.declared.kind.Kind.{Kind}
-use Rattle.fast_value.specs.declared.kind.Presence.{Presence}
-use Rattle.fast_written.specs.declared.written.Operation.{Operation}
+use Rattle.fast_load.proofs.Common.{◌≡◌, ◌<◌, ◌≤◌, ◌+◌, ◌∷◌, ◌++◌, [], ℕ, List, map, drop, get_or, length, Option, option_map, String, Vec, string_bytes, refl, sym, ap, ◌∙◌, Global, option_map_or, slice_get_past, drop_more, drop_all, Kind, Presence, Operation, Instruction-F, fold-roll-Instruction, FieldPart, Flat, FlatTemplate, WrittenInstruction, written_field, written_parts, written_group, written_sequence, written_step, written_list, written_of, operation_of, Instructions, whole_field, field_in_parts, group_of, sequence_of, no_instructions, then_instruction, joined, instructions_of, list_of, instruction_of, field_is, parts_are, group_is, sequence_is, list_at, Context, inside, flat_list, flat_one, field_part, exponent_part, mantissa_part, length_part}
 use Rattle.fast_written.specs.declared.written.Instruction.{Instruction}
 use Rattle.fast_written.specs.declared.written.Instruction.TheVariants as written
-use Rattle.fast_written.specs.declared.written.Instruction.TheOpen.{Instruction-F}
-use Rattle.fast_written.specs.declared.written.Instruction.TheFolds.{fold-roll-Instruction}
-use Rattle.fast_template.specs.declared.resolved.FieldPart.{FieldPart}
-use Rattle.fast_template.specs.declared.resolved.Flat.{Flat}
-use Rattle.fast_template.specs.declared.resolved.FlatTemplate.{FlatTemplate}
 use Rattle.fast_template.specs.declared.resolved.Flat.TheVariants as flat
-use Rattle.fast_written.specs.Written.{WrittenInstruction, written_field, written_parts, written_group, written_sequence, written_step, written_list, written_of, operation_of}
 use Rattle.fast_template.specs.Resolved as resolved
-use Rattle.fast_template.specs.Resolved.{Instructions, whole_field, field_in_parts, group_of, sequence_of, no_instructions, then_instruction, joined, instructions_of, list_of, instruction_of}
-use Rattle.fast_template.proofs.Variants.{field_is, parts_are, group_is, sequence_is}
-use Rattle.fast_load.specs.NamedLists.{list_at}
-use Rattle.fast_load.specs.FlatLists.{Context, inside, flat_list, flat_one, field_part, exponent_part, mantissa_part, length_part}
 
 pub joined_assoc : (a b c : Instructions) → joined (joined a b) c ≡ joined a (joined b c)
 joined_assoc no_instructions b c = refl

@@ -1,20 +1,6 @@
 -- Flat lists, in the order of references.
-use Rattle.std.proofs.Common.{◌≡◌, ◌≢◌, ◌≤◌, ◌<◌, ◌+◌, ℕ, List, length, get_or, map, set, option_map, Option, Some, None, ◌⊎◌, inl, inr, refl, sym, ap, subst, ◌∙◌, arith}
-use Rattle.std.specs.Prelude.{slice_get, slice_index_or, unwrap_or}
-use Rattle.std.specs.Option.{option_map_or}
-use Rattle.std.proofs.lemmas.Bool.{cases_lt}
-use Rattle.std.proofs.lemmas.Option.{slice_get_within, slice_get-get_or, slice_get-map}
-use Rattle.std.proofs.lemmas.List.{length-map, map-set, set-get_or, get_or-map}
-use Rattle.fast_template.specs.declared.resolved.FlatTemplate.{FlatTemplate}
-use Rattle.fast_written.specs.declared.written.Template.{Template}
-use Rattle.fast_written.specs.Written.{WrittenTemplate, written_template_of}
-use Rattle.fast_template.specs.Resolved.{Instructions, no_instructions, list_of}
-use Rattle.fast_load.specs.FlatLists.{context_of, flat_list, AreFlatLists}
-use Rattle.fast_load.specs.Links.{IsBehind, IsBuildOrder}
-use Rattle.fast_load.specs.NamedLists.{list_at, list_named, place_among, heading, heading_of, AreFlattened}
-use Rattle.fast_order.proofs.SearchSteps.{at_set, at_set_same, at_set_other}
+use Rattle.fast_load.proofs.Common.{◌≡◌, ◌≢◌, ◌≤◌, ◌<◌, ◌+◌, ℕ, List, length, get_or, map, set, option_map, Option, Some, None, ◌⊎◌, inl, inr, refl, sym, ap, subst, ◌∙◌, arith, slice_get, slice_index_or, unwrap_or, option_map_or, cases_lt, slice_get_within, slice_get-get_or, slice_get-map, length-map, map-set, set-get_or, get_or-map, FlatTemplate, Template, WrittenTemplate, written_template_of, Instructions, no_instructions, list_of, context_of, flat_list, AreFlatLists, IsBehind, IsBuildOrder, list_at, list_named, place_among, heading, heading_of, AreFlattened, at_set, at_set_same, at_set_other, place_or}
 use Rattle.fast_load.proofs.LinkOrder.{named_there}
-use Rattle.fast_load.specs.Duplicates.{place_or}
 use Rattle.fast_load.proofs.Solutions.{same_list}
 
 -- the lists of the first templates in the order are put together

@@ -1,13 +1,5 @@
 -- Maps from identifiers to the first templates that have them.
-use Rattle.std.proofs.Common.{◌≡◌, ◌<◌, ◌≤◌, ◌+◌, ℕ, suc, List, [], ◌∷◌, ◌++◌, length, take, get_or, cond, if◌then◌else◌, option_map, option_and_then, find, Option, Some, None, Bool, true, false, refl, sym, ap, ◌∙◌, arith}
-use Rattle.std.specs.Prelude.{slice_get}
-use Rattle.std.specs.Option.{option_or}
-use Rattle.std.specs.BTreeMap.{BTreeMap}
-use Rattle.std.proofs.lemmas.List.{take_more, take_all, length-take}
-use Rattle.fast_template.specs.declared.resolved.FlatTemplate.{FlatTemplate}
-use Rattle.fast_template.specs.TemplateSets.{has_id}
-use Rattle.fast_load.specs.IdPlaces.{first_with, LeadsToFirst, EntersPlace}
-use Rattle.fast_template.specs.Places.{FindsAll}
+use Rattle.fast_load.proofs.Common.{◌≡◌, ◌<◌, ◌≤◌, ◌+◌, ℕ, suc, List, [], ◌∷◌, ◌++◌, length, take, get_or, cond, if◌then◌else◌, option_map, option_and_then, find, Option, Some, None, Bool, true, false, refl, sym, ap, ◌∙◌, arith, slice_get, option_or, BTreeMap, take_more, take_all, length-take, FlatTemplate, has_id, first_with, LeadsToFirst, EntersPlace, FindsAll}
 
 further : (b c : Bool) (o : Option ℕ) (n : ℕ) → (if b then Some 0 else option_map suc (option_or o (if c then Some n else None))) ≡ option_or (if b then Some 0 else option_map suc o) (if c then Some (suc n) else None)
 further true c o n = refl

@@ -1,13 +1,7 @@
 -- Instructions one after another: what is taken of a pile of lists, and what is still to come.
 use Rattle.std.proofs.Common.{◌≡◌, ◌≤◌, ◌<◌, ◌+◌, ℕ, max, List, [], ◌∷◌, ◌++◌, drop, get_or, length, length-append, map, refl, sym, ap, ◌∙◌, append_assoc, append-nil, arith}
-use Rattle.std.proofs.lemmas.List.{drop_all, drop_more, map-append}
+use Rattle.fast_load.proofs.Common.{drop_all, drop_more, map-append, WrittenInstruction, WrittenInstructions, written_field, written_parts, written_group, written_sequence, written_reference, no_written, then_written, listed, listed_one, written_list, written_of, Leveled, Level, count_in, found_of, left_of, level_inside, leveled, leveled_of, leveled_one, members_in, to_come, referred_by, referred_along, references_in, references_in_one, depth_along, depth_with, depth_with_one, own_depth, own_size, size_along, size_with, size_with_one, stopped_depth, stopped_size}
 use Rattle.fast_written.specs.declared.written.Instruction.{Instruction}
-use Rattle.fast_written.specs.Written.{WrittenInstruction, WrittenInstructions, written_field, written_parts, written_group, written_sequence, written_reference, no_written, then_written, listed, listed_one, written_list, written_of}
-use Rattle.fast_load.specs.declared.in_order.Leveled.{Leveled}
-use Rattle.fast_load.specs.declared.in_order.Level.{Level}
-use Rattle.fast_load.specs.InOrder.{count_in, found_of, left_of, level_inside, leveled, leveled_of, leveled_one, members_in, to_come}
-use Rattle.fast_load.specs.Links.{referred_by, referred_along, references_in, references_in_one}
-use Rattle.fast_load.specs.Extents.{depth_along, depth_with, depth_with_one, own_depth, own_size, size_along, size_with, size_with_one, stopped_depth, stopped_size}
 
 -- the last list comes first
 pub to_come-push : (ls : List Level) (l : Level) → to_come (ls ++ l ∷ []) ≡ members_in l ++ to_come ls

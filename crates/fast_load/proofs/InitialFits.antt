@@ -1,21 +1,6 @@
 -- The value that a text spells is one of its part and type.
-use Rattle.std.proofs.Common.{◌≡◌, ◌≢◌, ◌<◌, ◌≤◌, ◌+◌, ◌-◌, ◌*◌, ◌/◌, ◌%◌, ◌^◌, ◌&&◌, ℕ, ℤ, pos, negsuc, List, [], ◌∷◌, length, nat_lt, nat_le, if◌then◌else◌, cond, Option, Some, None, Bool, true, false, nat_eq, ◌⊎◌, inl, inr, refl, sym, subst, arith, true≢false}
-use Rattle.std.specs.Prelude.{nat_abs, int_le, option_map, option_and_then, IsUtf8}
-use Rattle.std.specs.List.{list_all, AllByRecursion, before_first, after_first}
-use Rattle.std.proofs.lemmas.Bool.{leb-true, ltb-true}
-use Rattle.std.proofs.Math.Utf8.{encode, encodes, scalar, scalars, scalar_cases}
-use Rattle.fast_value.specs.declared.kind.Kind.{Kind}
-use Rattle.fast_value.specs.declared.kind.Kind.TheVariants as kind
-use Rattle.fast_value.specs.declared.kind.Part.{Part}
-use Rattle.fast_value.specs.declared.kind.Part.TheVariants as part
-use Rattle.fast_value.specs.declared.scalar.Scalar.{Scalar}
-use Rattle.fast_value.specs.declared.scalar.Scalar.TheVariants.{U32, I32, U64, I64, Decimal, Ascii, Unicode, Bytes}
-use Rattle.fast_value.specs.Scalar.{is_of, IsScalar, in_range, exponent_in_range, of_integer}
-use Rattle.fast_value.specs.InitialValues.{where_so, is_digit, integer_of, in_range_of, decimal_value, hex_digit_of, hex_bytes_of, is_short, value_of_text}
-use Rattle.fast_template.specs.TemplateSets.{is_in_part}
-use Rattle.std.specs.Cmp.{first_so, second_so}
+use Rattle.fast_load.proofs.Common.{◌≡◌, ◌≢◌, ◌<◌, ◌≤◌, ◌+◌, ◌-◌, ◌*◌, ◌/◌, ◌%◌, ◌^◌, ◌&&◌, ℕ, ℤ, pos, negsuc, List, [], ◌∷◌, length, nat_lt, nat_le, if◌then◌else◌, cond, Option, Some, None, Bool, true, false, nat_eq, ◌⊎◌, inl, inr, refl, sym, subst, arith, true≢false, nat_abs, int_le, option_map, option_and_then, IsUtf8, list_all, AllByRecursion, before_first, after_first, leb-true, ltb-true, encode, encodes, scalar, scalars, scalar_cases, Kind, Part, Scalar, U32, I32, U64, I64, Decimal, Ascii, Unicode, Bytes, is_of, IsScalar, in_range, exponent_in_range, of_integer, where_so, is_digit, integer_of, in_range_of, decimal_value, hex_digit_of, hex_bytes_of, is_short, value_of_text, is_in_part, first_so, second_so, in_type}
 use Rattle.fast_load.proofs.AllOf.{all_of_both}
-use Rattle.fast_value.proofs.NumberLaws.{in_type}
 
 -- what is to be shown of a value
 pub record Fits (p : Part) (k : Kind) (v : Scalar) : Type 0 where
@@ -34,47 +19,47 @@ unsigned_fits bound (pos n) e = leb-true n bound (second_so (nat_le 0 n) (nat_le
 unsigned_fits bound (negsuc n) e = absurd (true≢false (sym e))
 
 in_part_of : (p : Part) (k : Kind) (z : ℤ) → in_range_of p k z ≡ true → is_in_part p (I32 z) ≡ true
-in_part_of part.Exponent k z e = e
-in_part_of part.Whole k z e = refl
-in_part_of part.Mantissa k z e = refl
-in_part_of part.Length k z e = refl
+in_part_of Part.Exponent k z e = e
+in_part_of Part.Whole k z e = refl
+in_part_of Part.Mantissa k z e = refl
+in_part_of Part.Length k z e = refl
 
 any_part : (p : Part) (v : Scalar) → ((z : ℤ) → v ≢ I32 z) → is_in_part p v ≡ true
-any_part part.Whole v other = refl
-any_part part.Mantissa v other = refl
-any_part part.Length v other = refl
-any_part part.Exponent (U32 n) other = refl
-any_part part.Exponent (I32 z) other = absurd (other z refl)
-any_part part.Exponent (U64 n) other = refl
-any_part part.Exponent (I64 z) other = refl
-any_part part.Exponent (Decimal e m) other = refl
-any_part part.Exponent (Ascii s) other = refl
-any_part part.Exponent (Unicode s) other = refl
-any_part part.Exponent (Bytes s) other = refl
+any_part Part.Whole v other = refl
+any_part Part.Mantissa v other = refl
+any_part Part.Length v other = refl
+any_part Part.Exponent (U32 n) other = refl
+any_part Part.Exponent (I32 z) other = absurd (other z refl)
+any_part Part.Exponent (U64 n) other = refl
+any_part Part.Exponent (I64 z) other = refl
+any_part Part.Exponent (Decimal e m) other = refl
+any_part Part.Exponent (Ascii s) other = refl
+any_part Part.Exponent (Unicode s) other = refl
+any_part Part.Exponent (Bytes s) other = refl
 
-number_fits : (p : Part) (k : Kind) (z : ℤ) → (p ≡ part.Exponent → k ≡ kind.Int32) → in_range_of p k z ≡ true → is_of k (of_integer k z) ≡ true → Fits p k (of_integer k z)
-number_fits p kind.Int32 z only e is = record { of_kind = is; in_part = in_part_of p kind.Int32 z e; is_scalar = in_type p kind.Int32 z only e }
-number_fits p kind.UInt32 z only e is = record { of_kind = is; in_part = any_part p (U32 (nat_abs z)) (λ y same. absurd cc); is_scalar = let le = unsigned_fits (2 ^ 32 - 1) z (in_type p kind.UInt32 z only e) in omega (arith, le) }
-number_fits p kind.Int64 z only e is = record { of_kind = is; in_part = any_part p (I64 z) (λ y same. absurd cc); is_scalar = in_type p kind.Int64 z only e }
-number_fits p kind.UInt64 z only e is = record { of_kind = is; in_part = any_part p (U64 (nat_abs z)) (λ y same. absurd cc); is_scalar = let le = unsigned_fits (2 ^ 64 - 1) z (in_type p kind.UInt64 z only e) in omega (arith, le) }
-number_fits p kind.Decimal z only e is = absurd (true≢false (sym is))
-number_fits p kind.Ascii z only e is = absurd (true≢false (sym is))
-number_fits p kind.Unicode z only e is = absurd (true≢false (sym is))
-number_fits p kind.Bytes z only e is = absurd (true≢false (sym is))
+number_fits : (p : Part) (k : Kind) (z : ℤ) → (p ≡ Part.Exponent → k ≡ Kind.Int32) → in_range_of p k z ≡ true → is_of k (of_integer k z) ≡ true → Fits p k (of_integer k z)
+number_fits p Kind.Int32 z only e is = record { of_kind = is; in_part = in_part_of p Kind.Int32 z e; is_scalar = in_type p Kind.Int32 z only e }
+number_fits p Kind.UInt32 z only e is = record { of_kind = is; in_part = any_part p (U32 (nat_abs z)) (λ y same. absurd cc); is_scalar = let le = unsigned_fits (2 ^ 32 - 1) z (in_type p Kind.UInt32 z only e) in omega (arith, le) }
+number_fits p Kind.Int64 z only e is = record { of_kind = is; in_part = any_part p (I64 z) (λ y same. absurd cc); is_scalar = in_type p Kind.Int64 z only e }
+number_fits p Kind.UInt64 z only e is = record { of_kind = is; in_part = any_part p (U64 (nat_abs z)) (λ y same. absurd cc); is_scalar = let le = unsigned_fits (2 ^ 64 - 1) z (in_type p Kind.UInt64 z only e) in omega (arith, le) }
+number_fits p Kind.Decimal z only e is = absurd (true≢false (sym is))
+number_fits p Kind.Ascii z only e is = absurd (true≢false (sym is))
+number_fits p Kind.Unicode z only e is = absurd (true≢false (sym is))
+number_fits p Kind.Bytes z only e is = absurd (true≢false (sym is))
 
-integer_fits : (p : Part) (k : Kind) (v : Scalar) (o : Option ℤ) → (p ≡ part.Exponent → k ≡ kind.Int32) → ((z : ℤ) → is_of k (of_integer k z) ≡ true)
+integer_fits : (p : Part) (k : Kind) (v : Scalar) (o : Option ℤ) → (p ≡ Part.Exponent → k ≡ Kind.Int32) → ((z : ℤ) → is_of k (of_integer k z) ≡ true)
     → option_and_then (λ z. where_so (in_range_of p k z) (of_integer k z)) o ≡ Some v → Fits p k v
 integer_fits p k v None only is e = absurd cc
 integer_fits p k v (Some z) only is e =
     let is_so = so (in_range_of p k z) (of_integer k z) v e in
     subst (Fits p k) is_so.1 (number_fits p k z only is_so.0 (is z))
 
-decimal_fits : (p : Part) (v : Scalar) (m x : Option ℤ) → decimal_value m x ≡ Some v → Fits p kind.Decimal v
+decimal_fits : (p : Part) (v : Scalar) (m x : Option ℤ) → decimal_value m x ≡ Some v → Fits p Kind.Decimal v
 decimal_fits p v None x e = absurd cc
 decimal_fits p v (Some m) None e = absurd cc
 decimal_fits p v (Some m) (Some x) e =
-    let is_so = so (in_range kind.Int64 m && exponent_in_range x) (Decimal x m) v e in
-    subst (Fits p kind.Decimal) is_so.1 (record { of_kind = refl; in_part = any_part p (Decimal x m) (λ y same. absurd cc); is_scalar = (second_so (in_range kind.Int64 m) (exponent_in_range x) is_so.0, first_so (in_range kind.Int64 m) (exponent_in_range x) is_so.0) })
+    let is_so = so (in_range Kind.Int64 m && exponent_in_range x) (Decimal x m) v e in
+    subst (Fits p Kind.Decimal) is_so.1 (record { of_kind = refl; in_part = any_part p (Decimal x m) (λ y same. absurd cc); is_scalar = (second_so (in_range Kind.Int64 m) (exponent_in_range x) is_so.0, first_so (in_range Kind.Int64 m) (exponent_in_range x) is_so.0) })
 
 -- ---- texts
 
@@ -138,24 +123,24 @@ hex_bytes (h ∷ l ∷ text) bytes e = pair_bytes (hex_digit_of h) (hex_digit_of
 short : (s : List ℕ) → is_short s ≡ true → length s ≤ 65535
 short s e = leb-true (length s) 65535 e
 
-bytes_fit : (p : Part) (o : Option (List ℕ)) (v : Scalar) → ((s : List ℕ) → o ≡ Some s → AllByRecursion (λ b. b < 256) s) → option_and_then (λ bytes. where_so (is_short bytes) (Bytes bytes)) o ≡ Some v → Fits p kind.Bytes v
+bytes_fit : (p : Part) (o : Option (List ℕ)) (v : Scalar) → ((s : List ℕ) → o ≡ Some s → AllByRecursion (λ b. b < 256) s) → option_and_then (λ bytes. where_so (is_short bytes) (Bytes bytes)) o ≡ Some v → Fits p Kind.Bytes v
 bytes_fit p None v are e = absurd cc
 bytes_fit p (Some s) v are e =
     let is_so = so (is_short s) (Bytes s) v e in
-    subst (Fits p kind.Bytes) is_so.1 (record { of_kind = refl; in_part = any_part p (Bytes s) (λ y same. absurd cc); is_scalar = (short s is_so.0, are s refl) })
+    subst (Fits p Kind.Bytes) is_so.1 (record { of_kind = refl; in_part = any_part p (Bytes s) (λ y same. absurd cc); is_scalar = (short s is_so.0, are s refl) })
 
 -- ---- any text
 
-pub value_fits : (p : Part) (k : Kind) (text : List ℕ) (v : Scalar) → IsUtf8 text → (p ≡ part.Exponent → k ≡ kind.Int32) → value_of_text p k text ≡ Some v → Fits p k v
-value_fits p kind.Int32 text v utf8 only e = integer_fits p kind.Int32 v (integer_of text) only (λ z. refl) e
-value_fits p kind.UInt32 text v utf8 only e = integer_fits p kind.UInt32 v (integer_of text) only (λ z. refl) e
-value_fits p kind.Int64 text v utf8 only e = integer_fits p kind.Int64 v (integer_of text) only (λ z. refl) e
-value_fits p kind.UInt64 text v utf8 only e = integer_fits p kind.UInt64 v (integer_of text) only (λ z. refl) e
-value_fits p kind.Decimal text v utf8 only e = decimal_fits p v (integer_of (before_first (λ c. nat_eq c 101) text)) (integer_of (after_first (λ c. nat_eq c 101) text)) e
-value_fits p kind.Ascii text v utf8 only e =
+pub value_fits : (p : Part) (k : Kind) (text : List ℕ) (v : Scalar) → IsUtf8 text → (p ≡ Part.Exponent → k ≡ Kind.Int32) → value_of_text p k text ≡ Some v → Fits p k v
+value_fits p Kind.Int32 text v utf8 only e = integer_fits p Kind.Int32 v (integer_of text) only (λ z. refl) e
+value_fits p Kind.UInt32 text v utf8 only e = integer_fits p Kind.UInt32 v (integer_of text) only (λ z. refl) e
+value_fits p Kind.Int64 text v utf8 only e = integer_fits p Kind.Int64 v (integer_of text) only (λ z. refl) e
+value_fits p Kind.UInt64 text v utf8 only e = integer_fits p Kind.UInt64 v (integer_of text) only (λ z. refl) e
+value_fits p Kind.Decimal text v utf8 only e = decimal_fits p v (integer_of (before_first (λ c. nat_eq c 101) text)) (integer_of (after_first (λ c. nat_eq c 101) text)) e
+value_fits p Kind.Ascii text v utf8 only e =
     let is_so = so (list_all (λ c. nat_lt c 128) text && is_short text) (Ascii text) v e in
-    subst (Fits p kind.Ascii) is_so.1 (record { of_kind = refl; in_part = any_part p (Ascii text) (λ y same. absurd cc); is_scalar = (short text (second_so (list_all (λ c. nat_lt c 128) text) (is_short text) is_so.0), all_below 128 text (first_so (list_all (λ c. nat_lt c 128) text) (is_short text) is_so.0)) })
-value_fits p kind.Unicode text v utf8 only e =
+    subst (Fits p Kind.Ascii) is_so.1 (record { of_kind = refl; in_part = any_part p (Ascii text) (λ y same. absurd cc); is_scalar = (short text (second_so (list_all (λ c. nat_lt c 128) text) (is_short text) is_so.0), all_below 128 text (first_so (list_all (λ c. nat_lt c 128) text) (is_short text) is_so.0)) })
+value_fits p Kind.Unicode text v utf8 only e =
     let is_so = so (is_short text) (Unicode text) v e in
-    subst (Fits p kind.Unicode) is_so.1 (record { of_kind = refl; in_part = any_part p (Unicode text) (λ y same. absurd cc); is_scalar = (short text is_so.0, utf8_bytes text utf8, utf8) })
-value_fits p kind.Bytes text v utf8 only e = bytes_fit p (hex_bytes_of text) v (λ s is. hex_bytes text s is) e
+    subst (Fits p Kind.Unicode) is_so.1 (record { of_kind = refl; in_part = any_part p (Unicode text) (λ y same. absurd cc); is_scalar = (short text is_so.0, utf8_bytes text utf8, utf8) })
+value_fits p Kind.Bytes text v utf8 only e = bytes_fit p (hex_bytes_of text) v (λ s is. hex_bytes text s is) e

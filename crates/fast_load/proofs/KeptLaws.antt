@@ -1,19 +1,7 @@
 -- What is kept of instructions, one after another.
 use Rattle.std.proofs.Common.{◌≡◌, ◌<◌, ◌≤◌, ◌+◌, ◌∷◌, ◌++◌, [], ℕ, List, map, drop, get_or, length, sym, ap, Option, Vec, subst, ◌∙◌, append_assoc, append-nil}
-use Rattle.std.specs.List.{flat_map}
-use Rattle.fast_value.specs.declared.scalar.Scalar.{Scalar}
-use Rattle.std.proofs.lemmas.List.{drop_all, drop_more, length-map, get_or-map, map-append}
-use Rattle.std.proofs.lemmas.Grind.{flat_map-append}
-use Rattle.std.proofs.Math.Seq.{drop-append_seam}
+use Rattle.fast_load.proofs.Common.{flat_map, Scalar, drop_all, drop_more, length-map, get_or-map, map-append, flat_map-append, drop-append_seam, Template, WrittenInstruction, WrittenInstructions, listed, listed_one, written_list, written_of, written_template_of, Leveled, found_of, kept_of, Global, references_in, references_in_one, AreInitials, Leads, initials_of, initials_in, initials_in_one}
 use Rattle.fast_written.specs.declared.written.Instruction.{Instruction}
-use Rattle.fast_written.specs.declared.written.Template.{Template}
-use Rattle.fast_written.specs.Written.{WrittenInstruction, WrittenInstructions, listed, listed_one, written_list, written_of, written_template_of}
-use Rattle.fast_load.specs.declared.in_order.Leveled.{Leveled}
-use Rattle.fast_load.specs.InOrder.{found_of}
-use Rattle.fast_load.specs.Walks.{kept_of}
-use Rattle.std.specs.declared.alloc.Global.{Global}
-use Rattle.fast_load.specs.Links.{references_in, references_in_one}
-use Rattle.fast_load.specs.Initials.{AreInitials, Leads, initials_of, initials_in, initials_in_one}
 
 module _ {K : Type 0} (keeps : WrittenInstruction → List K) where
   -- one instruction more is judged

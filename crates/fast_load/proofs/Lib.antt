@@ -1,3 +1,4 @@
+mod Common
 pub mod AllOf
 pub mod Rewritten
 pub mod Numbering

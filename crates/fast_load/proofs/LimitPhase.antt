@@ -1,23 +1,5 @@
 -- The phase of limits, from the extents of flat lists; and that there are flat lists.
-use Rattle.std.proofs.Common.{◌≡◌, ◌≤◌, ◌<◌, ◌+◌, ℕ, zero, suc, List, [], ◌∷◌, length, get_or, take, min, nat_eq, nat_lt, if◌then◌else◌, option_map, Option, Some, None, Bool, true, false, ◌⊎◌, inl, inr, refl, sym, ap, subst, ◌∙◌, arith}
-use Rattle.std.specs.Prelude.{slice_get, MatchOption}
-use Rattle.std.specs.Option.{option_map_or}
-use Rattle.std.specs.Cmp.{unsigned_Decides}
-use Rattle.std.specs.Cmp.Lexicographic.{pointwise}
-use Rattle.std.proofs.lemmas.Bool.{ltb-true, ltb-false}
-use Rattle.std.proofs.lemmas.Option.{slice_get_within, slice_get-get_or, slice_get_cases}
-use Rattle.fast_load.specs.declared.extents.Extent.{Extent}
-use Rattle.fast_written.specs.declared.fault.LoadFault.{LoadFault}
-use Rattle.fast_written.specs.declared.fault.LoadCause.{LoadCause}
-use Rattle.fast_written.specs.declared.fault.LoadCause.TheVariants.{TooDeep, TooMany}
-use Rattle.fast_written.specs.Written.{WrittenTemplate}
-use Rattle.fast_template.specs.Resolved.{Instructions, depth_of}
-use Rattle.fast_load.specs.FlatLists.{AreFlatLists}
-use Rattle.fast_load.specs.LoadChecks.{Check, few_templates, names_well_made, name_new, id_new, operator_allowed, constant_has_value, default_has_value, value_spelled, reference_known, off_cycles, nests_little, sum_small, size_up_to, Fails, Before}
-use Rattle.fast_load.specs.Phases.{phase_of, Passes, IsFirstOf}
-use Rattle.fast_load.specs.Duplicates.{place_named}
-use Rattle.fast_load.specs.Links.{IsBehind, IsBuildOrder}
-use Rattle.fast_load.specs.Extents.{IsExtentOf, too_large}
+use Rattle.fast_load.proofs.Common.{◌≡◌, ◌≤◌, ◌<◌, ◌+◌, ℕ, zero, suc, List, [], ◌∷◌, length, get_or, take, min, nat_eq, nat_lt, if◌then◌else◌, option_map, Option, Some, None, Bool, true, false, ◌⊎◌, inl, inr, refl, sym, ap, subst, ◌∙◌, arith, slice_get, MatchOption, option_map_or, unsigned_Decides, pointwise, ltb-true, ltb-false, slice_get_within, slice_get-get_or, slice_get_cases, Extent, LoadFault, LoadCause, TooDeep, TooMany, WrittenTemplate, Instructions, depth_of, AreFlatLists, Check, few_templates, names_well_made, name_new, id_new, operator_allowed, constant_has_value, default_has_value, value_spelled, reference_known, off_cycles, nests_little, sum_small, size_up_to, Fails, Before, phase_of, Passes, IsFirstOf, place_named, IsBehind, IsBuildOrder, IsExtentOf, too_large}
 use Rattle.fast_load.proofs.LinkOrder.{named_here}
 use Rattle.fast_load.proofs.ExtentLaws.{each_so}
 use Rattle.fast_load.proofs.NamePhase.{earlier_or_here}

@@ -1,17 +1,5 @@
 -- References, one instruction after another.
-use Rattle.std.proofs.Common.{◌≡◌, ◌<◌, ◌+◌, ◌∷◌, ◌++◌, [], ℕ, List, map, drop, get_or, length, option_to_list, Option, Vec, refl, sym, ap, ◌∙◌, append_assoc}
-use Rattle.std.specs.List.{flat_map}
-use Rattle.std.specs.BTreeMap.{BTreeMap}
-use Rattle.std.specs.declared.alloc.Global.{Global}
-use Rattle.fast_written.specs.declared.written.Template.{Template}
-use Rattle.fast_written.specs.Written.{WrittenInstruction, WrittenInstructions, listed, written_template_of}
-use Rattle.fast_load.specs.Duplicates.{NamesLead, place_named}
-use Rattle.fast_load.specs.Walks.{kept_of}
-use Rattle.fast_load.specs.Links.{AreLinks, place_in, places_of, referred_along, referred_by, references_in}
-use Rattle.std.proofs.lemmas.List.{drop_more, length-map, map-append}
-use Rattle.fast_load.specs.declared.in_order.Leveled.{Leveled}
-use Rattle.fast_load.specs.InOrder.{found_of}
-use Rattle.fast_load.specs.Initials.{Leads}
+use Rattle.fast_load.proofs.Common.{◌≡◌, ◌<◌, ◌+◌, ◌∷◌, ◌++◌, [], ℕ, List, map, drop, get_or, length, option_to_list, Option, Vec, refl, sym, ap, ◌∙◌, append_assoc, flat_map, BTreeMap, Global, Template, WrittenInstruction, WrittenInstructions, listed, written_template_of, NamesLead, place_named, kept_of, AreLinks, place_in, places_of, referred_along, referred_by, references_in, drop_more, length-map, map-append, Leveled, found_of, Leads}
 use Rattle.fast_load.proofs.KeptLaws.{behind, leads_so}
 use Rattle.fast_load.proofs.InOrderLaws.{referred_all}
 

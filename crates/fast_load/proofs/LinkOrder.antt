@@ -1,26 +1,7 @@
 -- References by name and by place are one, and so are their cycles and orders.
-use Rattle.std.proofs.Common.{◌≡◌, ◌≢◌, ◌≤◌, ◌<◌, ◌+◌, ℕ, zero, suc, List, [], ◌∷◌, length, get_or, map, min, nat_eq, option_to_list, option_map, Option, Some, None, Vec, ◌⊎◌, inl, inr, refl, sym, ap, subst, ◌∙◌, arith}
-use Rattle.std.specs.Prelude.{slice_get}
-use Rattle.std.specs.Ordering.{nat_cmp, ordering_then}
-use Rattle.std.specs.Cmp.{ranked}
-use Rattle.std.specs.declared.cmp.Ordering.{Ordering}
-use Rattle.std.specs.declared.cmp.Ordering.TheVariants.{Less, Equal, Greater}
-use Rattle.std.specs.Cmp.Lexicographic.{pointwise, nat_list_eq_equiv, same_text}
-use Rattle.std.specs.declared.alloc.Global.{Global}
-use Rattle.std.proofs.lemmas.Bool.{cases_eq, cases_lt}
-use Rattle.std.proofs.lemmas.Option.{slice_get_within, slice_get-map, slice_get_cases}
-use Rattle.std.proofs.lemmas.List.{length-map}
-use Rattle.fast_written.specs.declared.fault.LoadCause.TheVariants.{Cycle}
-use Rattle.fast_written.specs.declared.fault.LoadFault.{LoadFault}
-use Rattle.fast_written.specs.declared.written.Template.{Template}
-use Rattle.fast_written.specs.Written.{WrittenInstruction, WrittenInstructions, written_field, written_parts, written_group, written_sequence, written_reference, no_written, then_written, WrittenTemplate, written_template_of, listed, listed_one}
+use Rattle.fast_load.proofs.Common.{◌≡◌, ◌≢◌, ◌≤◌, ◌<◌, ◌+◌, ℕ, zero, suc, List, [], ◌∷◌, length, get_or, map, min, nat_eq, option_to_list, option_map, Option, Some, None, Vec, ◌⊎◌, inl, inr, refl, sym, ap, subst, ◌∙◌, arith, slice_get, nat_cmp, ordering_then, ranked, Ordering, Less, Equal, Greater, pointwise, nat_list_eq_equiv, same_text, Global, cases_eq, cases_lt, slice_get_within, slice_get-map, slice_get_cases, length-map, Cycle, LoadFault, Template, WrittenInstruction, WrittenInstructions, written_field, written_parts, written_group, written_sequence, written_reference, no_written, then_written, WrittenTemplate, written_template_of, listed, listed_one, phase_of, Passes, IsFirstOf, place_named, IsReference, AreWithin, Reaches, one, further, IsOrder, IsFirstOnCycle, AreLinks, references_in, references_in_one, places_of, EachReference, EachReferenceOne, IsBehind, IsBuildOrder, at_append, at_old, at_right}
 use Rattle.fast_load.specs.LoadChecks.{Check, few_templates, names_well_made, name_new, id_new, operator_allowed, constant_has_value, default_has_value, value_spelled, reference_known, off_cycles, nests_little, sum_small, IsTemplateAt, Fails, Before, Refers, Leads, directly, onwards}
-use Rattle.fast_load.specs.Phases.{phase_of, Passes, IsFirstOf}
-use Rattle.fast_load.specs.Duplicates.{place_named}
-use Rattle.fast_order.specs.Order.{IsReference, AreWithin, Reaches, one, further, IsOrder, IsFirstOnCycle}
-use Rattle.fast_load.specs.Links.{AreLinks, references_in, references_in_one, places_of, EachReference, EachReferenceOne, IsBehind, IsBuildOrder}
 use Rattle.fast_load.proofs.DuplicatePhase.{Found, found, placed}
-use Rattle.fast_order.proofs.SearchSteps.{at_append, at_old, at_right}
 
 -- ---- places of names
 

@@ -1,17 +1,5 @@
 -- Rows of links are the places of the names that references give.
-use Rattle.std.proofs.Common.{◌≡◌, ◌<◌, ◌∷◌, ◌++◌, [], ℕ, suc, List, map, length, get_or, nat_eq, if◌then◌else◌, option_map, option_to_list, Option, Some, Vec, refl, sym, ap, ◌∙◌}
-use Rattle.std.specs.Prelude.{slice_get, unwrap_or}
-use Rattle.std.specs.Cmp.Lexicographic.{pointwise}
-use Rattle.std.specs.declared.alloc.Global.{Global}
-use Rattle.std.proofs.lemmas.Option.{slice_get-get_or, slice_get-map}
-use Rattle.fast_template.specs.declared.resolved.FlatTemplate.{FlatTemplate}
-use Rattle.fast_written.specs.declared.written.Template.{Template}
-use Rattle.fast_written.specs.Written.{WrittenTemplate, written_template_of}
-use Rattle.fast_load.specs.Duplicates.{place_named, place_or}
-use Rattle.fast_load.specs.Initials.{Leads}
-use Rattle.fast_load.specs.Links.{AreLinks, places_of, references_in}
-use Rattle.fast_load.specs.NamedLists.{first_named, heading, heading_of, place_among, Heading}
-use Rattle.fast_load.specs.Phases.{Passes}
+use Rattle.fast_load.proofs.Common.{◌≡◌, ◌<◌, ◌∷◌, ◌++◌, [], ℕ, suc, List, map, length, get_or, nat_eq, if◌then◌else◌, option_map, option_to_list, Option, Some, Vec, refl, sym, ap, ◌∙◌, slice_get, unwrap_or, pointwise, Global, slice_get-get_or, slice_get-map, FlatTemplate, Template, WrittenTemplate, written_template_of, place_named, place_or, Leads, AreLinks, places_of, references_in, first_named, heading, heading_of, place_among, Heading, Passes}
 use Rattle.fast_load.proofs.KeptLaws.{leads_whole, row_is}
 use Rattle.fast_load.proofs.LinkOrder.{is_known}
 

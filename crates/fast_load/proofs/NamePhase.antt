@@ -1,21 +1,5 @@
 -- The phase of names, from what is judged of each template and instruction.
-use Rattle.std.proofs.Common.{◌≡◌, ◌≤◌, ◌<◌, ◌+◌, ℕ, zero, suc, List, [], ◌∷◌, length, min, if◌then◌else◌, Option, Some, None, Bool, true, false, ◌⊎◌, inl, inr, refl, sym, ap, subst, ◌∙◌, arith}
-use Rattle.std.specs.Prelude.{slice_get}
-use Rattle.std.specs.Option.{option_map_or}
-use Rattle.std.specs.List.{list_all}
-use Rattle.std.specs.Ordering.{nat_cmp, ordering_then}
-use Rattle.std.specs.Cmp.{ranked}
-use Rattle.std.specs.declared.cmp.Ordering.{Ordering}
-use Rattle.std.specs.declared.cmp.Ordering.TheVariants.{Less, Equal, Greater}
-use Rattle.std.specs.Cmp.Lexicographic.{slice_cmp}
-use Rattle.fast_written.specs.declared.fault.LoadCause.{LoadCause}
-use Rattle.fast_written.specs.declared.fault.LoadCause.TheVariants.{S1}
-use Rattle.fast_written.specs.declared.fault.LoadFault.{LoadFault}
-use Rattle.fast_written.specs.Written.{WrittenInstruction, WrittenTemplate}
-use Rattle.fast_load.specs.LoadChecks.{Check, few_templates, names_well_made, name_new, id_new, operator_allowed, constant_has_value, default_has_value, value_spelled, reference_known, off_cycles, nests_little, sum_small, names_of, names_in, Fails, Before}
-use Rattle.fast_written.specs.Names.{is_name}
-use Rattle.fast_load.specs.Walks.{first_at_fault}
-use Rattle.fast_load.specs.Phases.{phase_of, Passes, IsFirstOf}
+use Rattle.fast_load.proofs.Common.{◌≡◌, ◌≤◌, ◌<◌, ◌+◌, ℕ, zero, suc, List, [], ◌∷◌, length, min, if◌then◌else◌, Option, Some, None, Bool, true, false, ◌⊎◌, inl, inr, refl, sym, ap, subst, ◌∙◌, arith, slice_get, option_map_or, list_all, nat_cmp, ordering_then, ranked, Ordering, Less, Equal, Greater, slice_cmp, LoadCause, S1, LoadFault, WrittenInstruction, WrittenTemplate, Check, few_templates, names_well_made, name_new, id_new, operator_allowed, constant_has_value, default_has_value, value_spelled, reference_known, off_cycles, nests_little, sum_small, names_of, names_in, Fails, Before, is_name, first_at_fault, phase_of, Passes, IsFirstOf}
 use Rattle.fast_load.proofs.WalkLaws.{CauseIn, IsFirstPlace, first_place, no_place}
 
 abbrev pub name_cause : List (List ℕ) → Option LoadCause

@@ -1,7 +1,5 @@
 -- Numbering a list of instructions from its front.
-use Rattle.std.proofs.Common.{◌≡◌, ◌<◌, ◌+◌, ℕ, List, length, take, drop, get_or, slice_set, sym, ap, ◌∙◌}
-use Rattle.fast_template.specs.declared.resolved.Flat.{Flat}
-use Rattle.fast_template.specs.Resolved.{Instructions, then_instruction, instruction_of, list_of, joined, numbered, numbered_one, size_of, size_of_one}
+use Rattle.fast_load.proofs.Common.{◌≡◌, ◌<◌, ◌+◌, ℕ, List, length, take, drop, get_or, slice_set, sym, ap, ◌∙◌, Flat, Instructions, then_instruction, instruction_of, list_of, joined, numbered, numbered_one, size_of, size_of_one}
 use Rattle.fast_load.proofs.Rewritten.{front_more, back_stays, back_is}
 
 -- those before i are numbered, and the others are once they are numbered from next on

@@ -1,13 +1,5 @@
 -- Templates have one first fault.
-use Rattle.std.proofs.Common.{◌≡◌, ℕ, zero, suc, List, ◌∷◌, refl, sym, ap, ◌∙◌}
-use Rattle.std.specs.declared.cmp.Ordering.{Ordering}
-use Rattle.std.specs.declared.cmp.Ordering.TheVariants.{Less, Equal, Greater}
-use Rattle.std.specs.Ordering.{nat_cmp, ordering_reverse}
-use Rattle.std.specs.FinMap.{nat_cmp-IsAntisymmetric, slice_cmp-IsAntisymmetric}
-use Rattle.std.specs.Cmp.Lexicographic.{slice_cmp, nat_list_cmp_total}
-use Rattle.fast_written.specs.declared.fault.LoadFault.{LoadFault}
-use Rattle.fast_written.specs.Written.{WrittenTemplate}
-use Rattle.fast_load.specs.LoadChecks.{Check, few_templates, names_well_made, name_new, id_new, operator_allowed, constant_has_value, default_has_value, value_spelled, reference_known, off_cycles, nests_little, sum_small, turn_of, fault_of, IsFirstFault}
+use Rattle.fast_load.proofs.Common.{◌≡◌, ℕ, zero, suc, List, ◌∷◌, refl, sym, ap, ◌∙◌, Ordering, Less, Equal, Greater, nat_cmp, ordering_reverse, nat_cmp-IsAntisymmetric, slice_cmp-IsAntisymmetric, slice_cmp, nat_list_cmp_total, LoadFault, WrittenTemplate, Check, few_templates, names_well_made, name_new, id_new, operator_allowed, constant_has_value, default_has_value, value_spelled, reference_known, off_cycles, nests_little, sum_small, turn_of, fault_of, IsFirstFault}
 
 -- the check of a turn
 abbrev check_of : List ℕ → Check

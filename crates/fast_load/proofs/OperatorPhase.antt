@@ -1,42 +1,20 @@
 -- The phase of operators and initial values, from what is judged of each instruction.
-use Rattle.std.proofs.Common.{◌≡◌, ◌≤◌, ◌<◌, ◌+◌, ℕ, zero, suc, List, [], ◌∷◌, length, min, if◌then◌else◌, Option, Some, None, Bool, true, false, ◌⊎◌, inl, inr, refl, sym, ap, subst, ◌∙◌, lit≤, arith}
-use Rattle.std.specs.Prelude.{slice_get}
-use Rattle.std.specs.Option.{option_map_or, option_or}
-use Rattle.std.specs.Ordering.{nat_cmp, ordering_then}
-use Rattle.std.specs.Cmp.{ranked}
-use Rattle.std.specs.declared.cmp.Ordering.{Ordering}
-use Rattle.std.specs.declared.cmp.Ordering.TheVariants.{Less, Equal, Greater}
-use Rattle.std.specs.Cmp.Lexicographic.{slice_cmp}
-use Rattle.fast_value.specs.declared.kind.Operator.{Operator}
-use Rattle.fast_value.specs.declared.kind.Operator.TheVariants as operator
-use Rattle.fast_value.specs.declared.kind.Presence.{Presence}
-use Rattle.fast_value.specs.declared.kind.Presence.TheVariants.{Mandatory, Optional}
-use Rattle.fast_value.specs.declared.scalar.Scalar.{Scalar}
-use Rattle.fast_written.specs.declared.fault.LoadCause.{LoadCause}
-use Rattle.fast_written.specs.declared.fault.LoadCause.TheVariants as cause
-use Rattle.fast_written.specs.declared.fault.LoadFault.{LoadFault}
-use Rattle.fast_written.specs.Written.{WrittenInstruction, WrittenTemplate, WrittenPart, parts_of, listed}
-use Rattle.fast_template.specs.TemplateSets.{applies}
-use Rattle.fast_value.specs.InitialValues.{value_of_text}
-use Rattle.fast_load.specs.PartCauses.{missing_value, value_cause, initial_cause, part_cause, parts_cause}
-use Rattle.fast_load.specs.LoadChecks.{Check, few_templates, names_well_made, name_new, id_new, operator_allowed, constant_has_value, default_has_value, value_spelled, reference_known, off_cycles, nests_little, sum_small, IsPartAt, Fails, Before, turn_of, fault_of}
-use Rattle.fast_load.specs.Walks.{first_at_fault}
-use Rattle.fast_load.specs.Phases.{phase_of, Passes, IsFirstOf}
+use Rattle.fast_load.proofs.Common.{◌≡◌, ◌≤◌, ◌<◌, ◌+◌, ℕ, zero, suc, List, [], ◌∷◌, length, min, if◌then◌else◌, Option, Some, None, Bool, true, false, ◌⊎◌, inl, inr, refl, sym, ap, subst, ◌∙◌, lit≤, arith, slice_get, option_map_or, option_or, nat_cmp, ordering_then, ranked, Ordering, Less, Equal, Greater, slice_cmp, Operator, Presence, Mandatory, Optional, Scalar, LoadCause, LoadFault, WrittenInstruction, WrittenTemplate, WrittenPart, parts_of, listed, applies, value_of_text, missing_value, value_cause, initial_cause, part_cause, parts_cause, Check, few_templates, names_well_made, name_new, id_new, operator_allowed, constant_has_value, default_has_value, value_spelled, reference_known, off_cycles, nests_little, sum_small, IsPartAt, Fails, Before, turn_of, fault_of, first_at_fault, phase_of, Passes, IsFirstOf}
 use Rattle.fast_load.proofs.WalkLaws.{CauseIn, IsFirstPlace, first_place, no_place}
 
 -- the check of a part that a cause is of
 abbrev check_of : LoadCause → ℕ → ℕ → ℕ → Check
-check_of cause.S2 t i q = operator_allowed t i q
-check_of cause.S4 t i q = constant_has_value t i q
-check_of cause.S5 t i q = default_has_value t i q
+check_of LoadCause.S2 t i q = operator_allowed t i q
+check_of LoadCause.S4 t i q = constant_has_value t i q
+check_of LoadCause.S5 t i q = default_has_value t i q
 check_of c t i q = value_spelled t i q
 
 -- what fails in a part, by its check
 PartFails : LoadCause → WrittenPart → Type 0
-PartFails cause.S2 p = applies p.operation.operator p.kind ≡ false
-PartFails cause.S4 p = (p.operation.operator ≡ operator.Constant) × (p.operation.initial ≡ None)
-PartFails cause.S5 p = (p.operation.operator ≡ operator.Default) × (p.presence ≡ Mandatory) × (p.operation.initial ≡ None)
-PartFails cause.S3 p = (text : List ℕ) × (p.operation.initial ≡ Some text) × (value_of_text p.part p.kind text ≡ None)
+PartFails LoadCause.S2 p = applies p.operation.operator p.kind ≡ false
+PartFails LoadCause.S4 p = (p.operation.operator ≡ Operator.Constant) × (p.operation.initial ≡ None)
+PartFails LoadCause.S5 p = (p.operation.operator ≡ Operator.Default) × (p.presence ≡ Mandatory) × (p.operation.initial ≡ None)
+PartFails LoadCause.S3 p = (text : List ℕ) × (p.operation.initial ≡ Some text) × (value_of_text p.part p.kind text ≡ None)
 PartFails c p = ⊥
 
 along_cause : (d c : LoadCause) (p : WrittenPart) → PartFails d p → Some d ≡ Some c → PartFails c p
@@ -44,23 +22,23 @@ along_cause d c p fails e = let same : d ≡ c = ap (λ o. option_map_or (λ x. 
 
 missing_so : (p : WrittenPart) (o : Operator) (r : Presence) (c : LoadCause) → p.operation.operator ≡ o → p.presence ≡ r → p.operation.initial ≡ None → missing_value o r ≡ Some c → PartFails c p
 unfolding PartFails
-missing_so p operator.Plain r c is at none e = absurd (cc e)
-missing_so p operator.Constant r c is at none e = along_cause cause.S4 c p (is, none) e
-missing_so p operator.Default Mandatory c is at none e = along_cause cause.S5 c p (is, at, none) e
-missing_so p operator.Default Optional c is at none e = absurd (cc e)
-missing_so p operator.Copy r c is at none e = absurd (cc e)
-missing_so p operator.Increment r c is at none e = absurd (cc e)
-missing_so p operator.Delta r c is at none e = absurd (cc e)
-missing_so p operator.Tail r c is at none e = absurd (cc e)
+missing_so p Operator.Plain r c is at none e = absurd (cc e)
+missing_so p Operator.Constant r c is at none e = along_cause LoadCause.S4 c p (is, none) e
+missing_so p Operator.Default Mandatory c is at none e = along_cause LoadCause.S5 c p (is, at, none) e
+missing_so p Operator.Default Optional c is at none e = absurd (cc e)
+missing_so p Operator.Copy r c is at none e = absurd (cc e)
+missing_so p Operator.Increment r c is at none e = absurd (cc e)
+missing_so p Operator.Delta r c is at none e = absurd (cc e)
+missing_so p Operator.Tail r c is at none e = absurd (cc e)
 
 spelled_so : (p : WrittenPart) (text : List ℕ) (v : Option Scalar) (c : LoadCause) → p.operation.initial ≡ Some text → value_of_text p.part p.kind text ≡ v → value_cause v ≡ Some c → PartFails c p
 unfolding PartFails
-spelled_so p text None c some is e = along_cause cause.S3 c p (text, some, is) e
+spelled_so p text None c some is e = along_cause LoadCause.S3 c p (text, some, is) e
 spelled_so p text (Some value) c some is e = absurd (cc e)
 
-part_by : (p : WrittenPart) (b : Bool) (o : Option (List ℕ)) (c : LoadCause) → applies p.operation.operator p.kind ≡ b → p.operation.initial ≡ o → (if b then initial_cause p o else Some cause.S2) ≡ Some c → PartFails c p
+part_by : (p : WrittenPart) (b : Bool) (o : Option (List ℕ)) (c : LoadCause) → applies p.operation.operator p.kind ≡ b → p.operation.initial ≡ o → (if b then initial_cause p o else Some LoadCause.S2) ≡ Some c → PartFails c p
 unfolding PartFails
-part_by p false o c not is e = along_cause cause.S2 c p not e
+part_by p false o c not is e = along_cause LoadCause.S2 c p not e
 part_by p true None c not is e = missing_so p p.operation.operator p.presence c refl refl is e
 part_by p true (Some text) c not is e = spelled_so p text (value_of_text p.part p.kind text) c is refl e
 
@@ -70,9 +48,9 @@ part_so p c e = part_by p (applies p.operation.operator p.kind) p.operation.init
 
 -- the rank of a cause's check among those of one part
 abbrev rank_of : LoadCause → ℕ
-rank_of cause.S2 = 0
-rank_of cause.S4 = 1
-rank_of cause.S5 = 2
+rank_of LoadCause.S2 = 0
+rank_of LoadCause.S4 = 1
+rank_of LoadCause.S5 = 2
 rank_of c = 3
 
 -- a part in which a check fails has a cause, of that check or of one before it
@@ -81,23 +59,23 @@ CauseUpTo n p = (c : LoadCause) × (part_cause p ≡ Some c) × (rank_of c ≤ n
 
 caused : (p : WrittenPart) (b : Bool) (o : Option LoadCause) (c : LoadCause) (n : ℕ) → applies p.operation.operator p.kind ≡ b → initial_cause p p.operation.initial ≡ Some c → rank_of c ≤ n → CauseUpTo n p
 unfolding CauseUpTo
-caused p false o c n is e low = (cause.S2, ap (λ b. if b then initial_cause p p.operation.initial else Some cause.S2) is, omega arith)
-caused p true o c n is e low = (c, ap (λ b. if b then initial_cause p p.operation.initial else Some cause.S2) is ∙ e, low)
+caused p false o c n is e low = (LoadCause.S2, ap (λ b. if b then initial_cause p p.operation.initial else Some LoadCause.S2) is, omega arith)
+caused p true o c n is e low = (c, ap (λ b. if b then initial_cause p p.operation.initial else Some LoadCause.S2) is ∙ e, low)
 
 fails_so : (d : LoadCause) (p : WrittenPart) → PartFails d p → CauseUpTo (rank_of d) p
 unfolding PartFails CauseUpTo
-fails_so cause.S2 p fails = (cause.S2, ap (λ b. if b then initial_cause p p.operation.initial else Some cause.S2) fails, lit≤ tt)
-fails_so cause.S4 p fails = caused p (applies p.operation.operator p.kind) None cause.S4 1 refl (ap (initial_cause p) fails.1 ∙ ap (λ o. missing_value o p.presence) fails.0) (lit≤ tt)
-fails_so cause.S5 p fails = caused p (applies p.operation.operator p.kind) None cause.S5 2 refl (ap (initial_cause p) fails.2 ∙ (λ i. missing_value (fails.0 i) (fails.1 i))) (lit≤ tt)
-fails_so cause.S3 p fails = caused p (applies p.operation.operator p.kind) None cause.S3 3 refl (ap (initial_cause p) fails.1 ∙ ap value_cause fails.2) (lit≤ tt)
-fails_so cause.S1 p fails = absurd fails
-fails_so cause.D8 p fails = absurd fails
-fails_so cause.DuplicateName p fails = absurd fails
-fails_so cause.DuplicateId p fails = absurd fails
-fails_so cause.Cycle p fails = absurd fails
-fails_so cause.TooDeep p fails = absurd fails
-fails_so cause.TooMany p fails = absurd fails
-fails_so cause.Memory p fails = absurd fails
+fails_so LoadCause.S2 p fails = (LoadCause.S2, ap (λ b. if b then initial_cause p p.operation.initial else Some LoadCause.S2) fails, lit≤ tt)
+fails_so LoadCause.S4 p fails = caused p (applies p.operation.operator p.kind) None LoadCause.S4 1 refl (ap (initial_cause p) fails.1 ∙ ap (λ o. missing_value o p.presence) fails.0) (lit≤ tt)
+fails_so LoadCause.S5 p fails = caused p (applies p.operation.operator p.kind) None LoadCause.S5 2 refl (ap (initial_cause p) fails.2 ∙ (λ i. missing_value (fails.0 i) (fails.1 i))) (lit≤ tt)
+fails_so LoadCause.S3 p fails = caused p (applies p.operation.operator p.kind) None LoadCause.S3 3 refl (ap (initial_cause p) fails.1 ∙ ap value_cause fails.2) (lit≤ tt)
+fails_so LoadCause.S1 p fails = absurd fails
+fails_so LoadCause.D8 p fails = absurd fails
+fails_so LoadCause.DuplicateName p fails = absurd fails
+fails_so LoadCause.DuplicateId p fails = absurd fails
+fails_so LoadCause.Cycle p fails = absurd fails
+fails_so LoadCause.TooDeep p fails = absurd fails
+fails_so LoadCause.TooMany p fails = absurd fails
+fails_so LoadCause.Memory p fails = absurd fails
 
 -- ---- the first part with a cause
 
@@ -141,62 +119,62 @@ abbrev pub of_parts : WrittenInstruction → Option LoadCause
 of_parts i = parts_cause (parts_of i)
 
 turn_is : (c : LoadCause) (t i q : ℕ) → turn_of (check_of c t i q) ≡ 3 ∷ t ∷ i ∷ q ∷ rank_of c ∷ []
-turn_is cause.S1 t i q = refl
-turn_is cause.S2 t i q = refl
-turn_is cause.S3 t i q = refl
-turn_is cause.S4 t i q = refl
-turn_is cause.S5 t i q = refl
-turn_is cause.D8 t i q = refl
-turn_is cause.DuplicateName t i q = refl
-turn_is cause.DuplicateId t i q = refl
-turn_is cause.Cycle t i q = refl
-turn_is cause.TooDeep t i q = refl
-turn_is cause.TooMany t i q = refl
-turn_is cause.Memory t i q = refl
+turn_is LoadCause.S1 t i q = refl
+turn_is LoadCause.S2 t i q = refl
+turn_is LoadCause.S3 t i q = refl
+turn_is LoadCause.S4 t i q = refl
+turn_is LoadCause.S5 t i q = refl
+turn_is LoadCause.D8 t i q = refl
+turn_is LoadCause.DuplicateName t i q = refl
+turn_is LoadCause.DuplicateId t i q = refl
+turn_is LoadCause.Cycle t i q = refl
+turn_is LoadCause.TooDeep t i q = refl
+turn_is LoadCause.TooMany t i q = refl
+turn_is LoadCause.Memory t i q = refl
 
 phase_is : (c : LoadCause) (t i q : ℕ) → phase_of (check_of c t i q) ≡ 3
-phase_is cause.S1 t i q = refl
-phase_is cause.S2 t i q = refl
-phase_is cause.S3 t i q = refl
-phase_is cause.S4 t i q = refl
-phase_is cause.S5 t i q = refl
-phase_is cause.D8 t i q = refl
-phase_is cause.DuplicateName t i q = refl
-phase_is cause.DuplicateId t i q = refl
-phase_is cause.Cycle t i q = refl
-phase_is cause.TooDeep t i q = refl
-phase_is cause.TooMany t i q = refl
-phase_is cause.Memory t i q = refl
+phase_is LoadCause.S1 t i q = refl
+phase_is LoadCause.S2 t i q = refl
+phase_is LoadCause.S3 t i q = refl
+phase_is LoadCause.S4 t i q = refl
+phase_is LoadCause.S5 t i q = refl
+phase_is LoadCause.D8 t i q = refl
+phase_is LoadCause.DuplicateName t i q = refl
+phase_is LoadCause.DuplicateId t i q = refl
+phase_is LoadCause.Cycle t i q = refl
+phase_is LoadCause.TooDeep t i q = refl
+phase_is LoadCause.TooMany t i q = refl
+phase_is LoadCause.Memory t i q = refl
 
 answer_is : (c : LoadCause) (t i q : ℕ) (p : WrittenPart) → PartFails c p → fault_of (check_of c t i q) ≡ record { cause = c; template = min t 4294967295; instruction = min i 4294967295 }
 unfolding PartFails
-answer_is cause.S2 t i q p fails = refl
-answer_is cause.S3 t i q p fails = refl
-answer_is cause.S4 t i q p fails = refl
-answer_is cause.S5 t i q p fails = refl
-answer_is cause.S1 t i q p fails = absurd fails
-answer_is cause.D8 t i q p fails = absurd fails
-answer_is cause.DuplicateName t i q p fails = absurd fails
-answer_is cause.DuplicateId t i q p fails = absurd fails
-answer_is cause.Cycle t i q p fails = absurd fails
-answer_is cause.TooDeep t i q p fails = absurd fails
-answer_is cause.TooMany t i q p fails = absurd fails
-answer_is cause.Memory t i q p fails = absurd fails
+answer_is LoadCause.S2 t i q p fails = refl
+answer_is LoadCause.S3 t i q p fails = refl
+answer_is LoadCause.S4 t i q p fails = refl
+answer_is LoadCause.S5 t i q p fails = refl
+answer_is LoadCause.S1 t i q p fails = absurd fails
+answer_is LoadCause.D8 t i q p fails = absurd fails
+answer_is LoadCause.DuplicateName t i q p fails = absurd fails
+answer_is LoadCause.DuplicateId t i q p fails = absurd fails
+answer_is LoadCause.Cycle t i q p fails = absurd fails
+answer_is LoadCause.TooDeep t i q p fails = absurd fails
+answer_is LoadCause.TooMany t i q p fails = absurd fails
+answer_is LoadCause.Memory t i q p fails = absurd fails
 
 fails_check : (ts : List WrittenTemplate) (c : LoadCause) (t i q : ℕ) (p : WrittenPart) → IsPartAt ts t i q p → PartFails c p → Fails ts (check_of c t i q)
 unfolding PartFails
-fails_check ts cause.S2 t i q p at fails = (p, at, fails)
-fails_check ts cause.S3 t i q p at fails = (p, fails.0, at, fails.1, fails.2)
-fails_check ts cause.S4 t i q p at fails = (p, at, fails.0, fails.1)
-fails_check ts cause.S5 t i q p at fails = (p, at, fails.0, fails.1, fails.2)
-fails_check ts cause.S1 t i q p at fails = absurd fails
-fails_check ts cause.D8 t i q p at fails = absurd fails
-fails_check ts cause.DuplicateName t i q p at fails = absurd fails
-fails_check ts cause.DuplicateId t i q p at fails = absurd fails
-fails_check ts cause.Cycle t i q p at fails = absurd fails
-fails_check ts cause.TooDeep t i q p at fails = absurd fails
-fails_check ts cause.TooMany t i q p at fails = absurd fails
-fails_check ts cause.Memory t i q p at fails = absurd fails
+fails_check ts LoadCause.S2 t i q p at fails = (p, at, fails)
+fails_check ts LoadCause.S3 t i q p at fails = (p, fails.0, at, fails.1, fails.2)
+fails_check ts LoadCause.S4 t i q p at fails = (p, at, fails.0, fails.1)
+fails_check ts LoadCause.S5 t i q p at fails = (p, at, fails.0, fails.1, fails.2)
+fails_check ts LoadCause.S1 t i q p at fails = absurd fails
+fails_check ts LoadCause.D8 t i q p at fails = absurd fails
+fails_check ts LoadCause.DuplicateName t i q p at fails = absurd fails
+fails_check ts LoadCause.DuplicateId t i q p at fails = absurd fails
+fails_check ts LoadCause.Cycle t i q p at fails = absurd fails
+fails_check ts LoadCause.TooDeep t i q p at fails = absurd fails
+fails_check ts LoadCause.TooMany t i q p at fails = absurd fails
+fails_check ts LoadCause.Memory t i q p at fails = absurd fails
 
 -- one number after the other
 lex_by : (a c : ℕ) (xs ys : List ℕ) (o : Ordering) → nat_cmp a c ≡ o → ordering_then o (slice_cmp nat_cmp xs ys) ≡ Less → (a < c) ⊎ ((a ≡ c) × (slice_cmp nat_cmp xs ys ≡ Less))
@@ -265,10 +243,10 @@ module _ (ts : List WrittenTemplate) (fault : LoadFault) (f : IsFirstPlace nothi
   nothing_before (names_well_made t i) is before = absurd (cc is)
   nothing_before (name_new t) is before = absurd (cc is)
   nothing_before (id_new t) is before = absurd (cc is)
-  nothing_before (operator_allowed t i q) is before = λ fails. found_before t i q fails.0 cause.S2 fails.1 (fails_so cause.S2 fails.0 fails.2) (turned (t ∷ i ∷ q ∷ 0 ∷ []) before)
-  nothing_before (constant_has_value t i q) is before = λ fails. found_before t i q fails.0 cause.S4 fails.1 (fails_so cause.S4 fails.0 (fails.2, fails.3)) (turned (t ∷ i ∷ q ∷ 1 ∷ []) before)
-  nothing_before (default_has_value t i q) is before = λ fails. found_before t i q fails.0 cause.S5 fails.1 (fails_so cause.S5 fails.0 (fails.2, fails.3, fails.4)) (turned (t ∷ i ∷ q ∷ 2 ∷ []) before)
-  nothing_before (value_spelled t i q) is before = λ fails. found_before t i q fails.0 cause.S3 fails.2 (fails_so cause.S3 fails.0 (fails.1, fails.3, fails.4)) (turned (t ∷ i ∷ q ∷ 3 ∷ []) before)
+  nothing_before (operator_allowed t i q) is before = λ fails. found_before t i q fails.0 LoadCause.S2 fails.1 (fails_so LoadCause.S2 fails.0 fails.2) (turned (t ∷ i ∷ q ∷ 0 ∷ []) before)
+  nothing_before (constant_has_value t i q) is before = λ fails. found_before t i q fails.0 LoadCause.S4 fails.1 (fails_so LoadCause.S4 fails.0 (fails.2, fails.3)) (turned (t ∷ i ∷ q ∷ 1 ∷ []) before)
+  nothing_before (default_has_value t i q) is before = λ fails. found_before t i q fails.0 LoadCause.S5 fails.1 (fails_so LoadCause.S5 fails.0 (fails.2, fails.3, fails.4)) (turned (t ∷ i ∷ q ∷ 2 ∷ []) before)
+  nothing_before (value_spelled t i q) is before = λ fails. found_before t i q fails.0 LoadCause.S3 fails.2 (fails_so LoadCause.S3 fails.0 (fails.1, fails.3, fails.4)) (turned (t ∷ i ∷ q ∷ 3 ∷ []) before)
   nothing_before (reference_known t i) is before = absurd (cc is)
   nothing_before (off_cycles t) is before = absurd (cc is)
   nothing_before (nests_little t) is before = absurd (cc is)
@@ -318,10 +296,10 @@ operators_pass ts none few_templates is = absurd (cc is)
 operators_pass ts none (names_well_made t i) is = absurd (cc is)
 operators_pass ts none (name_new t) is = absurd (cc is)
 operators_pass ts none (id_new t) is = absurd (cc is)
-operators_pass ts none (operator_allowed t i q) is = λ fails. no_part ts none t i q fails.0 0 fails.1 (fails_so cause.S2 fails.0 fails.2)
-operators_pass ts none (constant_has_value t i q) is = λ fails. no_part ts none t i q fails.0 1 fails.1 (fails_so cause.S4 fails.0 (fails.2, fails.3))
-operators_pass ts none (default_has_value t i q) is = λ fails. no_part ts none t i q fails.0 2 fails.1 (fails_so cause.S5 fails.0 (fails.2, fails.3, fails.4))
-operators_pass ts none (value_spelled t i q) is = λ fails. no_part ts none t i q fails.0 3 fails.2 (fails_so cause.S3 fails.0 (fails.1, fails.3, fails.4))
+operators_pass ts none (operator_allowed t i q) is = λ fails. no_part ts none t i q fails.0 0 fails.1 (fails_so LoadCause.S2 fails.0 fails.2)
+operators_pass ts none (constant_has_value t i q) is = λ fails. no_part ts none t i q fails.0 1 fails.1 (fails_so LoadCause.S4 fails.0 (fails.2, fails.3))
+operators_pass ts none (default_has_value t i q) is = λ fails. no_part ts none t i q fails.0 2 fails.1 (fails_so LoadCause.S5 fails.0 (fails.2, fails.3, fails.4))
+operators_pass ts none (value_spelled t i q) is = λ fails. no_part ts none t i q fails.0 3 fails.2 (fails_so LoadCause.S3 fails.0 (fails.1, fails.3, fails.4))
 operators_pass ts none (reference_known t i) is = absurd (cc is)
 operators_pass ts none (off_cycles t) is = absurd (cc is)
 operators_pass ts none (nests_little t) is = absurd (cc is)

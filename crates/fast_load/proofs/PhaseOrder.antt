@@ -1,15 +1,5 @@
 -- The first fault of a load, from the first phase that has one.
-use Rattle.std.proofs.Common.{◌≡◌, ◌≤◌, ◌<◌, ℕ, suc, List, [], ◌∷◌, length, ◌⊎◌, inl, inr, refl, sym, subst, ◌∙◌, arith}
-use Rattle.std.specs.Ordering.{nat_cmp, ordering_then}
-use Rattle.std.specs.Cmp.{ranked}
-use Rattle.std.specs.declared.cmp.Ordering.{Ordering}
-use Rattle.std.specs.declared.cmp.Ordering.TheVariants.{Less, Equal, Greater}
-use Rattle.std.specs.Cmp.Lexicographic.{slice_cmp}
-use Rattle.fast_written.specs.declared.fault.LoadFault.{LoadFault}
-use Rattle.fast_written.specs.declared.fault.LoadCause.TheVariants.{TooMany}
-use Rattle.fast_written.specs.Written.{WrittenTemplate}
-use Rattle.fast_load.specs.LoadChecks.{Check, few_templates, names_well_made, name_new, id_new, operator_allowed, constant_has_value, default_has_value, value_spelled, reference_known, off_cycles, nests_little, sum_small, Fails, Before, turn_of, IsFirstFault}
-use Rattle.fast_load.specs.Phases.{phase_of, Passes, IsFirstOf}
+use Rattle.fast_load.proofs.Common.{◌≡◌, ◌≤◌, ◌<◌, ℕ, suc, List, [], ◌∷◌, length, ◌⊎◌, inl, inr, refl, sym, subst, ◌∙◌, arith, nat_cmp, ordering_then, ranked, Ordering, Less, Equal, Greater, slice_cmp, LoadFault, TooMany, WrittenTemplate, Check, few_templates, names_well_made, name_new, id_new, operator_allowed, constant_has_value, default_has_value, value_spelled, reference_known, off_cycles, nests_little, sum_small, Fails, Before, turn_of, IsFirstFault, phase_of, Passes, IsFirstOf}
 
 -- what stands behind the phase in a check's turn
 abbrev rest_of : Check → List ℕ

@@ -1,18 +1,5 @@
 -- Maps that lead to the first template of a name or of an identifier.
-use Rattle.std.proofs.Common.{◌≡◌, ◌<◌, ◌+◌, ◌==◌, map, take, drop, get_or, string_bytes, length-take-le, ℕ, suc, List, [], ◌∷◌, ◌++◌, length, cond, if◌then◌else◌, nat_eq, Option, Some, None, option_map, is_some, Bool, true, false, refl, sym, ap, subst, ◌∙◌, arith, true≢false}
-use Rattle.std.specs.Option.{option_or}
-use Rattle.std.specs.Ordering.{nat_cmp}
-use Rattle.std.specs.Cmp.{unsigned_ties, unsigned_Decides}
-use Rattle.std.specs.Cmp.Lexicographic.{pointwise, slice_cmp, texts_ties, same_text}
-use Rattle.std.specs.BTreeMap.{BTreeMap, Updates, get}
-use Rattle.std.proofs.lemmas.List.{take_more, drop_more, map-append, length-map}
-use Rattle.fast_written.specs.declared.written.Template.{Template}
-use Rattle.fast_written.specs.declared.fault.LoadFault.{LoadFault}
-use Rattle.fast_written.specs.declared.fault.LoadCause.TheVariants.{DuplicateName, DuplicateId}
-use Rattle.fast_load.specs.Walks.{after_template}
-use Rattle.fast_written.specs.Written.{WrittenTemplate, written_template_of}
-use Rattle.fast_template.specs.TemplateSets.{has_id}
-use Rattle.fast_load.specs.Duplicates.{place_where, place_named, place_of_id, repeats_id, duplicate_of, first_duplicate, has_entry, EntersId, NamesLead, IdsLead}
+use Rattle.fast_load.proofs.Common.{◌≡◌, ◌<◌, ◌+◌, ◌==◌, map, take, drop, get_or, string_bytes, length-take-le, ℕ, suc, List, [], ◌∷◌, ◌++◌, length, cond, if◌then◌else◌, nat_eq, Option, Some, None, option_map, is_some, Bool, true, false, refl, sym, ap, subst, ◌∙◌, arith, true≢false, option_or, nat_cmp, unsigned_ties, unsigned_Decides, pointwise, slice_cmp, texts_ties, same_text, BTreeMap, Updates, get, take_more, drop_more, map-append, length-map, Template, LoadFault, DuplicateName, DuplicateId, after_template, WrittenTemplate, written_template_of, has_id, place_where, place_named, place_of_id, repeats_id, duplicate_of, first_duplicate, has_entry, EntersId, NamesLead, IdsLead}
 
 shifted : (o : Option ℕ) (b : Bool) (n : ℕ) → option_map suc (option_or o (if b then Some n else None)) ≡ option_or (option_map suc o) (if b then Some (suc n) else None)
 shifted None true n = refl

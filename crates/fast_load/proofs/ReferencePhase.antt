@@ -1,17 +1,5 @@
 -- The phase of references, from what is judged of each instruction.
-use Rattle.std.proofs.Common.{◌≡◌, ◌≢◌, ◌≤◌, ◌<◌, ◌+◌, ℕ, zero, suc, List, [], ◌∷◌, length, min, if◌then◌else◌, nat_eq, Option, Some, None, is_some, Bool, true, false, ◌⊎◌, inl, inr, refl, sym, ap, subst, ◌∙◌, arith, true≢false}
-use Rattle.std.specs.Prelude.{slice_get}
-use Rattle.std.specs.Option.{option_map_or}
-use Rattle.std.specs.Cmp.Lexicographic.{pointwise, nat_list_eq_equiv, same_text}
-use Rattle.fast_written.specs.declared.fault.LoadCause.{LoadCause}
-use Rattle.fast_written.specs.declared.fault.LoadCause.TheVariants.{D8}
-use Rattle.fast_written.specs.declared.fault.LoadFault.{LoadFault}
-use Rattle.fast_written.specs.Written.{WrittenInstruction, written_field, written_parts, written_group, written_sequence, written_reference, WrittenTemplate}
-use Rattle.fast_load.specs.LoadChecks.{Check, few_templates, names_well_made, name_new, id_new, operator_allowed, constant_has_value, default_has_value, value_spelled, reference_known, off_cycles, nests_little, sum_small, IsTemplateAt, Fails, Before}
-use Rattle.fast_load.specs.Walks.{first_at_fault}
-use Rattle.fast_load.specs.Duplicates.{place_named}
-use Rattle.fast_load.specs.References.{reference_cause}
-use Rattle.fast_load.specs.Phases.{phase_of, Passes, IsFirstOf}
+use Rattle.fast_load.proofs.Common.{◌≡◌, ◌≢◌, ◌≤◌, ◌<◌, ◌+◌, ℕ, zero, suc, List, [], ◌∷◌, length, min, if◌then◌else◌, nat_eq, Option, Some, None, is_some, Bool, true, false, ◌⊎◌, inl, inr, refl, sym, ap, subst, ◌∙◌, arith, true≢false, slice_get, option_map_or, pointwise, nat_list_eq_equiv, same_text, LoadCause, D8, LoadFault, WrittenInstruction, written_field, written_parts, written_group, written_sequence, written_reference, WrittenTemplate, Check, few_templates, names_well_made, name_new, id_new, operator_allowed, constant_has_value, default_has_value, value_spelled, reference_known, off_cycles, nests_little, sum_small, IsTemplateAt, Fails, Before, first_at_fault, place_named, reference_cause, phase_of, Passes, IsFirstOf}
 use Rattle.fast_load.proofs.WalkLaws.{CauseIn, IsFirstPlace, first_place, no_place}
 use Rattle.fast_load.proofs.DuplicatePhase.{Found, found, placed}
 use Rattle.fast_load.proofs.NamePhase.{earlier_or_here}

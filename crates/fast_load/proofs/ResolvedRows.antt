@@ -1,21 +1,9 @@
 -- What is written and what it is resolved to: rows.
-use Rattle.std.proofs.Common.{◌≡◌, ℕ, zero, suc, List, [], ◌∷◌, nat_eq, if◌then◌else◌, Some, None, refl, ap, subst}
-use Rattle.std.specs.Prelude.{codes}
-use Rattle.std.specs.Option.{option_map_or}
-use Rattle.std.specs.Cmp.Lexicographic.{pointwise}
-use Rattle.fast_value.specs.declared.kind.Kind.TheVariants as kind
-use Rattle.fast_value.specs.declared.kind.Presence.TheVariants.{Mandatory, Optional}
-use Rattle.fast_value.specs.declared.kind.Operator.TheVariants as operator
-use Rattle.fast_value.specs.declared.kind.Part.TheVariants as part
+use Rattle.fast_load.proofs.Common.{◌≡◌, ℕ, zero, suc, List, [], ◌∷◌, nat_eq, if◌then◌else◌, Some, None, refl, ap, subst, codes, option_map_or, pointwise, Kind, Mandatory, Optional, Operator, Part, Key, WrittenOperation, written_field, written_parts, written_group, written_sequence, written_list, WrittenTemplate, Instruction, Instructions, whole_field, field_in_parts, group_of, sequence_of, instructions_of, no_instructions, then_instruction, context_of, flat_list, AreFlatLists, AreResolved, nothing_around, common, grp}
 use Rattle.fast_value.specs.declared.key.Scope.TheVariants.{Global}
-use Rattle.fast_value.specs.declared.key.Key.{Key}
-use Rattle.fast_written.specs.Written.{WrittenOperation, written_field, written_parts, written_group, written_sequence, written_list, WrittenTemplate}
-use Rattle.fast_template.specs.Resolved.{Instruction, Instructions, whole_field, field_in_parts, group_of, sequence_of, instructions_of, no_instructions, then_instruction}
-use Rattle.fast_load.specs.FlatLists.{context_of, flat_list, AreFlatLists, AreResolved}
-use Rattle.fast_written.proofs.WorkedTemplates.{nothing_around, common, grp}
 
 abbrev copied : WrittenOperation
-copied = record { operator = operator.Copy; initial = None; dictionary = None; key = None }
+copied = record { operator = Operator.Copy; initial = None; dictionary = None; key = None }
 
 -- A flat list has no numbers yet: each is 0.
 abbrev unnumbered : List Instruction → List ℕ
@@ -30,7 +18,7 @@ ones_of no_instructions = []
 ones_of (then_instruction i is) = i ∷ ones_of is
 
 none_numbered : unnumbered (ones_of (flat_list (λ other. no_instructions) (context_of 1 common) (written_list (
-    written_field (codes "A") kind.UInt32 Mandatory copied
+    written_field (codes "A") Kind.UInt32 Mandatory copied
     ∷ written_parts (codes "B") Mandatory copied copied
     ∷ written_group (codes "C") Mandatory nothing_around (written_list [])
     ∷ written_sequence (codes "D") Mandatory nothing_around None copied (written_list [])
@@ -50,7 +38,7 @@ lists_are_flat (suc zero) t is = let same : grp ≡ t = ap (λ o. option_map_or 
 lists_are_flat (suc (suc i)) t is = absurd (cc is)
 
 abbrev field : ℕ → List ℕ → ℕ → Instruction
-field number name slot = whole_field name number Mandatory (record { number = number; part = part.Whole; kind = kind.UInt32; presence = Mandatory; operator = operator.Copy; initial = None; key = record { slot = slot; scope = Global; name = name; part = part.Whole } })
+field number name slot = whole_field name number Mandatory (record { number = number; part = Part.Whole; kind = Kind.UInt32; presence = Mandatory; operator = Operator.Copy; initial = None; key = record { slot = slot; scope = Global; name = name; part = Part.Whole } })
 
 abbrev slot_of : Key → ℕ
 slot_of k = if pointwise nat_eq k.name (codes "B") then 1 else 2

@@ -1,8 +1,5 @@
 -- A list of instructions that is rewritten from its front, one after another.
-use Rattle.std.proofs.Common.{◌≡◌, ◌<◌, ◌≤◌, ◌+◌, ℕ, List, [], ◌∷◌, ◌++◌, length, take, drop, get_or, slice_set, refl, ap, ◌∙◌, arith}
-use Rattle.std.proofs.lemmas.List.{take_more_set, drop-set-lt, drop_more, take_all, drop_all, length-set, get_or-set_other}
-use Rattle.fast_template.specs.declared.resolved.Flat.{Flat}
-use Rattle.fast_template.specs.Resolved.{Instructions, no_instructions, then_instruction, instruction_of, list_of, joined}
+use Rattle.fast_load.proofs.Common.{◌≡◌, ◌<◌, ◌≤◌, ◌+◌, ℕ, List, [], ◌∷◌, ◌++◌, length, take, drop, get_or, slice_set, refl, ap, ◌∙◌, arith, take_more_set, drop-set-lt, drop_more, take_all, drop_all, length-set, get_or-set_other, Flat, Instructions, no_instructions, then_instruction, instruction_of, list_of, joined}
 
 pub joined_end : (is : Instructions) → joined is no_instructions ≡ is
 joined_end no_instructions = refl

@@ -1,12 +1,5 @@
 -- What settling leaves as it was: parts stay typed, and lists as deep and as long; and instructions are in order then.
-use Rattle.std.proofs.Common.{◌≡◌, ◌+◌, ℕ, max, refl, ap, ◌∙◌}
-use Rattle.fast_value.specs.declared.key.Key.{Key}
-use Rattle.fast_value.specs.declared.kind.Kind.{Kind}
-use Rattle.fast_value.specs.declared.kind.Part.{Part}
-use Rattle.fast_value.specs.declared.kind.Presence.{Presence}
-use Rattle.fast_template.specs.declared.resolved.FieldPart.{FieldPart}
-use Rattle.fast_template.specs.Resolved.{Instruction, Instructions, whole_field, field_in_parts, group_of, sequence_of, no_instructions, then_instruction, size_of, size_of_one, depth_of, depth_of_one, numbered, numbered_one, with_key, with_keys, with_keys_of_one}
-use Rattle.fast_template.specs.TemplateSets.{IsPartOf, HasTypedParts, HaveTypedParts, IsNumbered}
+use Rattle.fast_load.proofs.Common.{◌≡◌, ◌+◌, ℕ, max, refl, ap, ◌∙◌, Key, Kind, Part, Presence, FieldPart, Instruction, Instructions, whole_field, field_in_parts, group_of, sequence_of, no_instructions, then_instruction, size_of, size_of_one, depth_of, depth_of_one, numbered, numbered_one, with_key, with_keys, with_keys_of_one, IsPartOf, HasTypedParts, HaveTypedParts, IsNumbered}
 use Rattle.fast_load.proofs.Settling.{size_with_keys}
 
 -- a part's own number and key are no part of what makes it typed

@@ -1,17 +1,6 @@
 -- Templates that are given their slots and numbers, one after another.
-use Rattle.std.proofs.Common.{◌≡◌, Option, None, true≢false, unwrap_or, ◌⊎◌, inl, inr, ◌<◌, ◌≤◌, ◌+◌, ℕ, zero, suc, List, [], ◌∷◌, ◌++◌, length, take, drop, get_or, slice_set, map, Some, subst, refl, sym, ap, ◌∙◌, arith}
+use Rattle.fast_load.proofs.Common.{◌≡◌, Option, None, true≢false, unwrap_or, ◌⊎◌, inl, inr, ◌<◌, ◌≤◌, ◌+◌, ℕ, zero, suc, List, [], ◌∷◌, ◌++◌, length, take, drop, get_or, slice_set, map, Some, subst, refl, sym, ap, ◌∙◌, arith, Contains-append_right, Contains-append_cases, Contains-push_cases, Contains, IsSome, IfOk, Result, Ok, Err, AllocError, AllByRecursion, BTreeMap, btree_map_len, get, Key, FlatTemplate, key_cmp, Instruction, Instructions, whole_field, field_in_parts, group_of, sequence_of, no_instructions, then_instruction, size_of, size_of_one, keys_of, keys_of_one, numbered, numbered_one, with_keys, with_keys_of_one, Resolved, resolved_of, AreSlots, EntersKeys, settled, slot_in, HasSlots, NamesSame, identifier_key, keys_of_all}
 use Rattle.std.proofs.lemmas.List.{map-append, map_push, append_assoc, append-nil, take_more, take_more_set, drop-set-lt, drop_more, take_all, length-set}
-use Rattle.std.proofs.lemmas.List.Elements.{Contains-append_right, Contains-append_cases, Contains-push_cases}
-use Rattle.std.specs.Prelude.{Contains, IsSome, IfOk, Result, Ok, Err}
-use Rattle.std.specs.declared.alloc.AllocError.{AllocError}
-use Rattle.std.specs.List.{AllByRecursion}
-use Rattle.std.specs.BTreeMap.{BTreeMap, btree_map_len, get}
-use Rattle.fast_value.specs.declared.key.Key.{Key}
-use Rattle.fast_template.specs.declared.resolved.FlatTemplate.{FlatTemplate}
-use Rattle.fast_value.specs.Key.{key_cmp}
-use Rattle.fast_template.specs.Resolved.{Instruction, Instructions, whole_field, field_in_parts, group_of, sequence_of, no_instructions, then_instruction, size_of, size_of_one, keys_of, keys_of_one, numbered, numbered_one, with_keys, with_keys_of_one, Resolved, resolved_of}
-use Rattle.fast_load.specs.Slots.{AreSlots, EntersKeys, settled, slot_in}
-use Rattle.fast_template.specs.TemplateSets.{HasSlots, NamesSame, identifier_key, keys_of_all}
 
 -- ---- one template
 

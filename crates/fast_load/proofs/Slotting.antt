@@ -1,26 +1,8 @@
 -- Giving slots to the keys of instructions.
-use Rattle.std.proofs.Common.{◌≡◌, Option, Some, None, ◌⊎◌, inl, inr, zero, suc, ◌<◌, ◌+◌, ℕ, List, [], ◌∷◌, ◌++◌, length, take, drop, get_or, slice_set, true≢false, subst, ◌≤◌, refl, sym, ap, ◌∙◌, arith}
+use Rattle.fast_load.proofs.Common.{◌≡◌, Option, Some, None, ◌⊎◌, inl, inr, zero, suc, ◌<◌, ◌+◌, ℕ, List, [], ◌∷◌, ◌++◌, length, take, drop, get_or, slice_set, true≢false, subst, ◌≤◌, refl, sym, ap, ◌∙◌, arith, eq-or-lt_of_le, Key, Global, Presence, FieldPart, Flat, fold-roll-Flat, Flat-F, rolls-Parts, rolls-Sequence, Instruction, Instructions, flat_step, then_instruction, instruction_of, list_of, joined, with_keys, with_keys_of_one, keys_of, keys_of_one, Contains, IsSome, OnOk, Result, Ok, Err, is_eq, Ordering, Less, Equal, Greater, BTreeMap, Updates, btree_map_len, get, Contains-push, Contains-push_cases, Contains-append_left, key_cmp, key_cmp-exact, identifier_key, AreSlots, EntersKeys}
 use Rattle.std.proofs.lemmas.List.{append-nil, append_assoc, length-append, take_more}
-use Rattle.std.proofs.Math.Nat.{eq-or-lt_of_le}
-use Rattle.fast_value.specs.declared.key.Key.{Key}
-use Rattle.std.specs.declared.alloc.Global.{Global}
 use Rattle.std.specs.declared.vec.Vec.{Vec}
-use Rattle.fast_value.specs.declared.kind.Presence.{Presence}
-use Rattle.fast_template.specs.declared.resolved.FieldPart.{FieldPart}
-use Rattle.fast_template.specs.declared.resolved.Flat.{Flat, fold-roll-Flat}
-use Rattle.fast_template.specs.declared.resolved.Flat.TheOpen.{Flat-F}
 use Rattle.fast_template.specs.declared.resolved.Flat.TheVariants as flat
-use Rattle.fast_template.specs.declared.resolved.Flat.TheVariants.{rolls-Parts, rolls-Sequence}
-use Rattle.fast_template.specs.Resolved.{Instruction, Instructions, flat_step, then_instruction, instruction_of, list_of, joined, with_keys, with_keys_of_one, keys_of, keys_of_one}
-use Rattle.std.specs.Prelude.{Contains, IsSome, OnOk, Result, Ok, Err}
-use Rattle.std.specs.Ordering.{is_eq}
-use Rattle.std.specs.declared.cmp.Ordering.{Ordering}
-use Rattle.std.specs.declared.cmp.Ordering.TheVariants.{Less, Equal, Greater}
-use Rattle.std.specs.BTreeMap.{BTreeMap, Updates, btree_map_len, get}
-use Rattle.std.proofs.lemmas.List.Elements.{Contains-push, Contains-push_cases, Contains-append_left}
-use Rattle.fast_value.specs.Key.{key_cmp, key_cmp-exact}
-use Rattle.fast_template.specs.TemplateSets.{identifier_key}
-use Rattle.fast_load.specs.Slots.{AreSlots, EntersKeys}
 use Rattle.fast_load.proofs.Rewritten.{front_more, back_stays, back_is}
 
 none_or_some : (o : Option ℕ) (s : ℕ) → o ≡ None → o ≡ Some s → ⊥

@@ -1,12 +1,5 @@
 -- Where references lead downwards there are flat lists, and only one of each template.
-use Rattle.std.proofs.Common.{◌≡◌, ◌<◌, ◌+◌, ℕ, zero, suc, List, [], ◌∷◌, Option, Some, None, refl, ap, ap₂, sym, ◌∙◌, arith}
-use Rattle.std.specs.Option.{option_map_or}
-use Rattle.std.specs.Prelude.{nat_eq, if◌then◌else◌, slice_get}
-use Rattle.std.specs.Cmp.Lexicographic.{pointwise}
-use Rattle.fast_written.specs.Written.{WrittenInstruction, WrittenInstructions, written_field, written_parts, written_group, written_sequence, written_reference, no_written, then_written, WrittenTemplate}
-use Rattle.fast_template.specs.Resolved.{Instructions, no_instructions, then_instruction, group_of, sequence_of, joined}
-use Rattle.fast_load.specs.Links.{EachReference, EachReferenceOne}
-use Rattle.fast_load.specs.FlatLists.{Context, context_of, inside, flat_one, flat_list, length_part, AreFlatLists}
+use Rattle.fast_load.proofs.Common.{◌≡◌, ◌<◌, ◌+◌, ℕ, zero, suc, List, [], ◌∷◌, Option, Some, None, refl, ap, ap₂, sym, ◌∙◌, arith, option_map_or, nat_eq, if◌then◌else◌, slice_get, pointwise, WrittenInstruction, WrittenInstructions, written_field, written_parts, written_group, written_sequence, written_reference, no_written, then_written, WrittenTemplate, Instructions, no_instructions, then_instruction, group_of, sequence_of, joined, EachReference, EachReferenceOne, Context, context_of, inside, flat_one, flat_list, length_part, AreFlatLists}
 
 -- the place and the template of a name, from a place on
 abbrev pub located : List WrittenTemplate → ℕ → List ℕ → Option (ℕ × WrittenTemplate)

@@ -1,31 +1,13 @@
 -- The lists of templates that pass the checks of operators are typed.
-use Rattle.std.proofs.Common.{◌≡◌, ◌≢◌, ◌+◌, ℕ, suc, List, [], ◌∷◌, Option, Some, None, Bool, true, false, refl, sym, ap, subst, ◌∙◌, arith}
-use Rattle.std.specs.Prelude.{IsSome, IfSome, IsUtf8, slice_get, option_and_then}
-use Rattle.fast_value.specs.declared.kind.Kind.{Kind}
-use Rattle.fast_value.specs.declared.kind.Kind.TheVariants as kind
-use Rattle.fast_value.specs.declared.kind.Operator.TheVariants as operator
-use Rattle.fast_value.specs.declared.kind.Part.{Part}
-use Rattle.fast_value.specs.declared.kind.Part.TheVariants as part
-use Rattle.fast_value.specs.declared.kind.Presence.TheVariants.{Mandatory}
-use Rattle.fast_value.specs.declared.key.Key.{Key}
-use Rattle.fast_value.specs.InitialValues.{value_of_text}
-use Rattle.fast_written.specs.Written.{WrittenInstruction, WrittenInstructions, WrittenPart, written_field, written_parts, written_group, written_sequence, written_reference, no_written, then_written, parts_of, listed, listed_one}
-use Rattle.fast_template.specs.Resolved.{Instructions, no_instructions, then_instruction, joined}
-use Rattle.fast_load.specs.FlatLists.{Context, inside, part_of, flat_one, flat_list}
-use Rattle.std.specs.List.{AllByRecursion}
-use Rattle.fast_written.specs.Written.{WrittenTemplate}
-use Rattle.fast_load.specs.LoadChecks.{operator_allowed, constant_has_value, default_has_value, value_spelled, from_one, IsPartAt, IsInstructionAt}
-use Rattle.fast_load.specs.Phases.{Passes}
-use Rattle.fast_load.specs.FlatLists.{AreFlatLists, context_of}
-use Rattle.fast_template.specs.TemplateSets.{applies, IsInitial, IsPartOf, HaveTypedParts}
+use Rattle.fast_load.proofs.Common.{◌≡◌, ◌≢◌, ◌+◌, ℕ, suc, List, [], ◌∷◌, Option, Some, None, Bool, true, false, refl, sym, ap, subst, ◌∙◌, arith, IsSome, IfSome, IsUtf8, slice_get, option_and_then, Kind, Operator, Part, Mandatory, Key, value_of_text, WrittenInstruction, WrittenInstructions, WrittenPart, written_field, written_parts, written_group, written_sequence, written_reference, no_written, then_written, parts_of, listed, listed_one, Instructions, no_instructions, then_instruction, joined, Context, inside, part_of, flat_one, flat_list, AllByRecursion, WrittenTemplate, operator_allowed, constant_has_value, default_has_value, value_spelled, from_one, IsPartAt, IsInstructionAt, Passes, AreFlatLists, context_of, applies, IsInitial, IsPartOf, HaveTypedParts}
 use Rattle.fast_load.proofs.AllOf.{all_of_front, all_of_back}
 use Rattle.fast_load.proofs.InitialFits.{value_fits}
 
 -- what the checks of operators ask of a part, and what a text is
 pub record PartPasses (p : WrittenPart) : Type 0 where
   pub operator_applies : applies p.operation.operator p.kind ≢ false
-  pub constant_has_value : p.operation.operator ≡ operator.Constant → p.operation.initial ≢ None
-  pub default_has_value : p.operation.operator ≡ operator.Default → p.presence ≡ Mandatory → p.operation.initial ≢ None
+  pub constant_has_value : p.operation.operator ≡ Operator.Constant → p.operation.initial ≢ None
+  pub default_has_value : p.operation.operator ≡ Operator.Default → p.presence ≡ Mandatory → p.operation.initial ≢ None
   pub value_spelled : (text : List ℕ) → p.operation.initial ≡ Some text → value_of_text p.part p.kind text ≢ None
   pub text_is : IfSome p.operation.initial IsUtf8
 
@@ -58,9 +40,9 @@ some_if None n = absurd (n refl)
 some_if (Some x) n = (x, refl)
 
 only_exponent : (p : Part) (k : Kind) → Type 0
-only_exponent p k = p ≡ part.Exponent → k ≡ kind.Int32
+only_exponent p k = p ≡ Part.Exponent → k ≡ Kind.Int32
 
-fits_by : (c : Context) (p : WrittenPart) (key : Key) (initial : Option (List ℕ)) → p.operation.initial ≡ initial → (p.part ≡ part.Exponent → p.kind ≡ kind.Int32) → PartPasses p
+fits_by : (c : Context) (p : WrittenPart) (key : Key) (initial : Option (List ℕ)) → p.operation.initial ≡ initial → (p.part ≡ Part.Exponent → p.kind ≡ Kind.Int32) → PartPasses p
     → IfSome (option_and_then (value_of_text p.part p.kind) initial) (IsInitial (part_of c p.part p.kind p.presence p.operation key))
 fits_by c p key None is only pass = tt
 fits_by c p key (Some text) is only pass =
@@ -75,7 +57,7 @@ has_value p pass some =
     let is : option_and_then (value_of_text p.part p.kind) p.operation.initial ≡ Some value.0 = ap (option_and_then (value_of_text p.part p.kind)) text.1 ∙ value.1 in
     subst IsSome (sym is) refl
 
-part_typed : (c : Context) (p : WrittenPart) (key : Key) → (p.part ≡ part.Exponent → p.kind ≡ kind.Int32) → PartPasses p → IsPartOf p.part p.kind p.presence (part_of c p.part p.kind p.presence p.operation key)
+part_typed : (c : Context) (p : WrittenPart) (key : Key) → (p.part ≡ Part.Exponent → p.kind ≡ Kind.Int32) → PartPasses p → IsPartOf p.part p.kind p.presence (part_of c p.part p.kind p.presence p.operation key)
 part_typed c p key only pass = record {
   part_is = refl;
   kind_is = refl;

@@ -1,18 +1,5 @@
 -- What a walk over instructions answers, by their places in the list of all of them.
-use Rattle.std.proofs.Common.{◌≡◌, ◌≤◌, ◌<◌, ◌+◌, ℕ, zero, suc, List, [], ◌∷◌, ◌++◌, map, drop, get_or, length, min, Option, Some, None, refl, sym, ap, subst, ◌∙◌, lit≤, arith}
-use Rattle.std.specs.Prelude.{slice_get}
-use Rattle.std.proofs.Math.Nat.{min-le_right}
-use Rattle.std.proofs.lemmas.List.{drop_all, drop_more}
-use Rattle.std.specs.Option.{option_map_or}
-use Rattle.fast_written.specs.declared.fault.LoadCause.{LoadCause}
-use Rattle.fast_written.specs.declared.fault.LoadFault.{LoadFault}
-use Rattle.fast_load.specs.declared.walk.Walked.{Walked}
-use Rattle.fast_load.specs.declared.walk.Walked.TheVariants.{Next, Fault}
-use Rattle.fast_written.specs.Written.{WrittenInstruction, WrittenInstructions, written_field, written_parts, written_group, written_sequence, written_reference, no_written, then_written, WrittenTemplate, listed, listed_one}
-use Rattle.fast_load.specs.declared.in_order.Leveled.{Leveled}
-use Rattle.fast_load.specs.InOrder.{found_of}
-use Rattle.fast_load.specs.Walks.{and_then, judged, walk, walk_one, after_walk, after_template, first_at_fault}
-use Rattle.fast_written.specs.LoadFaults.{next_number}
+use Rattle.fast_load.proofs.Common.{◌≡◌, ◌≤◌, ◌<◌, ◌+◌, ℕ, zero, suc, List, [], ◌∷◌, ◌++◌, map, drop, get_or, length, min, Option, Some, None, refl, sym, ap, subst, ◌∙◌, lit≤, arith, slice_get, min-le_right, drop_all, drop_more, option_map_or, LoadCause, LoadFault, Walked, Next, Fault, WrittenInstruction, WrittenInstructions, written_field, written_parts, written_group, written_sequence, written_reference, no_written, then_written, WrittenTemplate, listed, listed_one, Leveled, found_of, and_then, judged, walk, walk_one, after_walk, after_template, first_at_fault, next_number}
 
 module _ (judge : WrittenInstruction → Option LoadCause) where
   -- the same along a list

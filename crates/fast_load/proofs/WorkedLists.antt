@@ -1,11 +1,6 @@
 -- The written templates of the worked rows are resolved to the worked set of fast_template, with its keys and slots.
-use Rattle.std.proofs.Common.{◌≡◌, ℕ, List, refl}
-use Rattle.fast_template.specs.Resolved.{Instructions, no_instructions, Resolved, numbered, with_keys}
-use Rattle.fast_load.specs.FlatLists.{context_of, flat_list}
-use Rattle.fast_written.specs.Written.{WrittenTemplate}
+use Rattle.fast_load.proofs.Common.{◌≡◌, ℕ, List, refl, Instructions, no_instructions, Resolved, numbered, with_keys, context_of, flat_list, WrittenTemplate, slot_of, quote, wrap, opt, legs, marks, bare, clash, tail, init, delta, common, grp, uni, empty, const, fixed, first}
 use Rattle.fast_template.proofs.WorkedSet as worked
-use Rattle.fast_template.proofs.WorkedSet.{slot_of}
-use Rattle.fast_written.proofs.WorkedTemplates.{quote, wrap, opt, legs, marks, bare, clash, tail, init, delta, common, grp, uni, empty, const, fixed, first}
 
 -- The only reference is to Common, the eleventh template.
 abbrev pub common_list : List ℕ → Instructions

@@ -1,28 +1,7 @@
 -- The definitions of `specs/` on the templates of the worked rows: each row computes.
-use Rattle.std.proofs.Common.{◌≡◌, ◌≢◌, ℕ, zero, suc, ◌-◌, ◌^◌, List, [], ◌∷◌, length, Option, Some, None, Bool, true, false, pos, negsuc, refl, sym, ap, subst, ◌∙◌, ◌<◌, get_or, lit<, lit≤, arith}
-use Rattle.std.specs.Prelude.{codes, Contains}
-use Rattle.std.specs.Option.{option_map_or}
-use Rattle.fast_value.specs.declared.kind.Kind.{Kind}
+use Rattle.fast_load.proofs.Common.{◌≡◌, ◌≢◌, ℕ, zero, suc, ◌-◌, ◌^◌, List, [], ◌∷◌, length, Option, Some, None, Bool, true, false, pos, negsuc, refl, sym, ap, subst, ◌∙◌, ◌<◌, get_or, lit<, lit≤, arith, codes, Contains, option_map_or, Kind, Presence, Mandatory, Optional, Operator, Plain, Constant, Default, Copy, Increment, Delta, Tail, Part, Whole, Exponent, Mantissa, Length, Scalar, Scope, Key, FieldPart, value_of_text, WrittenOperation, Surroundings, WrittenInstruction, written_field, written_parts, written_group, written_sequence, written_reference, written_list, WrittenTemplate, Instruction, Instructions, whole_field, field_in_parts, group_of, sequence_of, instructions_of, no_instructions, then_instruction, numbered, keys_of, size_of, depth_of, needs_bit, has_map, context_of, flat_list, Before, names_well_made, name_new, id_new, operator_allowed, constant_has_value, default_has_value, value_spelled, reference_known, off_cycles, nests_little, sum_small, Fails, directly, IsTemplateAt, HaveTypedParts, IsNumbered, AreSound, identifier_key, by, by_value, by_key, nothing_around, template, quote, wrap, opt, legs, marks, bare, clash, tail, init, delta, common, grp, uni, empty, const, fixed, first}
 use Rattle.fast_value.specs.declared.kind.Kind.TheVariants.{Int32, UInt32, Int64, Decimal, Ascii, Unicode, Bytes}
-use Rattle.fast_value.specs.declared.kind.Presence.{Presence}
-use Rattle.fast_value.specs.declared.kind.Presence.TheVariants.{Mandatory, Optional}
-use Rattle.fast_value.specs.declared.kind.Operator.{Operator}
-use Rattle.fast_value.specs.declared.kind.Operator.TheVariants.{Plain, Constant, Default, Copy, Increment, Delta, Tail}
-use Rattle.fast_value.specs.declared.kind.Part.{Part}
-use Rattle.fast_value.specs.declared.kind.Part.TheVariants.{Whole, Exponent, Mantissa, Length}
-use Rattle.fast_value.specs.declared.scalar.Scalar.{Scalar}
-use Rattle.fast_value.specs.declared.scalar.Scalar.TheVariants as value
-use Rattle.fast_value.specs.declared.key.Scope.{Scope}
 use Rattle.fast_value.specs.declared.key.Scope.TheVariants.{Global, Template, Typed, User}
-use Rattle.fast_value.specs.declared.key.Key.{Key}
-use Rattle.fast_template.specs.declared.resolved.FieldPart.{FieldPart}
-use Rattle.fast_value.specs.InitialValues.{value_of_text}
-use Rattle.fast_written.specs.Written.{WrittenOperation, Surroundings, WrittenInstruction, written_field, written_parts, written_group, written_sequence, written_reference, written_list, WrittenTemplate}
-use Rattle.fast_template.specs.Resolved.{Instruction, Instructions, whole_field, field_in_parts, group_of, sequence_of, instructions_of, no_instructions, then_instruction, numbered, keys_of, size_of, depth_of, needs_bit, has_map}
-use Rattle.fast_load.specs.FlatLists.{context_of, flat_list}
-use Rattle.fast_load.specs.LoadChecks.{Before, names_well_made, name_new, id_new, operator_allowed, constant_has_value, default_has_value, value_spelled, reference_known, off_cycles, nests_little, sum_small, Fails, directly, IsTemplateAt}
-use Rattle.fast_template.specs.TemplateSets.{HaveTypedParts, IsNumbered, AreSound, identifier_key}
-use Rattle.fast_written.proofs.WorkedTemplates.{by, by_value, by_key, nothing_around, template, quote, wrap, opt, legs, marks, bare, clash, tail, init, delta, common, grp, uni, empty, const, fixed, first}
 use Rattle.fast_load.proofs.WorkedLists.{common_list}
 
 -- the flat list of the template at a place, numbered; slots are still to be given
@@ -62,7 +41,7 @@ wrap_is = refl
 -- A decimal in parts has one number, and internal keys of its own.
 opt_is : flat 3 opt ≡ instructions_of (
     field_in_parts (codes "Px") 1 Optional
-    (part_at 1 Exponent Int32 Optional Default (Some (value.I32 (pos 2))) (internal (codes "Px") Exponent))
+    (part_at 1 Exponent Int32 Optional Default (Some (Scalar.I32 (pos 2))) (internal (codes "Px") Exponent))
     (part_at 1 Mantissa Int64 Mandatory Copy None (internal (codes "Px") Mantissa))
     ∷ field 2 (codes "Flag") UInt32 Mandatory Copy None
     ∷ [])
@@ -90,7 +69,7 @@ clash_is = refl
 tail_is : flat 8 tail ≡ instructions_of (field 1 (codes "S") Ascii Optional Tail None ∷ [])
 tail_is = refl
 
-init_is : flat 9 init ≡ instructions_of (field 1 (codes "S") Ascii Optional Tail (Some (value.Ascii (codes "ab"))) ∷ [])
+init_is : flat 9 init ≡ instructions_of (field 1 (codes "S") Ascii Optional Tail (Some (Scalar.Ascii (codes "ab"))) ∷ [])
 init_is = refl
 
 delta_is : flat 10 delta ≡ instructions_of (field 1 (codes "S") Ascii Mandatory Delta None ∷ [])
@@ -110,15 +89,15 @@ empty_is : flat 14 empty ≡ instructions_of (field_under 1 (codes "A") UInt32 O
 empty_is = refl
 
 const_is : flat 15 const ≡ instructions_of (
-    field 1 (codes "K") UInt32 Mandatory Constant (Some (value.U32 7))
-    ∷ field 2 (codes "O") UInt32 Optional Constant (Some (value.U32 9))
-    ∷ field 3 (codes "D") UInt32 Mandatory Default (Some (value.U32 3))
+    field 1 (codes "K") UInt32 Mandatory Constant (Some (Scalar.U32 7))
+    ∷ field 2 (codes "O") UInt32 Optional Constant (Some (Scalar.U32 9))
+    ∷ field 3 (codes "D") UInt32 Mandatory Default (Some (Scalar.U32 3))
     ∷ [])
 const_is = refl
 
 fixed_is : flat 16 fixed ≡ instructions_of (
     field_in_parts (codes "Px") 1 Mandatory
-    (part_at 1 Exponent Int32 Mandatory Constant (Some (value.I32 (negsuc 1))) (internal (codes "Px") Exponent))
+    (part_at 1 Exponent Int32 Mandatory Constant (Some (Scalar.I32 (negsuc 1))) (internal (codes "Px") Exponent))
     (part_at 1 Mantissa Int64 Mandatory Delta None (internal (codes "Px") Mantissa))
     ∷ field 2 (codes "Raw") Bytes Optional Copy None
     ∷ [])
@@ -252,7 +231,7 @@ referred_is = refl
 abbrev whole_value : Kind → List ℕ → Option Scalar
 whole_value kind text = value_of_text Whole kind text
 
-greatest_is : whole_value UInt32 (codes "4294967295") ≡ Some (value.U32 (2 ^ 32 - 1))
+greatest_is : whole_value UInt32 (codes "4294967295") ≡ Some (Scalar.U32 (2 ^ 32 - 1))
 greatest_is = refl
 
 past_greatest_is : whole_value UInt32 (codes "4294967296") ≡ None
@@ -261,16 +240,16 @@ past_greatest_is = refl
 no_number_is : whole_value UInt32 (codes "x") ≡ None
 no_number_is = refl
 
-zeros_is : whole_value UInt32 (codes "007") ≡ Some (value.U32 7)
+zeros_is : whole_value UInt32 (codes "007") ≡ Some (Scalar.U32 7)
 zeros_is = refl
 
-minus_zero_is : whole_value UInt32 (codes "-0") ≡ Some (value.U32 0)
+minus_zero_is : whole_value UInt32 (codes "-0") ≡ Some (Scalar.U32 0)
 minus_zero_is = refl
 
 negative_is : whole_value UInt32 (codes "-1") ≡ None
 negative_is = refl
 
-least_is : whole_value Int32 (codes "-2147483648") ≡ Some (value.I32 (negsuc (2 ^ 31 - 1)))
+least_is : whole_value Int32 (codes "-2147483648") ≡ Some (Scalar.I32 (negsuc (2 ^ 31 - 1)))
 least_is = refl
 
 minus_alone_is : whole_value Int64 (codes "-") ≡ None
@@ -282,10 +261,10 @@ plus_is = refl
 nothing_is : whole_value Int64 [] ≡ None
 nothing_is = refl
 
-decimal_is : whole_value Decimal (codes "100e-2") ≡ Some (value.Decimal (negsuc 1) (pos 100))
+decimal_is : whole_value Decimal (codes "100e-2") ≡ Some (Scalar.Decimal (negsuc 1) (pos 100))
 decimal_is = refl
 
-zero_decimal_is : whole_value Decimal (codes "00e-0") ≡ Some (value.Decimal (pos 0) (pos 0))
+zero_decimal_is : whole_value Decimal (codes "00e-0") ≡ Some (Scalar.Decimal (pos 0) (pos 0))
 zero_decimal_is = refl
 
 no_exponent_is : whole_value Decimal (codes "100") ≡ None
@@ -297,29 +276,29 @@ capital_is = refl
 great_exponent_is : whole_value Decimal (codes "1e64") ≡ None
 great_exponent_is = refl
 
-exponent_part_is : value_of_text Exponent Int32 (codes "63") ≡ Some (value.I32 (pos 63))
+exponent_part_is : value_of_text Exponent Int32 (codes "63") ≡ Some (Scalar.I32 (pos 63))
 exponent_part_is = refl
 
 exponent_past_is : value_of_text Exponent Int32 (codes "64") ≡ None
 exponent_past_is = refl
 
 -- A length's initial value is any uInt32, also one that no stream can use.
-great_length_is : value_of_text Length UInt32 (codes "65536") ≡ Some (value.U32 65536)
+great_length_is : value_of_text Length UInt32 (codes "65536") ≡ Some (Scalar.U32 65536)
 great_length_is = refl
 
-bytes_are : whole_value Bytes (codes "0aFF") ≡ Some (value.Bytes (10 ∷ 255 ∷ []))
+bytes_are : whole_value Bytes (codes "0aFF") ≡ Some (Scalar.Bytes (10 ∷ 255 ∷ []))
 bytes_are = refl
 
 odd_bytes_are : whole_value Bytes (codes "0aF") ≡ None
 odd_bytes_are = refl
 
-no_bytes_are : whole_value Bytes [] ≡ Some (value.Bytes [])
+no_bytes_are : whole_value Bytes [] ≡ Some (Scalar.Bytes [])
 no_bytes_are = refl
 
 beyond_ascii_is : whole_value Ascii (195 ∷ 169 ∷ []) ≡ None
 beyond_ascii_is = refl
 
-unicode_is : whole_value Unicode (195 ∷ 169 ∷ []) ≡ Some (value.Unicode (195 ∷ 169 ∷ []))
+unicode_is : whole_value Unicode (195 ∷ 169 ∷ []) ≡ Some (Scalar.Unicode (195 ∷ 169 ∷ []))
 unicode_is = refl
 
 -- ---- the order of load checks

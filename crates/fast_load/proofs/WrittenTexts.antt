@@ -1,14 +1,7 @@
 -- The initial values of templates that a program has are texts.
-use Rattle.std.proofs.Common.{List, [], ◌∷◌, map, Option, Some, None, string_bytes, sym, subst}
-use Rattle.std.specs.Prelude.{IfSome, IsUtf8, option_map}
-use Rattle.std.specs.List.{AllByRecursion}
-use Rattle.std.specs.declared.alloc.Global.{Global}
+use Rattle.fast_load.proofs.Common.{List, [], ◌∷◌, map, Option, Some, None, string_bytes, sym, subst, IfSome, IsUtf8, option_map, AllByRecursion, Global, IsUtf8-string_bytes, Instruction-F, Template, WrittenInstruction, written_step, written_of, written_list, listed, listed_one, written_template_of}
 use Rattle.std.specs.declared.string.String.{String}
-use Rattle.std.proofs.lemmas.Str.{IsUtf8-string_bytes}
 use Rattle.fast_written.specs.declared.written.Instruction.{Instruction, map-Instruction, fold-roll-Instruction, ind-Instruction}
-use Rattle.fast_written.specs.declared.written.Instruction.TheOpen.{Instruction-F}
-use Rattle.fast_written.specs.declared.written.Template.{Template}
-use Rattle.fast_written.specs.Written.{WrittenInstruction, written_step, written_of, written_list, listed, listed_one, written_template_of}
 use Rattle.fast_load.proofs.AllOf.{all_of_both}
 use Rattle.fast_load.proofs.TypedLists.{HasTexts}
 

@@ -3,11 +3,7 @@ use Rattle.std.specs.Prelude.{◌≡◌, ℕ, suc, ◌+◌, nat_eq, Bool, false,
 use Rattle.std.specs.Cmp.Lexicographic.{pointwise, slice_cmp}
 use Rattle.std.specs.Ordering.{nat_cmp}
 use Rattle.std.specs.BTreeMap.{BTreeMap, Updates, get}
-use Rattle.fast_written.specs.declared.fault.LoadCause.{LoadCause}
-use Rattle.fast_written.specs.declared.fault.LoadCause.TheVariants.{DuplicateName, DuplicateId}
-use Rattle.fast_written.specs.declared.fault.LoadFault.{LoadFault}
-use Rattle.fast_written.specs.Written.{WrittenTemplate}
-use Rattle.fast_template.specs.TemplateSets.{has_id}
+use Rattle.fast_load.specs.Prelude.{LoadCause, DuplicateName, DuplicateId, LoadFault, WrittenTemplate, has_id}
 use Rattle.fast_load.specs.Walks.{after_template}
 
 -- the place of the first template that passes a test, from 0

@@ -1,12 +1,9 @@
 -- How large the flat lists of templates are and how deep they nest, before any is put together.
 -- Own: the limits.
 use Rattle.std.specs.Prelude.{◌≡◌, ◌+◌, ℕ, max, min, nat_lt, if◌then◌else◌, List, [], ◌∷◌, slice_get, Option, Some, None}
-use Rattle.fast_written.specs.declared.fault.LoadCause.TheVariants.{TooDeep, TooMany}
-use Rattle.fast_written.specs.declared.fault.LoadFault.{LoadFault}
+use Rattle.fast_load.specs.Prelude.{TooDeep, TooMany, LoadFault, WrittenInstruction, WrittenInstructions, written_field, written_parts, written_group, written_sequence, written_reference, no_written, then_written, Instructions, size_of, depth_of}
 use Rattle.std.specs.Option.{option_map_or}
 use Rattle.fast_load.specs.declared.extents.Extent.{Extent}
-use Rattle.fast_written.specs.Written.{WrittenInstruction, WrittenInstructions, written_field, written_parts, written_group, written_sequence, written_reference, no_written, then_written}
-use Rattle.fast_template.specs.Resolved.{Instructions, size_of, depth_of}
 
 -- how many instructions there are with references replaced by lists of these sizes
 abbrev mutual

@@ -5,19 +5,8 @@ use Rattle.std.specs.Prelude.{◌≡◌, ℕ, ◌+◌, nat_eq, if◌then◌else�
 use Rattle.std.specs.Option.{option_or}
 use Rattle.std.specs.List.{AllZip}
 use Rattle.std.specs.Cmp.Lexicographic.{pointwise}
-use Rattle.fast_value.specs.declared.kind.Kind.{Kind}
-use Rattle.fast_value.specs.declared.kind.Presence.{Presence}
-use Rattle.fast_value.specs.declared.kind.Part.{Part}
-use Rattle.fast_value.specs.declared.kind.Kind.TheVariants.{Int32, UInt32, Int64}
-use Rattle.fast_value.specs.declared.kind.Presence.TheVariants.{Mandatory}
-use Rattle.fast_value.specs.declared.kind.Part.TheVariants.{Whole, Exponent, Mantissa, Length}
-use Rattle.fast_value.specs.declared.key.Scope.{Scope}
+use Rattle.fast_load.specs.Prelude.{Kind, Presence, Part, Int32, UInt32, Int64, Mandatory, Whole, Exponent, Mantissa, Length, Scope, Key, FieldPart, value_of_text, WrittenOperation, Surroundings, WrittenInstruction, WrittenInstructions, written_field, written_parts, written_group, written_sequence, written_reference, no_written, then_written, WrittenTemplate, Instructions, whole_field, field_in_parts, group_of, sequence_of, no_instructions, then_instruction, joined, numbered, with_keys, Resolved}
 use Rattle.fast_value.specs.declared.key.Scope.TheVariants.{Global, Template, Typed, User}
-use Rattle.fast_value.specs.declared.key.Key.{Key}
-use Rattle.fast_template.specs.declared.resolved.FieldPart.{FieldPart}
-use Rattle.fast_value.specs.InitialValues.{value_of_text}
-use Rattle.fast_written.specs.Written.{WrittenOperation, Surroundings, WrittenInstruction, WrittenInstructions, written_field, written_parts, written_group, written_sequence, written_reference, no_written, then_written, WrittenTemplate}
-use Rattle.fast_template.specs.Resolved.{Instructions, whole_field, field_in_parts, group_of, sequence_of, no_instructions, then_instruction, joined, numbered, with_keys, Resolved}
 
 -- where an instruction was written: in which template, and what the elements around it name
 pub record Context : Type 0 where

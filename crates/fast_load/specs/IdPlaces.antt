@@ -3,8 +3,7 @@ use Rattle.std.specs.Prelude.{◌≡◌, ℕ, suc, if◌then◌else◌, List, []
 use Rattle.std.specs.Option.{option_or}
 use Rattle.std.specs.Ordering.{nat_cmp}
 use Rattle.std.specs.BTreeMap.{get, BTreeMap}
-use Rattle.fast_template.specs.declared.resolved.FlatTemplate.{FlatTemplate}
-use Rattle.fast_template.specs.TemplateSets.{has_id}
+use Rattle.fast_load.specs.Prelude.{FlatTemplate, has_id}
 
 -- the first template of an identifier, from 0
 abbrev pub first_with : List FlatTemplate → ℕ → Option ℕ

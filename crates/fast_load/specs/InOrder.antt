@@ -1,7 +1,6 @@
 -- Instructions one after another, depth first, each with the level on which it stands.
 use Rattle.std.specs.Prelude.{ℕ, ◌+◌, ◌*◌, min, List, [], ◌∷◌, ◌++◌, length, map}
-use Rattle.fast_written.specs.declared.written.Instruction.{Instruction}
-use Rattle.fast_written.specs.Written.{listed, WrittenInstruction, WrittenInstructions, written_field, written_parts, written_group, written_sequence, written_reference, no_written, then_written, written_list, written_of}
+use Rattle.fast_load.specs.Prelude.{Instruction, listed, WrittenInstruction, WrittenInstructions, written_field, written_parts, written_group, written_sequence, written_reference, no_written, then_written, written_list, written_of}
 use Rattle.fast_load.specs.declared.in_order.Leveled.{Leveled}
 use Rattle.fast_load.specs.declared.in_order.Level.{Level}
 

@@ -2,12 +2,7 @@
 use Rattle.std.specs.Prelude.{◌≡◌, ◌++◌, List, Option, drop, length, map, option_and_then, Vec}
 use Rattle.std.specs.declared.alloc.Global.{Global}
 use Rattle.std.specs.List.{flat_map}
-use Rattle.fast_value.specs.declared.kind.Kind.{Kind}
-use Rattle.fast_value.specs.declared.kind.Part.{Part}
-use Rattle.fast_value.specs.declared.scalar.Scalar.{Scalar}
-use Rattle.fast_value.specs.InitialValues.{value_of_text}
-use Rattle.fast_written.specs.declared.written.Template.{Template}
-use Rattle.fast_written.specs.Written.{WrittenInstruction, WrittenInstructions, WrittenOperation, listed_one, parts_of, written_template_of}
+use Rattle.fast_load.specs.Prelude.{Kind, Part, Scalar, value_of_text, Template, WrittenInstruction, WrittenInstructions, WrittenOperation, listed_one, parts_of, written_template_of}
 use Rattle.fast_load.specs.Walks.{kept_of}
 
 -- the initial value of a part, where there is one

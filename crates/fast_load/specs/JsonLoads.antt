@@ -1,13 +1,9 @@
 -- What loading a template text answers.
 -- Own: the order of the checks of a load begins with the shape of the text.
 use Rattle.std.specs.Prelude.{◌≡◌, ◌⊎◌, List, MatchResult, Result, Ok, Err}
-use Rattle.fast_written.specs.declared.fault.LoadCause.TheVariants as cause
-use Rattle.fast_written.specs.declared.fault.LoadFault.{LoadFault}
-use Rattle.fast_written.specs.Written.{WrittenTemplate}
+use Rattle.fast_load.specs.Prelude.{LoadCause, LoadFault, WrittenTemplate, fault_at, want_of_memory, TemplateList, templates_in}
 use Rattle.fast_load.specs.FlatLists.{AreResolved}
 use Rattle.fast_load.specs.LoadChecks.{IsAccepted, IsFirstFault}
-use Rattle.fast_written.specs.LoadFaults.{fault_at, want_of_memory}
-use Rattle.fast_template.specs.TemplateSets.{TemplateList, templates_in}
 
 -- templates as written are built; a fault of the text's shape comes before that
 abbrev pub Loads : Result (List WrittenTemplate) LoadFault → Result TemplateList LoadFault → Type 0
@@ -17,4 +13,4 @@ Loads (Err shape) result = MatchResult result (λ set. ⊥) (λ fault. (fault �
 
 -- bytes that are no JSON
 abbrev pub IsNoText : Result TemplateList LoadFault → Type 0
-IsNoText result = MatchResult result (λ set. ⊥) (λ fault. (fault ≡ fault_at cause.S1 0 0) ⊎ (fault ≡ want_of_memory))
+IsNoText result = MatchResult result (λ set. ⊥) (λ fault. (fault ≡ fault_at LoadCause.S1 0 0) ⊎ (fault ≡ want_of_memory))

@@ -1,3 +1,4 @@
+mod Prelude
 pub mod FlatLists
 pub mod LoadChecks
 pub mod Walks

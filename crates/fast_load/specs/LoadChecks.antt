@@ -5,17 +5,8 @@ use Rattle.std.specs.List.{list_all}
 use Rattle.std.specs.Ordering.{nat_cmp}
 use Rattle.std.specs.declared.cmp.Ordering.TheVariants.{Less}
 use Rattle.std.specs.Cmp.Lexicographic.{slice_cmp}
-use Rattle.fast_value.specs.declared.kind.Operator.TheVariants.{Constant, Default}
-use Rattle.fast_value.specs.declared.kind.Presence.TheVariants.{Mandatory}
-use Rattle.fast_written.specs.declared.fault.LoadCause.TheVariants as cause
-use Rattle.fast_written.specs.declared.fault.LoadFault.{LoadFault}
-use Rattle.fast_written.specs.Names.{is_name}
-use Rattle.fast_written.specs.LoadFaults.{fault_at}
-use Rattle.fast_value.specs.InitialValues.{value_of_text}
-use Rattle.fast_written.specs.Written.{WrittenOperation, Surroundings, WrittenInstruction, written_field, written_parts, written_group, written_sequence, written_reference, WrittenTemplate, WrittenPart, parts_of, listed}
-use Rattle.fast_template.specs.Resolved.{Instructions, size_of, depth_of}
+use Rattle.fast_load.specs.Prelude.{Constant, Default, Mandatory, LoadCause, LoadFault, is_name, fault_at, value_of_text, WrittenOperation, Surroundings, WrittenInstruction, written_field, written_parts, written_group, written_sequence, written_reference, WrittenTemplate, WrittenPart, parts_of, listed, Instructions, size_of, depth_of, applies}
 use Rattle.fast_load.specs.FlatLists.{AreFlatLists}
-use Rattle.fast_template.specs.TemplateSets.{applies}
 
 -- the element at a place that is counted from 1
 abbrev pub from_one : {A : Type 0} → List A → ℕ → Option A
@@ -130,18 +121,18 @@ Before a b = slice_cmp nat_cmp (turn_of a) (turn_of b) ≡ Less
 
 -- the fault that a failed check is answered by
 abbrev pub fault_of : Check → LoadFault
-fault_of few_templates = fault_at cause.TooMany 0 0
-fault_of (names_well_made t i) = fault_at cause.S1 t i
-fault_of (name_new t) = fault_at cause.DuplicateName t 0
-fault_of (id_new t) = fault_at cause.DuplicateId t 0
-fault_of (operator_allowed t i part) = fault_at cause.S2 t i
-fault_of (constant_has_value t i part) = fault_at cause.S4 t i
-fault_of (default_has_value t i part) = fault_at cause.S5 t i
-fault_of (value_spelled t i part) = fault_at cause.S3 t i
-fault_of (reference_known t i) = fault_at cause.D8 t i
-fault_of (off_cycles t) = fault_at cause.Cycle t 0
-fault_of (nests_little t) = fault_at cause.TooDeep t 0
-fault_of (sum_small t) = fault_at cause.TooMany t 0
+fault_of few_templates = fault_at LoadCause.TooMany 0 0
+fault_of (names_well_made t i) = fault_at LoadCause.S1 t i
+fault_of (name_new t) = fault_at LoadCause.DuplicateName t 0
+fault_of (id_new t) = fault_at LoadCause.DuplicateId t 0
+fault_of (operator_allowed t i part) = fault_at LoadCause.S2 t i
+fault_of (constant_has_value t i part) = fault_at LoadCause.S4 t i
+fault_of (default_has_value t i part) = fault_at LoadCause.S5 t i
+fault_of (value_spelled t i part) = fault_at LoadCause.S3 t i
+fault_of (reference_known t i) = fault_at LoadCause.D8 t i
+fault_of (off_cycles t) = fault_at LoadCause.Cycle t 0
+fault_of (nests_little t) = fault_at LoadCause.TooDeep t 0
+fault_of (sum_small t) = fault_at LoadCause.TooMany t 0
 
 -- no check fails
 abbrev pub IsAccepted : List WrittenTemplate → Type 0

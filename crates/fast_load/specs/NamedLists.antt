@@ -2,9 +2,7 @@
 use Rattle.std.specs.Prelude.{◌≡◌, ℕ, suc, if◌then◌else◌, nat_eq, List, [], ◌∷◌, length, map, Option, Some, None, option_map, slice_get, unwrap_or}
 use Rattle.std.specs.Cmp.Lexicographic.{pointwise}
 use Rattle.std.specs.Option.{option_map_or}
-use Rattle.fast_template.specs.declared.resolved.FlatTemplate.{FlatTemplate}
-use Rattle.fast_written.specs.Written.{WrittenTemplate}
-use Rattle.fast_template.specs.Resolved.{Instructions, no_instructions, list_of}
+use Rattle.fast_load.specs.Prelude.{FlatTemplate, WrittenTemplate, Instructions, no_instructions, list_of}
 use Rattle.fast_load.specs.FlatLists.{AreFlatLists}
 
 -- the list at a place, and that of a name

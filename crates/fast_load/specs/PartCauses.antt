@@ -2,16 +2,7 @@
 -- FAST 1.1, Errors, Static Errors.
 use Rattle.std.specs.Prelude.{ℕ, if◌then◌else◌, List, [], ◌∷◌, Option, Some, None}
 use Rattle.std.specs.Option.{option_or}
-use Rattle.fast_value.specs.declared.kind.Operator.{Operator}
-use Rattle.fast_value.specs.declared.kind.Operator.TheVariants.{Constant, Default}
-use Rattle.fast_value.specs.declared.kind.Presence.{Presence}
-use Rattle.fast_value.specs.declared.kind.Presence.TheVariants.{Mandatory}
-use Rattle.fast_value.specs.declared.scalar.Scalar.{Scalar}
-use Rattle.fast_written.specs.declared.fault.LoadCause.{LoadCause}
-use Rattle.fast_written.specs.declared.fault.LoadCause.TheVariants.{S2, S3, S4, S5}
-use Rattle.fast_value.specs.InitialValues.{value_of_text}
-use Rattle.fast_written.specs.Written.{WrittenPart}
-use Rattle.fast_template.specs.TemplateSets.{applies}
+use Rattle.fast_load.specs.Prelude.{Operator, Constant, Default, Presence, Mandatory, Scalar, LoadCause, S2, S3, S4, S5, value_of_text, WrittenPart, applies}
 
 -- without an initial value
 abbrev pub missing_value : Operator → Presence → Option LoadCause

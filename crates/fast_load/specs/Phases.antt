@@ -1,7 +1,6 @@
 -- The phases of a load, each of checks of one family.
 use Rattle.std.specs.Prelude.{◌≡◌, ℕ, List}
-use Rattle.fast_written.specs.declared.fault.LoadFault.{LoadFault}
-use Rattle.fast_written.specs.Written.{WrittenTemplate}
+use Rattle.fast_load.specs.Prelude.{LoadFault, WrittenTemplate}
 use Rattle.fast_load.specs.LoadChecks.{Check, few_templates, names_well_made, name_new, id_new, operator_allowed, constant_has_value, default_has_value, value_spelled, reference_known, off_cycles, nests_little, sum_small, Fails, Before, fault_of}
 
 -- the first number of a check's turn

@@ -1,9 +1,7 @@
 -- References that name no template.
 -- FAST 1.1, Errors, D8.
 use Rattle.std.specs.Prelude.{ℕ, Bool, if◌then◌else◌, List, Option, Some, None}
-use Rattle.fast_written.specs.declared.fault.LoadCause.{LoadCause}
-use Rattle.fast_written.specs.declared.fault.LoadCause.TheVariants.{D8}
-use Rattle.fast_written.specs.Written.{WrittenInstruction, written_field, written_parts, written_group, written_sequence, written_reference}
+use Rattle.fast_load.specs.Prelude.{LoadCause, D8, WrittenInstruction, written_field, written_parts, written_group, written_sequence, written_reference}
 
 -- an instruction that refers to a name that is not known
 abbrev pub reference_cause : (List ℕ → Bool) → WrittenInstruction → Option LoadCause

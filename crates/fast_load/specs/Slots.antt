@@ -2,10 +2,7 @@
 -- Own: FAST 1.1, Field Operators, Dictionaries and Previous Values, finds an entry by its key alone.
 use Rattle.std.specs.Prelude.{◌≡◌, ◌<◌, ◌≤◌, ◌+◌, ◌++◌, ℕ, List, length, Some, IsSome, Contains, unwrap_or, map}
 use Rattle.std.specs.BTreeMap.{BTreeMap, btree_map_len, get}
-use Rattle.fast_value.specs.declared.key.Key.{Key}
-use Rattle.fast_value.specs.Key.{key_cmp}
-use Rattle.fast_template.specs.Resolved.{Resolved, numbered, with_keys}
-use Rattle.fast_template.specs.TemplateSets.{identifier_key}
+use Rattle.fast_load.specs.Prelude.{Key, key_cmp, Resolved, numbered, with_keys, identifier_key}
 
 -- The map leads from each of the keys, as it is without a slot, to a slot of its own, and the slots are the numbers below
 -- the map's size; the identifier's is 0.

@@ -2,12 +2,9 @@
 -- Own: the numbers of instructions in faults.
 use Rattle.std.specs.Prelude.{ℕ, ◌+◌, List, [], ◌∷◌, Option, Some, None, ⊤}
 use Rattle.std.specs.List.{flat_map}
-use Rattle.fast_written.specs.declared.fault.LoadCause.{LoadCause}
-use Rattle.fast_written.specs.declared.fault.LoadFault.{LoadFault}
-use Rattle.fast_written.specs.LoadFaults.{next_number}
+use Rattle.fast_load.specs.Prelude.{LoadCause, LoadFault, next_number, WrittenInstruction, WrittenInstructions, written_field, written_parts, written_group, written_sequence, written_reference, no_written, then_written, WrittenTemplate, listed}
 use Rattle.fast_load.specs.declared.walk.Walked.{Walked}
 use Rattle.fast_load.specs.declared.walk.Walked.TheVariants.{Next, Fault}
-use Rattle.fast_written.specs.Written.{WrittenInstruction, WrittenInstructions, written_field, written_parts, written_group, written_sequence, written_reference, no_written, then_written, WrittenTemplate, listed}
 
 -- goes on with the next number, where there was no fault
 abbrev pub and_then : Walked → (ℕ → Walked) → Walked

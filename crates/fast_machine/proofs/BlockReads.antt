@@ -1,39 +1,9 @@
 -- What a read of messages in what has come of a block leaves.
-use Rattle.std.proofs.Common.{min, ◌≡◌, ◌≤◌, ◌<◌, ◌^◌, ℕ, ◌+◌, ◌-◌, length, take, drop, length-append, length-drop, length-take, arith, List, [], ◌++◌, Bool, true, false, Option, Some, None, Ok, Err, sym, ap, refl, subst, ◌∙◌, ◌⊎◌, inl, inr, append_assoc}
-use Rattle.std.specs.Prelude.{IfSome, nat_le}
-use Rattle.std.proofs.lemmas.Bool.{cases_lt}
-use Rattle.std.proofs.lemmas.List.{drop-drop, drop_all, drop_at, take_all}
-use Rattle.fast_wire.specs.Reader.{IsBytes}
-use Rattle.fast_wire.specs.declared.level.Level.{Level}
-use Rattle.fast_template.specs.Resolved.{Resolved}
-use Rattle.fast_template.specs.TemplateSets.{templates_in}
-use Rattle.fast_dictionary.specs.Dictionary.{Dictionary}
-use Rattle.fast_dictionary.specs.declared.entries.Entries.{Ghosts}
-use Rattle.fast_walk.specs.declared.halt.Halt.{Halt}
+use Rattle.fast_machine.proofs.Common.{min, ◌≡◌, ◌≤◌, ◌<◌, ◌^◌, ℕ, ◌+◌, ◌-◌, length, take, drop, length-append, length-drop, length-take, arith, List, [], ◌++◌, Bool, true, false, Option, Some, None, Ok, Err, sym, ap, refl, subst, ◌∙◌, ◌⊎◌, inl, inr, append_assoc, IfSome, nat_le, cases_lt, drop-drop, drop_all, drop_at, take_all, IsBytes, Level, Resolved, templates_in, Dictionary, Ghosts, Halt, Stage, Traversal, Reading, stop_of, Cause, Truncated, BlockEnd, Framing, Blocks, Content, message_at, Opens, Stand, block_cause, size_at, drop_front, fits_drop, other_cause, take_front, InWindow, in_window, stops_in_window, Machine, Progress, LeavesMessage, StandsAt, Counts, Forgets, ReadsOn, ReadsRun, Run, RunStands, Unfinished, Behind, Carried, HasAll, Stands, StopsBehind, framed_as, want_of_bytes}
 use Rattle.fast_walk.specs.declared.receiver.Receiver.{Ghosts as Receiving}
-use Rattle.fast_walk.specs.declared.traversal.Stage.TheVariants as stage
-use Rattle.fast_walk.specs.declared.traversal.Traversal.{Traversal}
-use Rattle.fast_walk.specs.OpenSegments.{Reading}
-use Rattle.fast_walk.specs.Traversals.{stop_of}
-use Rattle.fast_stream.specs.declared.fault.Cause.{Cause}
-use Rattle.fast_stream.specs.declared.fault.Cause.TheVariants.{Truncated, BlockEnd}
-use Rattle.fast_stream.specs.declared.mode.Framing.{Framing}
-use Rattle.fast_stream.specs.declared.mode.Framing.TheVariants.{Blocks}
-use Rattle.fast_stream.specs.Nodes.{Content}
-use Rattle.fast_stream.specs.Reading.{message_at}
-use Rattle.fast_stream.specs.Blocks.{Opens, Stand, block_cause, size_at}
-use Rattle.fast_stream.proofs.BlockReaders.{drop_front, fits_drop, other_cause, take_front}
-use Rattle.fast_stream.proofs.BlockSteps.{InWindow, in_window, stops_in_window}
-use Rattle.fast_machine.specs.declared.machine.Machine.{Machine}
-use Rattle.fast_machine.specs.declared.messages.Progress.{Progress}
-use Rattle.fast_machine.specs.Calls.{LeavesMessage, StandsAt}
-use Rattle.fast_machine.specs.Following.{Counts}
-use Rattle.fast_machine.specs.Runs.{Forgets, ReadsOn, ReadsRun, Run, RunStands, Unfinished}
-use Rattle.fast_machine.specs.Standing.{Behind, Carried, HasAll, Stands, StopsBehind, framed_as}
 use Rattle.fast_machine.proofs.Calls.{Finds, Found, found_of}
 use Rattle.fast_machine.proofs.Standings.{Opening, Window, go_on, opened, run_from, window_drop, window_take}
 use Rattle.fast_machine.proofs.Followings.{forgets}
-use Rattle.fast_walk.proofs.ShortWalks.{want_of_bytes}
 use Rattle.fast_machine.proofs.Runs.{carried_of, ends_with}
 
 -- the bytes of a block among those that have come
@@ -149,7 +119,7 @@ module _ {G : Dictionary → (List ℕ → Reading) → Type 0} {t : Traversal} 
       }))
 
   -- behind a message it goes on or ends
-  pub block_behind : {H : Dictionary → (List ℕ → Reading) → Type 0} → u.stage ≡ stage.Map → RunStands H u ahead b.start.dictionary b.ends.within more → Stands Blocks (left - p) H u (drop p unread) fed (messages ++ more)
+  pub block_behind : {H : Dictionary → (List ℕ → Reading) → Type 0} → u.stage ≡ Stage.Map → RunStands H u ahead b.start.dictionary b.ends.within more → Stands Blocks (left - p) H u (drop p unread) fed (messages ++ more)
   block_behind {H = H} at run = elim (cases_lt 0 (left - p)) [ inl some ↦ block_inside some run | inr none ↦ between none ]
     where
       between : left - p ≤ 0 → Stands Blocks (left - p) H u (drop p unread) fed (messages ++ more)

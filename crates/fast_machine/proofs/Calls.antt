@@ -1,30 +1,10 @@
 -- What a machine follows behind a chunk more, behind a fault that it keeps, and behind a read of a message.
-use Rattle.std.proofs.Common.{min, ◌≡◌, ◌≢◌, ◌≤◌, ◌<◌, ◌^◌, ◌+◌, ℕ, List, [], ◌++◌, Option, Some, None, Result, Ok, Err, length, length-append, arith, refl, inl, inr, ◌∙◌, append_assoc}
+use Rattle.fast_machine.proofs.Common.{min, ◌≡◌, ◌≢◌, ◌≤◌, ◌<◌, ◌^◌, ◌+◌, ℕ, List, [], ◌++◌, Option, Some, None, Result, Ok, Err, length, length-append, arith, refl, inl, inr, ◌∙◌, append_assoc, IsBytes, IsSound, templates_in, Dictionary, Ghosts, Truncated, Memory, Fault, Framing, Content, Halt, Stage, Traversal, KeepScalars, empty_kept, stop_of, Machine, Having, ReadsOn, Standing, Carried, HasAll, Stands, StopsBehind, framed_as, Counts, Follows, Refused, Waits, mode_of, AnswersNone, FollowsAll, FollowsBehind, IsFault, IsFaultOf, IsSameStream, KeepsFault, ReadsNext, StandsAt, want_of_bytes}
 use Rattle.std.specs.FinMap as finite
-use Rattle.fast_wire.specs.Reader.{IsBytes}
-use Rattle.fast_template.specs.TemplateSets.{IsSound, templates_in}
-use Rattle.fast_dictionary.specs.Dictionary.{Dictionary}
-use Rattle.fast_dictionary.specs.declared.entries.Entries.{Ghosts}
-use Rattle.fast_stream.specs.declared.fault.Cause.TheVariants.{Truncated, Memory}
-use Rattle.fast_stream.specs.declared.fault.Fault.{Fault}
-use Rattle.fast_stream.specs.declared.mode.Framing.{Framing}
-use Rattle.fast_stream.specs.Nodes.{Content}
-use Rattle.fast_walk.specs.declared.halt.Halt.{Halt}
 use Rattle.fast_walk.specs.declared.receiver.Receiver.{Ghosts as Receiving}
-use Rattle.fast_walk.specs.declared.traversal.Stage.TheVariants as stage
-use Rattle.fast_walk.specs.declared.traversal.Traversal.{Traversal}
-use Rattle.fast_walk.specs.Told.{KeepScalars}
-use Rattle.fast_walk.proofs.Telling.{empty_kept}
-use Rattle.fast_walk.specs.Traversals.{stop_of}
-use Rattle.fast_machine.specs.declared.machine.Machine.{Machine}
-use Rattle.fast_machine.specs.Runs.{Having, ReadsOn, Standing}
-use Rattle.fast_machine.specs.Standing.{Carried, HasAll, Stands, StopsBehind, framed_as}
-use Rattle.fast_machine.specs.Following.{Counts, Follows, Refused, Waits, mode_of}
-use Rattle.fast_machine.specs.Calls.{AnswersNone, FollowsAll, FollowsBehind, IsFault, IsFaultOf, IsSameStream, KeepsFault, ReadsNext, StandsAt}
 use Rattle.fast_machine.proofs.Runs.{carried_of}
 use Rattle.fast_machine.proofs.Standings.{stands_first}
 use Rattle.fast_machine.proofs.Followings.{few_messages, left_behind, memory_refused, stands_fed}
-use Rattle.fast_walk.proofs.ShortWalks.{want_of_bytes}
 
 -- ---- a chunk more
 
@@ -79,7 +59,7 @@ follows_without_memory {old = old} {fault = fault} is k before unread fed messag
 -- ---- nothing is fed
 
 -- a new stream is followed
-pub follows_first : {R E : Type 0} {receiver : Receiving R} {entries : Ghosts E} {m : Machine R E receiver entries} → m.fault ≡ None → m.held.items ≡ [] → m.left ≡ 0 → m.fed ≡ 0 → m.messages ≡ 0 → m.traversal.stage ≡ stage.Map → entries.contents m.entries ≡ finite.empty
+pub follows_first : {R E : Type 0} {receiver : Receiving R} {entries : Ghosts E} {m : Machine R E receiver entries} → m.fault ≡ None → m.held.items ≡ [] → m.left ≡ 0 → m.fed ≡ 0 → m.messages ≡ 0 → m.traversal.stage ≡ Stage.Map → entries.contents m.entries ≡ finite.empty
     → (before : List Content) → receiver.stands m.receiver (templates_in m.traversal.set.now) before finite.empty → Follows m before [] []
 follows_first {receiver = receiver} {entries = entries} {m = m} none held left fed messages at cleared before stands = record {
   at = rw (none, held, left) (stands_first receiver.has receiver.stands receiver.keeps m.framing m.traversal m.receiver (entries.contents m.entries) before at (rw cleared stands) cleared, inl (at, refl, refl));

@@ -1,12 +1,5 @@
 -- A piece has at least so many bytes: what is lacking behind those that have come, and behind some more that do not end it.
-use Rattle.std.proofs.Common.{◌≡◌, ◌≤◌, ◌<◌, ◌+◌, ◌-◌, ◌++◌, ℕ, zero, suc, Bool, true, List, [], length, refl, sym, subst, arith, length-append, append_assoc}
-use Rattle.fast_dictionary.specs.Dictionary.{Dictionary}
-use Rattle.fast_walk.specs.Lacks.{AreUnstopped, Lacks, StopsShort}
-use Rattle.fast_walk.specs.Walks.{reads_on}
-use Rattle.fast_walk.specs.declared.lack.Lack.{Lack}
-use Rattle.fast_walk.specs.declared.traversal.Traversal.{Traversal}
-use Rattle.fast_walk.proofs.Lacking.{both_unstopped}
-use Rattle.fast_machine.specs.Ends.{IsLong}
+use Rattle.fast_machine.proofs.Common.{◌≡◌, ◌≤◌, ◌<◌, ◌+◌, ◌-◌, ◌++◌, ℕ, zero, suc, Bool, true, List, [], length, refl, sym, subst, arith, length-append, append_assoc, Dictionary, AreUnstopped, Lacks, StopsShort, reads_on, Lack, Traversal, both_unstopped, IsLong}
 
 -- what is lacking is kept as an end
 pub long_of : (end : ℕ) (t : Traversal) (d : Dictionary) (held : List ℕ) (l : Lack) → Lacks t d held l → end ≡ length held + l.most + 1 → IsLong end t d held l.until_stop l.number

@@ -1,42 +1,5 @@
 -- How a decoder follows a stream.
-use Rattle.std.proofs.Common.{zero, suc, Err, Option, None, Some, ◌≡◌, ◌≢◌, ◌≤◌, ◌<◌, ℕ, ◌+◌, ◌-◌, ◌^◌, length, take, length-append, arith, List, [], ◌∷◌, ◌++◌, refl, sym, ap, subst, ◌∙◌, append_assoc, append-nil, ◌⊎◌, inl, inr}
-use Rattle.std.specs.List.{AllByRecursion}
-use Rattle.fast_template.specs.Resolved.{Resolved}
-use Rattle.fast_template.specs.TemplateSets.{HaveTypedParts, templates_in}
-use Rattle.fast_dictionary.specs.Dictionary.{Dictionary}
-use Rattle.fast_wire.specs.Reader.{IsBytes}
-use Rattle.fast_stream.specs.declared.mode.Mode.{Mode}
-use Rattle.fast_walk.specs.declared.traversal.Stage.TheVariants as stage
-use Rattle.fast_walk.specs.declared.traversal.Traversal.{Traversal}
-use Rattle.fast_stream.specs.Nodes.{Content}
-use Rattle.fast_stream.specs.declared.mode.Framing.{Framing}
-use Rattle.fast_stream.specs.declared.mode.Framing.TheVariants.{Plain, Blocks}
-use Rattle.fast_stream.specs.Blocks.{SizeFault, Stand, outside, at_start, size_at}
-use Rattle.fast_stream.specs.Modes.{Carries, CarriesFrom, FirstFault}
-use Rattle.fast_stream.specs.Faults.{MessageStop, cause_of_wire, place_of}
-use Rattle.fast_stream.proofs.BlockSizes.{size_refused}
-use Rattle.fast_wire.specs.declared.level.Level.{Level}
-use Rattle.fast_wire.specs.declared.level.Level.TheVariants.{Usual, Strict}
-use Rattle.fast_wire.specs.declared.fault.WireFault.{WireFault}
-use Rattle.fast_wire.specs.declared.fault.WireFault.TheVariants as wire
-use Rattle.fast_wire.specs.Reading.{EntityFault}
-use Rattle.fast_stream.specs.declared.fault.Cause.{Cause}
-use Rattle.fast_stream.specs.declared.fault.Cause.TheVariants.{Truncated, Memory}
-use Rattle.fast_stream.specs.declared.fault.Fault.{Fault}
-use Rattle.fast_stream.specs.declared.place.Place.{Place}
-use Rattle.fast_walk.specs.OpenSegments.{Reading}
-use Rattle.fast_walk.specs.Received.{Received, behind}
-use Rattle.fast_machine.specs.Runs.{Forgets, ReadsOn, Having, Standing, Unfinished}
-use Rattle.fast_machine.specs.Calls.{IsFault}
-use Rattle.fast_machine.specs.Standing.{Carried, GoesIn, HasAll, Stands, StopsBehind, framed_as}
-use Rattle.std.specs.Prelude.{Bool}
-use Rattle.fast_value.specs.declared.key.Key.{Key}
-use Rattle.fast_walk.specs.Traversals.{CanGoOn, ContinuesAt}
-use Rattle.fast_walk.specs.declared.traversal.Stage.{Stage}
-use Rattle.fast_machine.specs.Following.{Counts, FollowsAt, IsCutAt, IsHeld, Refused, Waits}
-use Rattle.fast_stream.proofs.MessageReaders.{message_reader}
-use Rattle.fast_stream.proofs.ModeReaders.{next_reader, next_some}
-use Rattle.fast_stream.proofs.BlockReaders.{fits_append, fits_take}
+use Rattle.fast_machine.proofs.Common.{zero, suc, Err, Option, None, Some, ◌≡◌, ◌≢◌, ◌≤◌, ◌<◌, ℕ, ◌+◌, ◌-◌, ◌^◌, length, take, length-append, arith, List, [], ◌∷◌, ◌++◌, refl, sym, ap, subst, ◌∙◌, append_assoc, append-nil, ◌⊎◌, inl, inr, AllByRecursion, Resolved, HaveTypedParts, templates_in, Dictionary, IsBytes, Mode, Traversal, Content, Framing, Plain, Blocks, SizeFault, Stand, outside, at_start, size_at, Carries, CarriesFrom, FirstFault, MessageStop, cause_of_wire, place_of, size_refused, Level, Usual, Strict, WireFault, EntityFault, Cause, Truncated, Memory, Fault, Place, Reading, Received, behind, Forgets, ReadsOn, Having, Standing, Unfinished, IsFault, Carried, GoesIn, HasAll, Stands, StopsBehind, framed_as, Bool, Key, CanGoOn, ContinuesAt, Stage, Counts, FollowsAt, IsCutAt, IsHeld, Refused, Waits, message_reader, next_reader, next_some, fits_append, fits_take}
 use Rattle.fast_machine.proofs.Runs.{all_unread, carried_of, ends_with}
 use Rattle.fast_machine.proofs.Standings.{outside_of, size_stops, size_waits, window_append}
 
@@ -133,12 +96,12 @@ fault_refused f mode set stop bytes messages fed count typed counts short carrie
 
 -- ---- outside of any block nothing is left
 
-ends_between : (framing : Framing) (left : ℕ) (G : Dictionary → (List ℕ → Reading) → Type 0) (t : Traversal) (s : Stand) (rest : List ℕ) → t.stage ≡ stage.Map → left ≡ 0 → GoesIn framing left G t [] s rest → (s.left ≡ 0) × (rest ≡ [])
+ends_between : (framing : Framing) (left : ℕ) (G : Dictionary → (List ℕ → Reading) → Type 0) (t : Traversal) (s : Stand) (rest : List ℕ) → t.stage ≡ Stage.Map → left ≡ 0 → GoesIn framing left G t [] s rest → (s.left ≡ 0) × (rest ≡ [])
 ends_between Plain left G t s rest at none h = (h.1, all_unread h.0 at)
 ends_between Blocks left G t s rest at none h = let b = outside_of none h in (b.outside, b.same)
 
 -- what stands between two messages, and two blocks, carries them
-pub carries_all : (framing : Framing) (left : ℕ) (G : Dictionary → (List ℕ → Reading) → Type 0) (t : Traversal) (bytes : List ℕ) (messages : List Content) → t.stage ≡ stage.Map → left ≡ 0 → Stands framing left G t [] bytes messages
+pub carries_all : (framing : Framing) (left : ℕ) (G : Dictionary → (List ℕ → Reading) → Type 0) (t : Traversal) (bytes : List ℕ) (messages : List Content) → t.stage ≡ Stage.Map → left ≡ 0 → Stands framing left G t [] bytes messages
     → Carries (framed_as framing t) (templates_in t.set.now) bytes messages
 carries_all framing left G t bytes messages at none s =
     let e = ends_between framing left G t s.start s.rest at none s.ends in
@@ -149,7 +112,7 @@ carries_all framing left G t bytes messages at none s =
 -- the bytes end inside a message or a block
 pub ends_inside : (framing : Framing) (left : ℕ) (G : Dictionary → (List ℕ → Reading) → Type 0) (f : Fault) (t : Traversal) (held : List ℕ) (waiting : ℕ) (bytes : List ℕ) (messages : List Content) (fed count : ℕ)
     → AllByRecursion (λ t. HaveTypedParts t.members) (templates_in t.set.now) → Counts fed count bytes messages → fed ≤ 2 ^ 60 → Stands framing left G t held bytes messages × Waits framing left t held waiting bytes messages
-    → ((t.stage ≡ stage.Map) × (held ≡ []) × (left ≡ 0) → ⊥)
+    → ((t.stage ≡ Stage.Map) × (held ≡ []) × (left ≡ 0) → ⊥)
     → IsFault f Truncated count (fed - length held) t.template waiting → Refused f (framed_as framing t) (templates_in t.set.now) bytes messages
 ends_inside framing left G f t held waiting bytes messages fed count typed counts short (stands, inl at) inside is = absurd (inside at)
 ends_inside framing left G f t held waiting bytes messages fed count typed counts short (stands, inr stops) inside is =
@@ -157,7 +120,7 @@ ends_inside framing left G f t held waiting bytes messages fed count typed count
     (omega (arith, short)) (carried_of stands) stops (λ e. absurd cc) is
 
 -- where a size stops, no template is known
-pub size_template : {G : Dictionary → (List ℕ → Reading) → Type 0} {t : Traversal} {left : ℕ} {unread bytes : List ℕ} {messages : List Content} (c : Cause) → left ≡ 0 → (serves : Key → Bool) → CanGoOn serves t → (t.stage ≡ stage.Map → 0 < length unread)
+pub size_template : {G : Dictionary → (List ℕ → Reading) → Type 0} {t : Traversal} {left : ℕ} {unread bytes : List ℕ} {messages : List Content} (c : Cause) → left ≡ 0 → (serves : Key → Bool) → CanGoOn serves t → (t.stage ≡ Stage.Map → 0 < length unread)
     → size_at t.level unread ≡ Err c → Stands Blocks left G t unread bytes messages
     → StopsBehind (framed_as Blocks t) (templates_in t.set.now) bytes messages (record { template = t.template; stop = record { cause = c; instruction = 0; left = length unread } })
 size_template {t = t} c none serves ready some stops h =
@@ -169,8 +132,8 @@ no_memory : (level : Level) (bytes : List ℕ) → SizeFault level bytes Memory 
 no_memory level bytes (inl e) = of_wire e.0 e.1 e.2
   where
     of_wire : (f : WireFault) → EntityFault 10 bytes 0 f → Memory ≡ cause_of_wire f → ⊥
-    of_wire wire.NeedMore e m = absurd cc
-    of_wire wire.TooLong e m = absurd cc
+    of_wire WireFault.NeedMore e m = absurd cc
+    of_wire WireFault.TooLong e m = absurd cc
     of_wire f e m = absurd e
 no_memory Usual bytes (inr (inl o)) = absurd o
 no_memory Strict bytes (inr (inl o)) = let is = o.0 in absurd cc
@@ -182,7 +145,7 @@ size_other {t = t} {unread = unread} c none stops h m =
     no_memory t.level unread (size_refused t.level unread Memory (rw (b.same) at b.fits) (rw (m) at stops))
 
 -- where nothing is held, a message has not begun
-pub waits_behind : (framing : Framing) (left : ℕ) (G : Dictionary → (List ℕ → Reading) → Type 0) (t : Traversal) (bytes : List ℕ) (messages : List Content) → t.stage ≡ stage.Map → t.template ≡ 0 → Stands framing left G t [] bytes messages → Waits framing left t [] 0 bytes messages
+pub waits_behind : (framing : Framing) (left : ℕ) (G : Dictionary → (List ℕ → Reading) → Type 0) (t : Traversal) (bytes : List ℕ) (messages : List Content) → t.stage ≡ Stage.Map → t.template ≡ 0 → Stands framing left G t [] bytes messages → Waits framing left t [] 0 bytes messages
 waits_behind Plain left G t bytes messages at none h = inl (at, refl, h.ends.2)
 waits_behind Blocks zero G t bytes messages at none h = inl (at, refl, refl)
 waits_behind Blocks (suc left) G t bytes messages at none h = inr (rw (none) (size_waits (suc left) at (omega arith) h))
@@ -230,9 +193,9 @@ goes_of Blocks left G t unread s rest (inr i) = (i.next.read, i.next.goes)
 
 module _ {R : Type 0} (has : Having R) (stands keeps : Standing R) (t : Traversal) (r : R) (d : Dictionary) (before : List Content) where
   kept_at : (set : List Resolved) (start : Dictionary) (read : List ℕ → Reading) (at : Stage) → ContinuesAt has stands keeps at t r set d before start read → keeps r set before start ⊎ stands r set before start
-  kept_at set start read stage.Map c = inr (rw (c.start_is) c.stands)
-  kept_at set start read stage.Identifier c = inr (rw (c.start_is) c.stands)
-  kept_at set start read stage.Body c = inl c.keeps
+  kept_at set start read Stage.Map c = inr (rw (c.start_is) c.stands)
+  kept_at set start read Stage.Identifier c = inr (rw (c.start_is) c.stands)
+  kept_at set start read Stage.Body c = inl c.keeps
 
   -- where the receiver forgets what is open
   pub forgets : {s : R} → Forgets stands keeps r s → (start : Dictionary) (read : List ℕ → Reading) → ReadsOn has stands keeps t r d before start read → stands s (templates_in t.set.now) before start
@@ -253,9 +216,9 @@ module _ {R : Type 0} (has : Having R) (stands keeps : Standing R) (t : Traversa
       (between : (x : List Resolved) (e : Dictionary) → stands r x before e → stands s x after e)
       (kept : (x : List Resolved) (e : Dictionary) → keeps r x before e → keeps s x after e) where
     continues_behind : (set : List Resolved) (start : Dictionary) (read : List ℕ → Reading) (at : Stage) → ContinuesAt has stands keeps at t r set d before start read → ContinuesAt has stands keeps at t s set d after start read
-    continues_behind set start read stage.Map c = record { stands = between set d c.stands; start_is = c.start_is; reads = c.reads }
-    continues_behind set start read stage.Identifier c = record { stands = between set d c.stands; start_is = c.start_is; reads = c.reads }
-    continues_behind set start read stage.Body c = record {
+    continues_behind set start read Stage.Map c = record { stands = between set d c.stands; start_is = c.start_is; reads = c.reads }
+    continues_behind set start read Stage.Identifier c = record { stands = between set d c.stands; start_is = c.start_is; reads = c.reads }
+    continues_behind set start read Stage.Body c = record {
       received = behind c.received after;
       at = record { next = c.at.next; rest = c.at.rest; around = c.at.around };
       has = opened c.received c.before_is c.has;

@@ -1,24 +1,5 @@
 -- Where the piece that is next still lacks bytes, the stream stops at it.
-use Rattle.std.proofs.Common.{◌≡◌, ◌<◌, ℕ, List, [], ◌-◌, length, take, refl, sym, ◌∙◌, append-nil, arith}
-use Rattle.std.specs.Prelude.{false, nat_le}
-use Rattle.std.proofs.lemmas.List.{take_all}
-use Rattle.fast_template.specs.TemplateSets.{templates_in}
-use Rattle.fast_dictionary.specs.Dictionary.{Dictionary}
-use Rattle.fast_stream.specs.declared.fault.Cause.TheVariants.{Truncated}
-use Rattle.fast_stream.specs.declared.mode.Framing.{Framing}
-use Rattle.fast_stream.specs.declared.mode.Framing.TheVariants.{Plain, Blocks}
-use Rattle.fast_stream.specs.Nodes.{Content}
-use Rattle.fast_walk.specs.OpenSegments.{Reading}
-use Rattle.fast_walk.specs.Lacks.{Lacks}
-use Rattle.fast_walk.specs.Traversals.{stop_of}
-use Rattle.fast_walk.specs.declared.halt.HaltedBy.TheVariants as halted
-use Rattle.fast_walk.specs.declared.halt.Halt.{Halt}
-use Rattle.fast_walk.specs.declared.lack.Lack.{Lack}
-use Rattle.fast_walk.specs.declared.traversal.Stage.TheVariants as stage
-use Rattle.fast_walk.specs.declared.traversal.Traversal.{Traversal}
-use Rattle.fast_walk.proofs.Lacking.{lacking_stops}
-use Rattle.fast_machine.specs.Runs.{Having, ReadsOn, RunStops, Standing, Unfinished}
-use Rattle.fast_machine.specs.Standing.{Stands, StopsBehind, framed_as}
+use Rattle.fast_machine.proofs.Common.{◌≡◌, ◌<◌, ℕ, List, [], ◌-◌, length, take, refl, sym, ◌∙◌, append-nil, arith, false, nat_le, take_all, templates_in, Dictionary, Truncated, Framing, Plain, Blocks, Content, Reading, Lacks, stop_of, HaltedBy, Halt, Lack, Stage, Traversal, lacking_stops, Having, ReadsOn, RunStops, Standing, Unfinished, Stands, StopsBehind, framed_as}
 use Rattle.fast_machine.proofs.BlockReads.{block_stops, open_stands}
 use Rattle.fast_machine.proofs.Runs.{now_reads}
 use Rattle.fast_machine.proofs.PlainReads.{plain_stops}
@@ -28,7 +9,7 @@ module _ {R : Type 0} (has : Having R) (stands keeps : Standing R) (t : Traversa
   Goes = ReadsOn has stands keeps t r d before
 
   abbrev halt : Halt
-  halt = record { cause = Truncated; number = l.number; by = halted.Walk }
+  halt = record { cause = Truncated; number = l.number; by = HaltedBy.Walk }
 
   message_stops : (unread : List ℕ) (start : Dictionary) (rest : List ℕ) → Lacks t d unread l → Unfinished Goes t unread start rest → RunStops t.level (templates_in t.set.now) start rest [] (stop_of t.template halt unread)
   message_stops unread start rest lacks u = record {
@@ -38,7 +19,7 @@ module _ {R : Type 0} (has : Having R) (stands keeps : Standing R) (t : Traversa
     parts = refl;
     carried = (refl, refl);
     ends = (
-      u.some (λ map. let same : stage.Body ≡ stage.Map = sym lacks.0 ∙ map in absurd cc),
+      u.some (λ map. let same : Stage.Body ≡ Stage.Map = sym lacks.0 ∙ map in absurd cc),
       u.fits,
       now_reads u ∙ lacking_stops has stands keeps t r (templates_in t.set.now) d start before u.read unread l u.goes lacks,
     );

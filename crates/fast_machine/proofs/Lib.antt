@@ -1,3 +1,4 @@
+mod Common
 pub mod Runs
 pub mod Standings
 pub mod Followings

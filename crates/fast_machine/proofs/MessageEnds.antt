@@ -1,36 +1,11 @@
 -- Where a message has ended: the bytes behind it are left out, and they are bytes of the last chunk.
-use Rattle.std.proofs.Common.{◌≡◌, ◌≤◌, ◌<◌, ◌+◌, ℕ, ◌-◌, length, take, drop, length-append, length-drop, take-append-drop, arith, List, [], ◌∷◌, ◌++◌, Result, Ok, Err, refl, sym, ap, subst, ◌∙◌, append_assoc, append-nil, inl, inr}
-use Rattle.std.proofs.lemmas.Bool.{cases_lt}
-use Rattle.std.proofs.lemmas.List.{append_cancel_right, drop-drop, drop-take, drop_at, take-append-le, take-take, take_all, take_at}
-use Rattle.std.specs.List.{AllByRecursion}
-use Rattle.fast_wire.proofs.Readers.{ok_is}
-use Rattle.fast_template.specs.Resolved.{Resolved}
-use Rattle.fast_template.specs.TemplateSets.{HaveTypedParts, TemplateList, templates_in}
-use Rattle.fast_dictionary.specs.Dictionary.{Dictionary}
-use Rattle.fast_stream.specs.declared.mode.Framing.{Framing}
-use Rattle.fast_stream.specs.declared.mode.Framing.TheVariants.{Plain, Blocks}
-use Rattle.fast_stream.specs.declared.mode.Mode.{Mode}
-use Rattle.fast_stream.specs.Blocks.{Stand, at_start, Opens}
-use Rattle.fast_stream.specs.Modes.{CarriesFrom, next_at}
-use Rattle.fast_stream.specs.Nodes.{Content}
-use Rattle.fast_stream.specs.Faults.{MessageStop}
-use Rattle.fast_stream.specs.Readers.{IsNextReader}
-use Rattle.fast_walk.specs.declared.traversal.Stage.TheVariants as stage
-use Rattle.fast_walk.specs.declared.traversal.Traversal.{Traversal}
-use Rattle.fast_walk.specs.OpenSegments.{Reading}
-use Rattle.fast_walk.specs.Traversals.{begun_at, begun_of}
-use Rattle.fast_machine.specs.Runs.{Having, ReadsOn, Standing, Unfinished}
-use Rattle.fast_machine.specs.Following.{Waits}
-use Rattle.fast_machine.specs.Standing.{GoesIn, Stands, framed_as}
-use Rattle.fast_stream.proofs.MessageReaders.{message_reader}
-use Rattle.fast_stream.proofs.BlockReaders.{fits_take}
-use Rattle.fast_stream.proofs.ModeReaders.{next_reader}
+use Rattle.fast_machine.proofs.Common.{◌≡◌, ◌≤◌, ◌<◌, ◌+◌, ℕ, ◌-◌, length, take, drop, length-append, length-drop, take-append-drop, arith, List, [], ◌∷◌, ◌++◌, Result, Ok, Err, refl, sym, ap, subst, ◌∙◌, append_assoc, append-nil, inl, inr, cases_lt, append_cancel_right, drop-drop, drop-take, drop_at, take-append-le, take-take, take_all, take_at, AllByRecursion, ok_is, Resolved, HaveTypedParts, TemplateList, templates_in, Dictionary, Framing, Plain, Blocks, Mode, Stand, at_start, Opens, CarriesFrom, next_at, Content, MessageStop, IsNextReader, Stage, Traversal, Reading, begun_at, begun_of, Having, ReadsOn, Standing, Unfinished, Waits, GoesIn, Stands, framed_as, message_reader, fits_take, next_reader}
 use Rattle.fast_machine.proofs.Followings.{held_within}
 use Rattle.fast_machine.proofs.Runs.{all_unread, unfinished_between}
 
 -- ---- the bytes behind a message are left out
 
-module _ {R : Type 0} (has : Having R) (stands keeps : Standing R) (t : Traversal) (r : R) (d : Dictionary) (before : List Content) (at : t.stage ≡ stage.Map) where
+module _ {R : Type 0} (has : Having R) (stands keeps : Standing R) (t : Traversal) (r : R) (d : Dictionary) (before : List Content) (at : t.stage ≡ Stage.Map) where
   abbrev G : Dictionary → (List ℕ → Reading) → Type 0
   G = ReadsOn has stands keeps t r d before
 

@@ -1,25 +1,6 @@
 -- What a read of messages leaves in plain framing.
-use Rattle.std.proofs.Common.{min, ◌≡◌, ℕ, ◌+◌, drop, List, [], ◌++◌, Option, Some, None, ap, refl, sym, subst, inl}
-use Rattle.fast_template.specs.Resolved.{Resolved}
-use Rattle.fast_template.specs.TemplateSets.{templates_in}
-use Rattle.fast_dictionary.specs.Dictionary.{Dictionary}
-use Rattle.fast_dictionary.specs.declared.entries.Entries.{Ghosts}
-use Rattle.fast_walk.specs.declared.halt.Halt.{Halt}
+use Rattle.fast_machine.proofs.Common.{min, ◌≡◌, ℕ, ◌+◌, drop, List, [], ◌++◌, Option, Some, None, ap, refl, sym, subst, inl, Resolved, templates_in, Dictionary, Ghosts, Halt, Traversal, Reading, Plain, Content, MessageStop, Stand, outside, CarriesFrom, bare, in_mode_from, stop_of, Machine, Progress, LeavesMessage, ReadsRun, Run, RunStops, Behind, Stands, StopsBehind, framed_as}
 use Rattle.fast_walk.specs.declared.receiver.Receiver.{Ghosts as Receiving}
-use Rattle.fast_walk.specs.declared.traversal.Traversal.{Traversal}
-use Rattle.fast_walk.specs.OpenSegments.{Reading}
-use Rattle.fast_stream.specs.declared.mode.Framing.TheVariants.{Plain}
-use Rattle.fast_stream.specs.Nodes.{Content}
-use Rattle.fast_stream.specs.Faults.{MessageStop}
-use Rattle.fast_stream.specs.Blocks.{Stand, outside}
-use Rattle.fast_stream.specs.Modes.{CarriesFrom, bare}
-use Rattle.fast_stream.proofs.Framings.{in_mode_from}
-use Rattle.fast_walk.specs.Traversals.{stop_of}
-use Rattle.fast_machine.specs.declared.machine.Machine.{Machine}
-use Rattle.fast_machine.specs.declared.messages.Progress.{Progress}
-use Rattle.fast_machine.specs.Calls.{LeavesMessage}
-use Rattle.fast_machine.specs.Runs.{ReadsRun, Run, RunStops}
-use Rattle.fast_machine.specs.Standing.{Behind, Stands, StopsBehind, framed_as}
 use Rattle.fast_machine.proofs.Standings.{go_on, run_from}
 use Rattle.fast_machine.proofs.Calls.{Finds, found_of}
 use Rattle.fast_machine.proofs.Runs.{carried_of}

@@ -1,31 +1,7 @@
 -- How the reading of messages one behind the other stands after a piece and after a message.
-use Rattle.std.proofs.Common.{◌≡◌, ◌≢◌, ◌<◌, ℕ, length, drop, take, take-append-drop, arith, List, [], ◌∷◌, ◌++◌, None, Some, Ok, refl, sym, ap, ◌∙◌, append_assoc, append-nil, ◌⊎◌, inl, inr}
-use Rattle.fast_wire.specs.Reader.{IsBytes}
-use Rattle.fast_wire.specs.declared.level.Level.{Level}
-use Rattle.fast_template.specs.Resolved.{Resolved}
-use Rattle.fast_template.specs.TemplateSets.{IsSound, templates_in}
-use Rattle.fast_dictionary.specs.Dictionary.{Dictionary}
-use Rattle.fast_walk.specs.declared.traversal.Stage.{Stage}
-use Rattle.fast_walk.specs.declared.traversal.Stage.TheVariants as stage
-use Rattle.fast_walk.specs.declared.traversal.Traversal.{Traversal}
-use Rattle.fast_stream.specs.Nodes.{Content}
+use Rattle.fast_machine.proofs.Common.{◌≡◌, ◌≢◌, ◌<◌, ℕ, length, drop, take, take-append-drop, arith, List, [], ◌∷◌, ◌++◌, None, Some, Ok, refl, sym, ap, ◌∙◌, append_assoc, append-nil, ◌⊎◌, inl, inr, IsBytes, Level, Resolved, IsSound, templates_in, Dictionary, Stage, Traversal, Content, message_at, Reading, Ghosts, Truncated, IsSameSet, MessageRead, MessageStops, begun_at, begun_of, Halt, with_none, Forgets, Front, ReadsOn, ReadsRun, Having, Standing, Unfinished, message_found, from_mode_from, in_mode_from, carries_on, carries_one, outside, plainly, cases_lt}
 use Rattle.fast_stream.specs.Streams.{CarriesFrom, MessageForm}
-use Rattle.fast_stream.specs.Reading.{message_at}
-use Rattle.fast_walk.specs.OpenSegments.{Reading}
-use Rattle.fast_dictionary.specs.declared.entries.Entries.{Ghosts}
-use Rattle.fast_stream.specs.declared.fault.Cause.TheVariants.{Truncated}
-use Rattle.fast_walk.specs.Messages.{IsSameSet, MessageRead, MessageStops}
-use Rattle.fast_walk.specs.Traversals.{begun_at, begun_of}
-use Rattle.fast_walk.specs.declared.halt.Halt.{Halt}
 use Rattle.fast_walk.specs.declared.receiver.Receiver.{Ghosts as Receiving}
-use Rattle.fast_walk.proofs.Steps.{with_none}
-use Rattle.fast_machine.specs.Runs.{Forgets, Front, ReadsOn, ReadsRun, Having, Standing, Unfinished}
-use Rattle.fast_stream.proofs.MessageReaders.{message_found}
-use Rattle.fast_stream.proofs.Framings.{from_mode_from, in_mode_from}
-use Rattle.fast_stream.proofs.Runs.{carries_on, carries_one}
-use Rattle.fast_stream.specs.Blocks.{outside}
-use Rattle.fast_stream.specs.Modes.{plainly}
-use Rattle.std.proofs.lemmas.Bool.{cases_lt}
 
 -- what is so of the rest, and how the messages stand, is said in other words
 pub front_with : {S : Type 0} {A B : S → List ℕ → List Content → S → Type 0} {origin : S} {bytes : List ℕ} {messages : List Content} {Ends Later : S → List ℕ → Type 0}
@@ -54,17 +30,17 @@ module _ {G : Dictionary → (List ℕ → Reading) → Type 0} {t : Traversal} 
   now_reads = with_none (message_at t.level (templates_in t.set.now) start) u.read rest unread u.reads
 
   -- between two messages nothing is taken
-  pub all_unread : t.stage ≡ stage.Map → rest ≡ unread
+  pub all_unread : t.stage ≡ Stage.Map → rest ≡ unread
   all_unread at = u.whole ∙ ap (λ (xs : List ℕ). xs ++ unread) (u.between at)
 
-  some_rest : (t.stage ≡ stage.Map → 0 < length unread) → 0 < length rest
+  some_rest : (t.stage ≡ Stage.Map → 0 < length unread) → 0 < length rest
   some_rest some = elim (cases_lt 0 (length rest)) [
     | inl more ↦ more
     | inr none ↦ u.some (λ at. let same = ap (λ (xs : List ℕ). length xs) (all_unread at) in let more = some at in absurd (omega (arith, none, same, more)))
   ]
 
 -- between two messages
-pub unfinished_between : {R : Type 0} (has : Having R) (stands keeps : Standing R) (t : Traversal) (r : R) (d : Dictionary) (before : List Content) (unread : List ℕ) (start : Dictionary) (rest : List ℕ) → t.stage ≡ stage.Map
+pub unfinished_between : {R : Type 0} (has : Having R) (stands keeps : Standing R) (t : Traversal) (r : R) (d : Dictionary) (before : List Content) (unread : List ℕ) (start : Dictionary) (rest : List ℕ) → t.stage ≡ Stage.Map
     → stands r (templates_in t.set.now) before d → start ≡ d → rest ≡ unread → IsBytes rest → Unfinished (ReadsOn has stands keeps t r d before) t unread start rest
 unfinished_between has stands keeps t r d before unread start rest at h is same fits = record {
   read = message_at t.level (templates_in t.set.now) d;
@@ -77,7 +53,7 @@ unfinished_between has stands keeps t r d before unread start rest at h is same 
   some = λ other. absurd (other at);
 }
 
-pub none_begun : (s : Stage) → s ≡ stage.Map → begun_at s ≡ 1 → ⊥
+pub none_begun : (s : Stage) → s ≡ Stage.Map → begun_at s ≡ 1 → ⊥
 none_begun s e h = let zero = ap begun_at e in absurd (omega (arith, zero, h))
 
 -- ---- a message
@@ -112,7 +88,7 @@ module _ {R E : Type 0} {receiver : Receiving R} {entries : Ghosts E} {t u : Tra
       → (h.cause ≡ Truncated → s ≡ q) → (h.cause ≢ Truncated → Forgets receiver.stands receiver.keeps q s)
       → ReadsRun receiver.has receiver.stands receiver.keeps t r (entries.contents d) bytes 0 (Some h) u s (entries.contents e) (drop n bytes)
   message_halted some same read waits left = λ before origin run messages b.
-      let begins : t.stage ≡ stage.Map → 0 < length bytes = λ at. elim some [ inl k ↦ k | inr k ↦ absurd (none_begun t.stage at k) ] in
+      let begins : t.stage ≡ Stage.Map → 0 < length bytes = λ at. elim some [ inl k ↦ k | inr k ↦ absurd (none_begun t.stage at k) ] in
       let carried : (xs : List ℕ) (s : Dictionary) → CarriesFrom t.level (templates_in t.set.now) origin xs messages s → CarriesFrom u.level (templates_in u.set.now) origin xs messages s = λ xs s h. rw (same.set, same.level) h in (
         [],
         refl,

@@ -1,32 +1,10 @@
 -- How a machine stands in its stream behind more messages, in each framing.
-use Rattle.std.proofs.Common.{◌≡◌, ◌≤◌, ◌<◌, ℕ, zero, suc, ◌+◌, ◌-◌, length, take, drop, length-take, arith, List, [], ◌∷◌, ◌++◌, Ok, Err, refl, sym, ap, subst, ◌∙◌, append_assoc, append-nil, ◌⊎◌, inl, inr, rules, take-append-drop}
-use Rattle.fast_wire.specs.Reader.{IsBytes}
-use Rattle.std.proofs.lemmas.List.{drop-append-le, drop-take, take_all}
-use Rattle.fast_wire.specs.declared.level.Level.{Level}
-use Rattle.fast_wire.specs.declared.level.Level.TheVariants.{Usual, Strict}
-use Rattle.fast_template.specs.TemplateSets.{templates_in}
-use Rattle.fast_dictionary.specs.Dictionary.{Dictionary}
-use Rattle.fast_walk.specs.declared.traversal.Stage.TheVariants as stage
-use Rattle.fast_walk.specs.declared.traversal.Traversal.{Traversal}
-use Rattle.fast_walk.specs.OpenSegments.{Reading}
-use Rattle.fast_stream.specs.declared.fault.Cause.{Cause}
-use Rattle.fast_stream.specs.declared.fault.Cause.TheVariants.{Truncated}
-use Rattle.fast_stream.specs.declared.mode.Framing.{Framing}
-use Rattle.fast_stream.specs.declared.mode.Framing.TheVariants.{Plain, Blocks}
-use Rattle.fast_stream.specs.Nodes.{Content}
-use Rattle.fast_stream.specs.Blocks.{Stand, at_start, IsSize, Opens, size_at, in_block_at}
-use Rattle.fast_stream.specs.Modes.{GoesOn}
-use Rattle.fast_stream.proofs.Runs.{carries_on}
-use Rattle.fast_stream.proofs.BlockReaders.{fits_take}
-use Rattle.fast_stream.proofs.BlockSizes.{size_found, size_stop}
-use Rattle.fast_stream.proofs.BlockSteps.{stops_in_size, size_alone}
-use Rattle.fast_machine.specs.Runs.{Having, ReadsOn, RunStands, Standing, Unfinished}
+use Rattle.fast_machine.proofs.Common.{◌≡◌, ◌≤◌, ◌<◌, ℕ, zero, suc, ◌+◌, ◌-◌, length, take, drop, length-take, arith, List, [], ◌∷◌, ◌++◌, Ok, Err, refl, sym, ap, subst, ◌∙◌, append_assoc, append-nil, ◌⊎◌, inl, inr, rules, take-append-drop, IsBytes, drop-append-le, drop-take, take_all, Level, Usual, Strict, templates_in, Dictionary, Stage, Traversal, Reading, Cause, Truncated, Framing, Plain, Blocks, Content, Stand, at_start, IsSize, Opens, size_at, in_block_at, GoesOn, carries_on, fits_take, size_found, size_stop, stops_in_size, size_alone, Having, ReadsOn, RunStands, Standing, Unfinished, Behind, BetweenBlocks, GoesIn, Onward, Stands, StopsBehind, framed_as}
 use Rattle.fast_machine.proofs.Runs.{ends_with, unfinished_between}
 use Rattle.std.specs.FinMap as finite
-use Rattle.fast_machine.specs.Standing.{Behind, BetweenBlocks, GoesIn, Onward, Stands, StopsBehind, framed_as}
 
 -- at the beginning of a stream
-pub stands_first : {R : Type 0} (has : Having R) (stands keeps : Standing R) (framing : Framing) (t : Traversal) (r : R) (d : Dictionary) (before : List Content) → t.stage ≡ stage.Map → stands r (templates_in t.set.now) before d → d ≡ finite.empty
+pub stands_first : {R : Type 0} (has : Having R) (stands keeps : Standing R) (framing : Framing) (t : Traversal) (r : R) (d : Dictionary) (before : List Content) → t.stage ≡ Stage.Map → stands r (templates_in t.set.now) before d → d ≡ finite.empty
     → Stands framing 0 (ReadsOn has stands keeps t r d before) t [] [] []
 stands_first has stands keeps framing t r d before at h is = record { front = []; rest = []; start = at_start; parts = refl; carried = (refl, refl); ends = of_framing framing }
   where
@@ -110,7 +88,7 @@ pub outside_of : {G : Dictionary → (List ℕ → Reading) → Type 0} {t : Tra
 outside_of none (inl b) = b
 outside_of none (inr i) = let some = i.some in absurd (omega (arith, some, none))
 
-pub size_stops : {G : Dictionary → (List ℕ → Reading) → Type 0} {t : Traversal} {left : ℕ} {unread bytes : List ℕ} {messages : List Content} (c : Cause) → left ≡ 0 → (t.stage ≡ stage.Map → 0 < length unread) → size_at t.level unread ≡ Err c
+pub size_stops : {G : Dictionary → (List ℕ → Reading) → Type 0} {t : Traversal} {left : ℕ} {unread bytes : List ℕ} {messages : List Content} (c : Cause) → left ≡ 0 → (t.stage ≡ Stage.Map → 0 < length unread) → size_at t.level unread ≡ Err c
     → Stands Blocks left G t unread bytes messages → StopsBehind (framed_as Blocks t) (templates_in t.set.now) bytes messages (size_stop unread c)
 size_stops {t = t} {unread = unread} c none some stops h =
     ends_with h (λ s rest g. let b = outside_of none g in rw (b.same) (inl (some b.stage), rw (b.same) at b.fits, stops_in_size t.level (templates_in t.set.now) s unread c b.outside stops))
@@ -125,7 +103,7 @@ entity_goes level zero room [] h = absurd (no_entity level h.0)
     no_entity Strict e = absurd e.1.entity
 
 -- a block that is open, and of whose next message nothing has come
-pub size_waits : {G : Dictionary → (List ℕ → Reading) → Type 0} {t : Traversal} (left : ℕ) {bytes : List ℕ} {messages : List Content} → t.stage ≡ stage.Map → 0 < left → Stands Blocks left G t [] bytes messages
+pub size_waits : {G : Dictionary → (List ℕ → Reading) → Type 0} {t : Traversal} (left : ℕ) {bytes : List ℕ} {messages : List Content} → t.stage ≡ Stage.Map → 0 < left → Stands Blocks left G t [] bytes messages
     → StopsBehind (framed_as Blocks t) (templates_in t.set.now) bytes messages (size_stop [] Truncated)
 size_waits {G = G} {t = t} left at some h = ends_with h of_rest
   where

@@ -1,19 +1,7 @@
 -- What the calls of a machine answer and leave.
 use Rattle.std.specs.Prelude.{◌≡◌, ◌≢◌, ◌≤◌, ◌<◌, ◌^◌, ℕ, ◌+◌, List, [], ◌++◌, length, take, drop, Option, Some, None, Result, Ok, Err, IfSome, IfNone, MatchOption}
-use Rattle.fast_stream.specs.declared.fault.Cause.{Cause}
-use Rattle.fast_stream.specs.declared.fault.Cause.TheVariants.{Truncated, Memory}
-use Rattle.fast_stream.specs.declared.fault.Fault.{Fault}
-use Rattle.fast_stream.specs.declared.mode.Framing.{Framing}
-use Rattle.fast_stream.specs.declared.mode.Mode.{Mode}
-use Rattle.fast_stream.specs.Nodes.{Content}
-use Rattle.fast_template.specs.TemplateSets.{IsSound, templates_in}
-use Rattle.fast_dictionary.specs.declared.entries.Entries.{Ghosts}
+use Rattle.fast_machine.specs.Prelude.{Cause, Truncated, Memory, Fault, Framing, Mode, Content, IsSound, templates_in, Ghosts, Stage, Traversal, Halt, CanRead, IsSameSet, begun_of, stop_of}
 use Rattle.fast_walk.specs.declared.receiver.Receiver.{Ghosts as Receiving}
-use Rattle.fast_walk.specs.declared.traversal.Stage.TheVariants as stage
-use Rattle.fast_walk.specs.declared.traversal.Traversal.{Traversal}
-use Rattle.fast_walk.specs.declared.halt.Halt.{Halt}
-use Rattle.fast_walk.specs.Messages.{CanRead, IsSameSet}
-use Rattle.fast_walk.specs.Traversals.{begun_of, stop_of}
 use Rattle.fast_machine.specs.declared.machine.Machine.{Machine}
 use Rattle.fast_machine.specs.declared.messages.Progress.{Progress}
 use Rattle.fast_machine.specs.Runs.{Forgets}
@@ -64,7 +52,7 @@ AnswersNone (Err f) fault = (fault ≡ Some f) × (f.cause ≢ Truncated)
 -- a place that it answers is within the bytes, behind one of them where a message begins there, and none is held
 pub record IsBehind {R E : Type 0} {receiver : Receiving R} {entries : Ghosts E} (old : Machine R E receiver entries) (bytes : List ℕ) (place : ℕ) (new : Machine R E receiver entries) : Type 0 where
   pub within : place ≤ length bytes
-  pub between : new.traversal.stage ≡ stage.Map
+  pub between : new.traversal.stage ≡ Stage.Map
   pub fault : new.fault ≡ None
   pub held : new.held.items ≡ []
   pub took : begun_of old.traversal ≡ 0 → 0 < place
@@ -131,7 +119,7 @@ pub record EndsBetween {R E : Type 0} (receiver : Receiving R) (entries : Ghosts
   pub none : progress.messages ≡ 0 → (progress.at ≡ 0) × (length bytes ≡ 0)
   -- a message that begins here has a byte
   pub took : begun_of t ≡ 0 → 0 < length bytes → 0 < progress.at
-  pub between : u.stage ≡ stage.Map
+  pub between : u.stage ≡ Stage.Map
   pub can : CanRead receiver entries u r e
 
 -- how far the reading of the next message came, and what it leaves where it ended, or where bytes are wanted: few are left

@@ -1,9 +1,6 @@
 -- How many bytes a piece has at least of which some have come.
 use Rattle.std.specs.Prelude.{◌≤◌, ◌-◌, ℕ, zero, suc, Bool, List, length}
-use Rattle.fast_dictionary.specs.Dictionary.{Dictionary}
-use Rattle.fast_walk.specs.Lacks.{Lacks}
-use Rattle.fast_walk.specs.declared.lack.Lack.{Lack}
-use Rattle.fast_walk.specs.declared.traversal.Traversal.{Traversal}
+use Rattle.fast_machine.specs.Prelude.{Dictionary, Lacks, Lack, Traversal}
 
 -- so many bytes more are too few, of an instruction
 abbrev pub lack_of : ℕ → Bool → ℕ → Lack

@@ -1,20 +1,8 @@
 -- How a decoder stands to the bytes fed since the reset and to the messages pushed since.
 use Rattle.std.specs.Prelude.{◌≡◌, ◌≢◌, ◌⊎◌, ℕ, ◌+◌, List, [], length, Option, Some, None, Result, Ok, Err}
-use Rattle.fast_stream.specs.declared.mode.Framing.{Framing}
-use Rattle.fast_stream.specs.declared.mode.Mode.{Mode}
-use Rattle.fast_template.specs.Resolved.{Resolved}
-use Rattle.fast_template.specs.TemplateSets.{templates_in}
-use Rattle.fast_dictionary.specs.Dictionary.{Dictionary}
-use Rattle.fast_stream.specs.declared.fault.Cause.TheVariants.{Truncated, Memory}
-use Rattle.fast_stream.specs.declared.fault.Fault.{Fault}
-use Rattle.fast_stream.specs.declared.place.Place.{Place}
-use Rattle.fast_dictionary.specs.declared.entries.Entries.{Ghosts}
+use Rattle.fast_machine.specs.Prelude.{Framing, Mode, Resolved, templates_in, Dictionary, Truncated, Memory, Fault, Place, Ghosts, Stage, Traversal, Content, Carries, FirstFault, EndsBetween}
 use Rattle.fast_walk.specs.declared.receiver.Receiver.{Ghosts as Receiving}
 use Rattle.fast_machine.specs.declared.machine.Machine.{Machine}
-use Rattle.fast_walk.specs.declared.traversal.Stage.TheVariants as stage
-use Rattle.fast_walk.specs.declared.traversal.Traversal.{Traversal}
-use Rattle.fast_stream.specs.Nodes.{Content}
-use Rattle.fast_stream.specs.Modes.{Carries, FirstFault, EndsBetween}
 use Rattle.fast_machine.specs.Standing.{Carried, ReadsOn, HasAll, Having, Standing, Stands, StopsBehind, framed_as}
 
 -- the numbers of bytes fed and of messages pushed
@@ -25,7 +13,7 @@ pub record Counts (fed count : ℕ) (bytes : List ℕ) (messages : List Content)
 -- No message and no block is open, and no byte is held; or the bytes held are what there is of a piece that is not whole.
 abbrev pub Waits : Framing → ℕ → Traversal → List ℕ → ℕ → List ℕ → List Content → Type 0
 Waits framing left t held waiting bytes messages =
-    ((t.stage ≡ stage.Map) × (held ≡ []) × (left ≡ 0))
+    ((t.stage ≡ Stage.Map) × (held ≡ []) × (left ≡ 0))
     ⊎ StopsBehind (framed_as framing t) (templates_in t.set.now) bytes messages (record { template = t.template; stop = record { cause = Truncated; instruction = waiting; left = length held } })
 
 -- A fault is the first of the bytes, behind the messages; or memory was refused behind these.

@@ -1,3 +1,4 @@
+mod Prelude
 pub mod Runs
 pub mod Standing
 pub mod Following

@@ -1,21 +1,9 @@
 -- What a machine keeps of its keys and parts has one proof at most.
 use Rattle.std.specs.Prelude.{ℕ, zero, suc, ◌-◌, Bool, List, [], ◌∷◌, Some, length}
 use Rattle.std.specs.Coded.{×_prop, Π_prop, →_prop, Unit-prop, le_prop}
-use Rattle.fast_value.specs.declared.key.Key.{Key}
-use Rattle.fast_template.specs.Resolved.{Instruction, Instructions, group_of, sequence_of, no_instructions, then_instruction}
-use Rattle.fast_template.specs.TemplateSets.{TemplateList}
-use Rattle.fast_walk.specs.declared.traversal.Stage.{Stage}
-use Rattle.fast_walk.specs.declared.traversal.Stage.TheVariants as stage
-use Rattle.fast_walk.specs.declared.traversal.Traversal.{Traversal}
-use Rattle.fast_walk.specs.declared.walk.Walk.{Walk}
-use Rattle.fast_walk.specs.OpenSegments.{Inside, in_group, in_sequence, Waiting, Next, at_element}
+use Rattle.fast_machine.specs.Prelude.{Key, Instruction, Instructions, group_of, sequence_of, no_instructions, then_instruction, TemplateList, Stage, Traversal, Walk, Inside, in_group, in_sequence, Waiting, Next, at_element, true-prop, IsTold-prop, if-lacks-prop, IsServed, AreServed, IsNextServed, IsInsideServed, AreAllServed, Dictionary, HasRoomAt, ServesAll, IsReadyAt, CanGoOn}
 use Rattle.std.proofs.Props.{props}
-use Rattle.fast_walk.specs.OneProof.{true-prop, IsTold-prop, if-lacks-prop}
-use Rattle.fast_walk.specs.Walks.{IsServed, AreServed, IsNextServed, IsInsideServed, AreAllServed}
-use Rattle.fast_dictionary.specs.Dictionary.{Dictionary}
-use Rattle.fast_walk.specs.Room.{HasRoomAt}
 use Rattle.fast_machine.specs.Ends.{IsLong, lack_of}
-use Rattle.fast_walk.specs.Traversals.{ServesAll, IsReadyAt, CanGoOn}
 
 pub ServesAll-prop : (serves : Key → Bool) (set : TemplateList) → IsProp (ServesAll serves set)
 ServesAll-prop serves set = Π_prop (λ k. →_prop (true-prop (serves k)))
@@ -43,14 +31,14 @@ around-prop serves (w ∷ ws) = hlevel (list-prop, inside-prop, around-prop serv
     inside-prop serves (in_sequence s) = list-prop serves s.members
 
 at-prop : (at : Stage) (serves : Key → Bool) (t : Traversal) → IsProp (IsReadyAt at serves t)
-at-prop stage.Body serves t = hlevel (list-prop, next-prop, around-prop)
+at-prop Stage.Body serves t = hlevel (list-prop, next-prop, around-prop)
 at-prop at serves t = hlevel props
 
 pub CanGoOn-prop : (serves : Key → Bool) (t : Traversal) → IsProp (CanGoOn serves t)
 CanGoOn-prop serves t = at-prop t.stage serves t
 
 pub HasRoomAt-prop : (room : List (List Bool) → List Bool → Bool) (at : Stage) (w : Walk) → IsProp (HasRoomAt room at w)
-HasRoomAt-prop room stage.Body w = true-prop _
+HasRoomAt-prop room Stage.Body w = true-prop _
 HasRoomAt-prop room at w = hlevel (props, le_prop)
 
 pub IsLong-prop : (end : ℕ) (t : Traversal) (d : Dictionary) (held : List ℕ) (until_stop : Bool) (number : ℕ) → IsProp (IsLong end t d held until_stop number)

@@ -1,21 +1,6 @@
 -- How a traversal with its receiver stands to the messages that stand one behind the other in some bytes, from a dictionary.
 use Rattle.std.specs.Prelude.{◌≡◌, ◌≢◌, ◌<◌, ◌⊎◌, ℕ, List, [], ◌++◌, length, Option, Some, None, Err}
-use Rattle.fast_wire.specs.Reader.{IsBytes}
-use Rattle.fast_wire.specs.declared.level.Level.{Level}
-use Rattle.fast_template.specs.Resolved.{Resolved}
-use Rattle.fast_template.specs.TemplateSets.{templates_in}
-use Rattle.fast_dictionary.specs.Dictionary.{Dictionary}
-use Rattle.fast_stream.specs.declared.fault.Cause.TheVariants.{Truncated, Memory}
-use Rattle.fast_walk.specs.declared.halt.Halt.{Halt}
-use Rattle.fast_walk.specs.declared.traversal.Stage.TheVariants as stage
-use Rattle.fast_walk.specs.declared.traversal.Traversal.{Traversal}
-use Rattle.fast_stream.specs.Nodes.{Content}
-use Rattle.fast_stream.specs.Streams.{CarriesFrom}
-use Rattle.fast_stream.specs.Faults.{MessageStop}
-use Rattle.fast_stream.specs.Reading.{message_at}
-use Rattle.fast_walk.specs.OpenSegments.{Reading}
-use Rattle.fast_walk.specs.Received.{Received}
-use Rattle.fast_walk.specs.Traversals.{Continues, stop_of}
+use Rattle.fast_machine.specs.Prelude.{IsBytes, Level, Resolved, templates_in, Dictionary, Truncated, Memory, Halt, Stage, Traversal, Content, CarriesFrom, MessageStop, message_at, Reading, Received, Continues, stop_of}
 
 -- messages that stand one behind the other at the front of the bytes, from an origin, and behind them a rest of which this is so
 pub record Front {S : Type 0} (Stand : S → List ℕ → List Content → S → Type 0) (origin : S) (bytes : List ℕ) (messages : List Content) (Ends : S → List ℕ → Type 0) : Type 0 where
@@ -66,8 +51,8 @@ pub record Unfinished (GoesOn : Dictionary → (List ℕ → Reading) → Type 0
   pub reads : (more : List ℕ) → message_at t.level (templates_in t.set.now) start (rest ++ more) ≡ read (unread ++ more)
   pub taken : List ℕ
   pub whole : rest ≡ taken ++ unread
-  pub between : t.stage ≡ stage.Map → taken ≡ []
-  pub some : t.stage ≢ stage.Map → 0 < length rest
+  pub between : t.stage ≡ Stage.Map → taken ≡ []
+  pub some : t.stage ≢ Stage.Map → 0 < length rest
 
 abbrev pub RunStands : (Dictionary → (List ℕ → Reading) → Type 0) → Traversal → List ℕ → Dictionary → List ℕ → List Content → Type 0
 RunStands GoesOn t unread origin bytes messages = Run t.level (templates_in t.set.now) origin bytes messages (λ start rest. Unfinished GoesOn t unread start rest)
@@ -79,7 +64,7 @@ RunHasAll stands t r before origin bytes messages = Run t.level (templates_in t.
 -- How the reading of a message ends: between two, or at a piece, where it can go on if more bytes come; else the receiver
 -- has forgotten what was open.
 abbrev pub Ended : {R : Type 0} → Having R → Standing R → Standing R → Option Halt → Traversal → R → Dictionary → List Content → List ℕ → Dictionary → List ℕ → List Content → Type 0
-Ended has stands keeps None t r d before unread origin bytes messages = RunStands (ReadsOn has stands keeps t r d before) t unread origin bytes messages × (t.stage ≡ stage.Map)
+Ended has stands keeps None t r d before unread origin bytes messages = RunStands (ReadsOn has stands keeps t r d before) t unread origin bytes messages × (t.stage ≡ Stage.Map)
 Ended has stands keeps (Some h) t r d before unread origin bytes messages =
     RunCarried t.level (templates_in t.set.now) origin bytes messages
     × (h.cause ≢ Memory → RunStops t.level (templates_in t.set.now) origin bytes messages (stop_of t.template h unread))

@@ -1,19 +1,7 @@
 -- How a traversal with its receiver stands to the bytes read since the reset and the messages found in them, in each mode.
 use Rattle.std.specs.Prelude.{◌≡◌, ◌<◌, ◌⊎◌, ℕ, ◌+◌, List, [], ◌++◌, length, take, Err}
-use Rattle.fast_wire.specs.Reader.{IsBytes}
-use Rattle.fast_template.specs.Resolved.{Resolved}
-use Rattle.fast_template.specs.TemplateSets.{templates_in}
-use Rattle.fast_dictionary.specs.Dictionary.{Dictionary}
-use Rattle.fast_stream.specs.declared.mode.Framing.{Framing}
-use Rattle.fast_stream.specs.declared.mode.Framing.TheVariants.{Plain, Blocks}
-use Rattle.fast_stream.specs.declared.mode.Mode.{Mode}
-use Rattle.fast_stream.specs.Blocks.{Stand, at_start, Opens}
+use Rattle.fast_machine.specs.Prelude.{IsBytes, Resolved, templates_in, Dictionary, Framing, Plain, Blocks, Mode, Stand, at_start, Opens, Content, MessageStop, Stage, Traversal, Reading}
 use Rattle.fast_stream.specs.Modes.{CarriesFrom, GoesOn, next_at}
-use Rattle.fast_stream.specs.Nodes.{Content}
-use Rattle.fast_stream.specs.Faults.{MessageStop}
-use Rattle.fast_walk.specs.declared.traversal.Stage.TheVariants as stage
-use Rattle.fast_walk.specs.declared.traversal.Traversal.{Traversal}
-use Rattle.fast_walk.specs.OpenSegments.{Reading}
 use Rattle.fast_machine.specs.Runs.{Front}
 pub use Rattle.fast_machine.specs.Runs.{Having, Standing, ReadsOn, Unfinished}
 
@@ -40,7 +28,7 @@ StopsBehind mode set bytes messages stop = Behind mode set bytes messages (λ s 
 pub record BetweenBlocks (Goes : Dictionary → (List ℕ → Reading) → Type 0) (left : ℕ) (t : Traversal) (unread : List ℕ) (s : Stand) (rest : List ℕ) : Type 0 where
   pub none : left ≡ 0
   pub outside : s.left ≡ 0
-  pub stage : t.stage ≡ stage.Map
+  pub stage : t.stage ≡ Stage.Map
   pub same : rest ≡ unread
   pub fits : IsBytes rest
   pub next : Unfinished Goes t [] s.dictionary []

@@ -1,33 +1,5 @@
 -- What is added one behind the other is added at once.
-use Rattle.std.proofs.Common.{◌≡◌, ℕ, Bool, true, false, List, [], ◌∷◌, ◌++◌, length, Option, Some, None, Ok, Err, inl, inr, arith, refl, sym, ap, ◌∙◌, append-nil}
-use Rattle.std.specs.Prelude.{not}
-use Rattle.std.proofs.lemmas.List.{append_assoc}
-use Rattle.fast_wire.specs.declared.level.Level.TheVariants.{Usual}
-use Rattle.fast_value.specs.declared.scalar.Scalar.{Scalar}
-use Rattle.fast_value.specs.declared.scalar.Scalar.TheVariants.{U32}
-use Rattle.fast_value.specs.declared.kind.Presence.{Presence}
-use Rattle.fast_template.specs.declared.resolved.FieldPart.{FieldPart}
-use Rattle.fast_template.specs.Resolved.{Instructions, group_of, sequence_of, no_instructions, part_needs_bit, is_optional, has_map}
-use Rattle.fast_dictionary.specs.Dictionary.{Dictionary, entry_at}
-use Rattle.fast_wire.specs.PresenceMap.{IsMap}
-use Rattle.fast_wire.specs.Writing.{IsShortest}
-use Rattle.fast_field.specs.Best.{IsBest, NoLater}
-use Rattle.fast_field.specs.Deltas.{uncut}
-use Rattle.fast_field.specs.Planning.{left_out_of}
-use Rattle.fast_field.proofs.BestValues.{left_out, can_be_left_out}
-use Rattle.fast_field.specs.Fields.{Form}
-use Rattle.fast_dictionary.specs.declared.entry.Entry.{Entry}
-use Rattle.fast_stream.specs.Nodes.{single, group_items, sequence_elements, Items, no_items, Elements, no_elements, then_element, element_count, Content}
-use Rattle.fast_stream.specs.Bodies.{written}
-use Rattle.fast_stream.specs.Streams.{MapAt}
-use Rattle.fast_stream.proofs.Leaves.{bits_taken_are, no_bits_are_taken}
-use Rattle.fast_stream.proofs.Weaker.{body_weaker}
-use Rattle.fast_nodes.specs.Added.{Adds, AddsBytes, IsPartPut, IsSealed, NotSealed, Piece, Refuses, both, each_of, in_segment, of_item, of_items, of_message, of_part, segment_of}
-use Rattle.fast_writer.specs.Canonical.{CanonBody, IsShortestMap}
-use Rattle.fast_nodes.specs.declared.fault.EncodeFault.{EncodeFault}
-use Rattle.fast_writer.specs.Written.{Segment, state, bits_for, Leaves, IsEmpty, Asked}
-use Rattle.fast_writer.proofs.Leavings.{leaves_split, bit_of, behind_of, closed}
-use Rattle.fast_writer.proofs.Writings.{part_by}
+use Rattle.fast_nodes.proofs.Common.{◌≡◌, ℕ, Bool, true, false, List, [], ◌∷◌, ◌++◌, length, Option, Some, None, Ok, Err, inl, inr, arith, refl, sym, ap, ◌∙◌, append-nil, not, append_assoc, Usual, Scalar, U32, Presence, FieldPart, Instructions, group_of, sequence_of, no_instructions, part_needs_bit, is_optional, has_map, Dictionary, entry_at, IsMap, IsShortest, IsBest, NoLater, uncut, left_out_of, left_out, can_be_left_out, Form, Entry, single, group_items, sequence_elements, Items, no_items, Elements, no_elements, then_element, element_count, Content, written, MapAt, bits_taken_are, no_bits_are_taken, body_weaker, Adds, AddsBytes, IsPartPut, IsSealed, NotSealed, Piece, Refuses, both, each_of, in_segment, of_item, of_items, of_message, of_part, segment_of, CanonBody, IsShortestMap, EncodeFault, Segment, state, bits_for, Leaves, IsEmpty, Asked, leaves_split, bit_of, behind_of, closed, part_by}
 
 pub adds_then : {p q : Piece} {d e f : Dictionary} {l k j : Segment} → Adds p d l e k → Adds q e k f j → Adds (both p q) d l f j
 adds_then {l} a b = record {

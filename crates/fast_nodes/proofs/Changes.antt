@@ -1,25 +1,6 @@
 -- What was changed can be put back.
-use Rattle.std.proofs.Common.{◌≡◌, Bool, true, false, List, [], ◌∷◌, ◌++◌, Option, Err, inl, inr, refl, sym, ap, ◌∙◌}
-use Rattle.std.specs.Prelude.{cond, IsTrue}
-use Rattle.std.specs.Ordering.{is_eq}
-use Rattle.fast_value.specs.Key.{key_cmp}
-use Rattle.fast_value.specs.declared.key.Key.{Key}
-use Rattle.fast_value.specs.declared.scalar.Scalar.{Scalar}
-use Rattle.fast_template.specs.declared.resolved.FieldPart.{FieldPart}
-use Rattle.fast_dictionary.specs.declared.entry.Entry.{Entry}
-use Rattle.fast_dictionary.specs.declared.entry.Entry.TheVariants.{Undefined}
-use Rattle.fast_dictionary.specs.Dictionary.{Dictionary, entry_at, entry_at-set_entry, entry_at-set_same, set_entry, set_entry-there, same_dictionary}
-use Rattle.fast_field.specs.Bases.{next}
-use Rattle.fast_field.specs.Parts.{IsFieldPart}
-use Rattle.fast_stream.specs.Bodies.{with_entry, written}
-use Rattle.fast_walk.specs.Told.{HoldScalars}
-use Rattle.fast_walk.proofs.Putting.{set_written}
-use Rattle.fast_walk.proofs.Telling.{form_holds}
-use Rattle.fast_nodes.specs.declared.journal.Change.{Change}
-use Rattle.fast_nodes.specs.Added.{Books, Changed, GoesOn, IsPartPut, IsPut, IsValuePut, NoPartPut, NoValuePut, of_part}
-use Rattle.fast_nodes.specs.declared.fault.EncodeFault.{EncodeFault}
+use Rattle.fast_nodes.proofs.Common.{◌≡◌, Bool, true, false, List, [], ◌∷◌, ◌++◌, Option, Err, inl, inr, refl, sym, ap, ◌∙◌, cond, IsTrue, is_eq, key_cmp, Key, Scalar, FieldPart, Entry, Undefined, Dictionary, entry_at, entry_at-set_entry, entry_at-set_same, set_entry, set_entry-there, same_dictionary, next, IsFieldPart, with_entry, written, HoldScalars, set_written, form_holds, Change, Books, Changed, GoesOn, IsPartPut, IsPut, IsValuePut, NoPartPut, NoValuePut, of_part, EncodeFault, Segment}
 use Rattle.fast_nodes.proofs.Additions.{part_added}
-use Rattle.fast_writer.specs.Written.{Segment}
 
 -- ---- one entry
 

@@ -1,39 +1,8 @@
 -- A message that is not refused has canonical bytes.
-use Rattle.std.proofs.Common.{true≢false, ◌≡◌, ℕ, Bool, true, false, ◌&&◌, List, [], ◌++◌, length, drop, Option, Some, None, Result, Ok, Err, refl, sym, ◌∙◌, arith}
-use Rattle.std.specs.Prelude.{if◌then◌else◌}
-use Rattle.std.proofs.lemmas.Bool.{and_parts}
-use Rattle.fast_value.specs.declared.scalar.Scalar.{Scalar}
-use Rattle.fast_value.specs.declared.scalar.Scalar.TheVariants.{U32, I32, I64, Decimal}
-use Rattle.fast_template.specs.declared.resolved.FieldPart.{FieldPart}
-use Rattle.fast_template.specs.Resolved.{Instruction, Instructions, whole_field, field_in_parts, group_of, sequence_of, no_instructions, then_instruction, part_needs_bit, is_optional, has_map}
-use Rattle.fast_template.specs.TemplateSets.{TemplateList, templates_in, IsSound}
-use Rattle.fast_dictionary.specs.Dictionary.{Dictionary, entry_at}
-use Rattle.fast_wire.specs.Reading.{◌>>=◌}
-use Rattle.fast_field.specs.declared.fault.FieldRefusal.{FieldRefusal}
-use Rattle.fast_field.specs.Bases.{next}
-use Rattle.fast_field.specs.Parts.{IsFieldPart, EachPart, EachPartIn}
-use Rattle.fast_field.specs.Refusals.{refusal_of}
-use Rattle.fast_field.specs.Within.{HasRangeOr}
-use Rattle.fast_field.proofs.BestValues.{best_stands}
-use Rattle.fast_field.proofs.PartsOfSets.{parts_of_sets}
-use Rattle.fast_stream.specs.Nodes.{Item, single, group_items, sequence_elements, Items, no_items, then_item, Elements, no_elements, then_element, element_count, Content}
-use Rattle.fast_stream.specs.Bodies.{State, written}
-use Rattle.fast_stream.specs.Streams.{members_of, identifier}
-use Rattle.fast_stream.proofs.FoundMembers.{members_have}
-use Rattle.fast_nodes.specs.declared.fault.EncodeFault.{EncodeFault}
-use Rattle.fast_nodes.specs.Added.{Adds, AddsBytes, IsPartPut, IsSealed, IsSmall, AreSmall, AreSmallIn, Piece, Whole, both, each_of, in_segment, of_item, of_items, of_message, of_part, segment_of}
-use Rattle.fast_writer.specs.Canonical.{CanonMessage}
-use Rattle.fast_nodes.specs.FirstRefusal.{item_fits, items_fit, elements_fit, whole_refusal, judged, part_judged, segment_judged, item_judged, items_judged, elements_judged, or_else, error_in, message_refusal, first_refusal}
-use Rattle.fast_nodes.specs.Ranges.{HasRanges, HaveRanges, HaveRangesIn, IsInRange}
-use Rattle.fast_writer.specs.Written.{has_set, Segment, state, bits_for, Asked, IsEmpty}
+use Rattle.fast_nodes.proofs.Common.{true≢false, ◌≡◌, ℕ, Bool, true, false, ◌&&◌, List, [], ◌++◌, length, drop, Option, Some, None, Result, Ok, Err, refl, sym, ◌∙◌, arith, if◌then◌else◌, and_parts, Scalar, U32, I32, I64, Decimal, FieldPart, Instruction, Instructions, whole_field, field_in_parts, group_of, sequence_of, no_instructions, then_instruction, part_needs_bit, is_optional, has_map, TemplateList, templates_in, IsSound, Dictionary, entry_at, ◌>>=◌, FieldRefusal, next, IsFieldPart, EachPart, EachPartIn, refusal_of, HasRangeOr, best_stands, parts_of_sets, Item, single, group_items, sequence_elements, Items, no_items, then_item, Elements, no_elements, then_element, element_count, Content, State, written, members_of, identifier, members_have, EncodeFault, Adds, AddsBytes, IsPartPut, IsSealed, IsSmall, AreSmall, AreSmallIn, Piece, Whole, both, each_of, in_segment, of_item, of_items, of_message, of_part, segment_of, CanonMessage, item_fits, items_fit, elements_fit, whole_refusal, judged, part_judged, segment_judged, item_judged, items_judged, elements_judged, or_else, error_in, message_refusal, first_refusal, HasRanges, HaveRanges, HaveRangesIn, IsInRange, has_set, Segment, state, bits_for, Asked, IsEmpty, HoldScalars, form_holds, identifier_is, shortest_map, set_at, best_needs}
 use Rattle.fast_nodes.proofs.Additions.{adds_then, body_none, part_added, no_group_added, group_added, message_added, sequence_added, elements_none, elements_more, segment_added}
 use Rattle.fast_nodes.proofs.Messages.{fitting, written_is}
-use Rattle.fast_walk.specs.Told.{HoldScalars}
-use Rattle.fast_walk.proofs.Telling.{form_holds, identifier_is}
 use Rattle.fast_nodes.proofs.Tries.{small_all}
-use Rattle.fast_wire.proofs.ShortestForms.{shortest_map}
-use Rattle.fast_writer.proofs.MapRoom.{set_at}
-use Rattle.fast_writer.proofs.Relays.{best_needs}
 
 -- ---- the map of bits that it has room for
 

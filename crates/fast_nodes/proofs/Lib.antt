@@ -1,3 +1,4 @@
+mod Common
 mod RefusedRows
 mod Views
 mod Sizes

@@ -1,23 +1,5 @@
 -- A message that is written, or why it is not.
-use Rattle.std.proofs.Common.{◌≡◌, ◌≤◌, ℕ, Bool, true, false, List, ◌++◌, Option, Some, None, refl}
-use Rattle.std.proofs.lemmas.Bool.{ltb-false, or_parts}
-use Rattle.std.specs.Prelude.{nat_lt, not, if◌then◌else◌}
-use Rattle.fast_template.specs.Resolved.{Instructions, Resolved}
-use Rattle.fast_template.specs.TemplateSets.{TemplateList, templates_in, IsSound}
-use Rattle.fast_dictionary.specs.Dictionary.{Dictionary}
-use Rattle.fast_field.specs.Parts.{IsFieldPart, EachPartIn}
-use Rattle.fast_field.proofs.PartsOfSets.{parts_of_sets}
-use Rattle.fast_stream.specs.Nodes.{Items, Content, nodes_in, node_limit}
-use Rattle.fast_stream.specs.Streams.{members_of}
-use Rattle.fast_walk.specs.Told.{HoldScalars}
-use Rattle.fast_walk.specs.Traversals.{ServesAll}
-use Rattle.fast_stream.proofs.FoundMembers.{members_have}
-use Rattle.fast_walk.proofs.Serving.{members_served}
-use Rattle.fast_nodes.specs.declared.fault.EncodeCause.TheVariants as cause
-use Rattle.fast_nodes.specs.declared.fault.EncodeFault.{EncodeFault}
-use Rattle.fast_nodes.specs.Added.{AddsBytes, Books, CanTry, in_segment, of_message}
-use Rattle.fast_writer.specs.Canonical.{CanonMessage}
-use Rattle.fast_nodes.specs.FirstRefusal.{early_refusal, message_refusal, refused, items_fit, is_too_large, has_large, whole_refusal}
+use Rattle.fast_nodes.proofs.Common.{◌≡◌, ◌≤◌, ℕ, Bool, true, false, List, ◌++◌, Option, Some, None, refl, ltb-false, or_parts, nat_lt, not, if◌then◌else◌, Instructions, Resolved, TemplateList, templates_in, IsSound, Dictionary, IsFieldPart, EachPartIn, parts_of_sets, Items, Content, nodes_in, node_limit, members_of, HoldScalars, ServesAll, members_have, members_served, EncodeCause, EncodeFault, AddsBytes, Books, CanTry, in_segment, of_message, CanonMessage, early_refusal, message_refusal, refused, items_fit, is_too_large, has_large, whole_refusal}
 use Rattle.fast_nodes.proofs.Tries.{small_all}
 
 -- ---- what is judged before the fields
@@ -28,7 +10,7 @@ pub record Fitting (members : Instructions) (ns : Items) : Type 0 where
   pub large : has_large ns ≡ false
 
 fitting_by : (members : Instructions) (ns : Items) (fits large : Bool) → items_fit members ns ≡ fits → is_too_large ns ≡ large
-    → (if not fits then Some (refused cause.Mismatch) else if large then Some (refused cause.Limit) else None) ≡ None → Fitting members ns
+    → (if not fits then Some (refused EncodeCause.Mismatch) else if large then Some (refused EncodeCause.Limit) else None) ≡ None → Fitting members ns
 fitting_by members ns false large is small h = absurd cc
 fitting_by members ns true true is small h = absurd cc
 fitting_by members ns true false is small h =

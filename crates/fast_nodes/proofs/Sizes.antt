@@ -1,14 +1,6 @@
 -- How many nodes a sequence leaves, element by element.
-use Rattle.std.proofs.Common.{◌≡◌, ◌<◌, ◌≤◌, ◌-◌, ◌+◌, inl, inr, ℕ, zero, suc, Bool, true, false, ◌||◌, List, [], ◌∷◌, length, drop, Option, Some, None, refl, ap, ◌∙◌, arith}
-use Rattle.std.proofs.lemmas.List.{drop_all}
-use Rattle.std.specs.Prelude.{nat_lt}
-use Rattle.std.specs.Global.{Vec}
-use Rattle.std.proofs.lemmas.Bool.{le-ltb, or_from, or_right}
-use Rattle.fast_stream.specs.declared.message.Node.{Node}
-use Rattle.fast_stream.specs.declared.message.Node.TheVariants.{Sequence}
-use Rattle.fast_stream.specs.Nodes.{item_of, items_in, nodes_in, nodes_in_elements, nodes_of}
+use Rattle.fast_nodes.proofs.Common.{◌≡◌, ◌<◌, ◌≤◌, ◌-◌, ◌+◌, inl, inr, ℕ, zero, suc, Bool, true, false, ◌||◌, List, [], ◌∷◌, length, drop, Option, Some, None, refl, ap, ◌∙◌, arith, drop_all, nat_lt, Vec, le-ltb, or_from, or_right, Node, Sequence, item_of, items_in, nodes_in, nodes_in_elements, nodes_of, IsLeft, has_large, has_large_in, item_is_large}
 use Rattle.fast_nodes.proofs.Views.{count_seen, is_elements, seen}
-use Rattle.fast_nodes.specs.FirstRefusal.{IsLeft, has_large, has_large_in, item_is_large}
 
 -- a sequence by its elements
 pub of_sequence : (es : Vec (Vec Node)) (node : Node) (left : ℕ) (r : Option ℕ) → node ≡ Sequence es

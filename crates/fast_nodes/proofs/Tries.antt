@@ -1,26 +1,9 @@
 -- Nodes that are written one after the other.
-use Rattle.std.proofs.Common.{◌≡◌, ◌≤◌, ◌<◌, ◌+◌, ℕ, true, false, List, ◌∷◌, ◌++◌, length, drop, get_or, Some, Ok, Err, inl, inr, Result, refl, sym, ap, ◌∙◌}
-use Rattle.std.specs.Prelude.{nat_lt}
-use Rattle.std.specs.Global.{Vec}
-use Rattle.std.proofs.lemmas.Bool.{and_parts, ltb-false, or_parts}
-use Rattle.std.proofs.lemmas.List.{drop_more, drop_all}
-use Rattle.fast_template.specs.declared.resolved.Flat.{Flat}
+use Rattle.fast_nodes.proofs.Common.{◌≡◌, ◌≤◌, ◌<◌, ◌+◌, ℕ, true, false, List, ◌∷◌, ◌++◌, length, drop, get_or, Some, Ok, Err, inl, inr, Result, refl, sym, ap, ◌∙◌, nat_lt, Vec, and_parts, ltb-false, or_parts, drop_more, drop_all, Flat, U32, ◌>>=◌, Node, Presence, FieldPart, Instructions, instruction_of, list_of, is_optional, has_map, Item, single, group_items, sequence_elements, Items, no_items, then_item, Elements, no_elements, then_element, item_of, items_in, element_count, EncodeFault, Books, CanTry, CanTryOne, CanTryEach, GoesOn, IsPut, IsPutWhole, IsSmall, AreSmall, AreSmallIn, NotPut, Piece, Puts, PutsWhole, Seals, both, each_of, of_item, of_items, of_part, segment_of, item_is_large, has_large, has_large_in, elements_judged, Segment, state, bits_for, Asked, IsEmpty, is_group, is_sequence}
 use Rattle.fast_template.specs.declared.resolved.Flat.TheVariants.{Group, Sequence}
-use Rattle.fast_value.specs.declared.scalar.Scalar.TheVariants.{U32}
-use Rattle.fast_wire.specs.Reading.{◌>>=◌}
-use Rattle.fast_stream.specs.declared.message.Node.{Node}
 use Rattle.fast_stream.specs.declared.message.Node.TheVariants as nodes
-use Rattle.fast_value.specs.declared.kind.Presence.{Presence}
-use Rattle.fast_template.specs.declared.resolved.FieldPart.{FieldPart}
-use Rattle.fast_template.specs.Resolved.{Instructions, instruction_of, list_of, is_optional, has_map}
-use Rattle.fast_stream.specs.Nodes.{Item, single, group_items, sequence_elements, Items, no_items, then_item, Elements, no_elements, then_element, item_of, items_in, element_count}
-use Rattle.fast_nodes.specs.declared.fault.EncodeFault.{EncodeFault}
-use Rattle.fast_nodes.specs.Added.{Books, CanTry, CanTryOne, CanTryEach, GoesOn, IsPut, IsPutWhole, IsSmall, AreSmall, AreSmallIn, NotPut, Piece, Puts, PutsWhole, Seals, both, each_of, of_item, of_items, of_part, segment_of}
-use Rattle.fast_nodes.specs.FirstRefusal.{item_is_large, has_large, has_large_in, elements_judged}
-use Rattle.fast_writer.specs.Written.{Segment, state, bits_for, Asked, IsEmpty}
 use Rattle.fast_nodes.proofs.Additions.{adds_then, body_none, elements_none, elements_more, group_added, not_sealed, segment_added, sequence_added}
 use Rattle.fast_nodes.proofs.Changes.{goes_same, goes_then}
-use Rattle.fast_walk.proofs.Pieces.{is_group, is_sequence}
 use Rattle.fast_nodes.proofs.Views.{count_seen, is_elements, is_items, seen}
 
 -- ---- what is known of each

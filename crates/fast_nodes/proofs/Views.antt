@@ -1,16 +1,6 @@
 -- What instructions and nodes with others inside are to contracts.
-use Rattle.std.proofs.Common.{◌≡◌, ◌≢◌, false, suc, sym, List, [], ◌∷◌, Some, None, length, map, ap, ◌∙◌, refl, arith}
-use Rattle.std.proofs.lemmas.Bool.{and_right}
-use Rattle.std.specs.Global.{Vec}
-use Rattle.fast_template.specs.declared.resolved.Flat.{Flat}
-use Rattle.fast_template.specs.Resolved.{instruction_of, list_of}
-use Rattle.fast_value.specs.declared.scalar.Scalar.{Scalar}
-use Rattle.fast_stream.specs.declared.message.Node.{Node, fold_out-Node}
-use Rattle.fast_stream.specs.declared.message.Node.TheVariants.{outs-Absent, outs-Value}
+use Rattle.fast_nodes.proofs.Common.{◌≡◌, ◌≢◌, false, suc, sym, List, [], ◌∷◌, Some, None, length, map, ap, ◌∙◌, refl, arith, and_right, Vec, Flat, instruction_of, list_of, Scalar, Node, fold_out-Node, outs-Absent, outs-Value, Item, single, Elements, element_count, node_step, group_items, sequence_elements, elements_of, item_of, items_in, item_fits, items_fit, item_of-group, item_of-sequence}
 use Rattle.fast_stream.specs.declared.message.Node.TheVariants as nodes
-use Rattle.fast_stream.specs.Nodes.{Item, single, Elements, element_count, node_step, group_items, sequence_elements, elements_of, item_of, items_in}
-use Rattle.fast_nodes.specs.FirstRefusal.{item_fits, items_fit}
-use Rattle.fast_walk.proofs.Views.{item_of-group, item_of-sequence}
 
 abbrev pub seen : List (Vec Node) → Elements
 seen es = elements_of (map (λ e. items_in e.items) es)

@@ -19,7 +19,7 @@ use Rattle.fast_stream.specs.Bodies.{State, Then, PartBy, PieceBy, SegmentBy, Ea
 use Rattle.fast_stream.specs.Streams.{identifier}
 use Rattle.fast_walk.specs.Told.{HoldScalars}
 use Rattle.fast_walk.specs.Walks.{IsServed, AreServed}
-use Rattle.fast_nodes.specs.declared.fault.EncodeCause.TheVariants as cause
+use Rattle.fast_nodes.specs.declared.fault.EncodeCause.{EncodeCause}
 use Rattle.fast_nodes.specs.declared.fault.EncodeFault.{EncodeFault}
 use Rattle.fast_nodes.specs.declared.journal.Change.{Change}
 use Rattle.fast_nodes.specs.declared.journal.Journal.{Journal}
@@ -64,7 +64,7 @@ pub record Adds (p : Piece) (d : Dictionary) (l : Segment) (e : Dictionary) (k :
 
 -- why nothing is answered: memory was refused, or this is what is refused
 abbrev pub Refuses : {A : Type 0} → Result A EncodeFault → EncodeFault → Type 0
-Refuses judged f = (f ≡ refused cause.Memory) ⊎ (judged ≡ Err f)
+Refuses judged f = (f ≡ refused EncodeCause.Memory) ⊎ (judged ≡ Err f)
 
 -- What has its map in itself.
 pub record Whole : Type 1 where
@@ -98,7 +98,7 @@ pub record IsSealed (l : Segment) (old new : List ℕ) : Type 0 where
 
 -- or nothing is appended, for want of memory or of room
 pub record NotSealed (l : Segment) (old new : List ℕ) (f : EncodeFault) : Type 0 where
-  pub why : (f ≡ refused cause.Memory) ⊎ ((f ≡ refused cause.Limit) × ((l.own && has_set (drop 1792 l.bits)) ≡ true))
+  pub why : (f ≡ refused EncodeCause.Memory) ⊎ ((f ≡ refused EncodeCause.Limit) × ((l.own && has_set (drop 1792 l.bits)) ≡ true))
   pub unchanged : new ≡ old
 
 abbrev pub Seals : Segment → List ℕ → List ℕ → Result (Unit {0}) EncodeFault → Type 0
@@ -156,7 +156,7 @@ PutsWhole w a old b new (Err f) = NotPut (w.judge a.entries) a b f
 
 -- its nodes, and at their end its map
 abbrev pub rest_judged : Bool → Instructions → Items → State → Result Dictionary EncodeFault
-rest_judged own members ns s = items_judged members ns s >>= λ t. if own && has_set (drop 1792 t.bits) then Err (refused cause.Limit) else Ok t.dictionary
+rest_judged own members ns s = items_judged members ns s >>= λ t. if own && has_set (drop 1792 t.bits) then Err (refused EncodeCause.Limit) else Ok t.dictionary
 
 pub record IsRestPut (members : Instructions) (ns : Items) (a : Books) (l : Segment) (old : List ℕ) (b : Books) (k : Segment) (new : List ℕ) : Type 0 where
   pub put : IsPut (of_items members ns) a l b k
@@ -173,7 +173,7 @@ pub record IsPartPut (p : FieldPart) (v : Option Scalar) (old : Entry) (l : Segm
 
 -- or not
 pub record NoPartPut (p : FieldPart) (v : Option Scalar) (old new : Entry) (f : EncodeFault) : Type 0 where
-  pub why : (f ≡ refused cause.Memory) ⊎ ((r : FieldRefusal) × (refusal_of p old v ≡ Some r) × (f ≡ fault_of p r))
+  pub why : (f ≡ refused EncodeCause.Memory) ⊎ ((r : FieldRefusal) × (refusal_of p old v ≡ Some r) × (f ≡ fault_of p r))
   pub kept : new ≡ old
 
 -- the same in a dictionary

@@ -8,7 +8,6 @@ use Rattle.fast_template.specs.Resolved.{Instruction, Instructions, whole_field,
 use Rattle.fast_dictionary.specs.Dictionary.{Dictionary, entry_at}
 use Rattle.fast_wire.specs.Reading.{◌>>=◌}
 use Rattle.fast_field.specs.declared.fault.FieldRefusal.{FieldRefusal}
-use Rattle.fast_field.specs.declared.fault.FieldRefusal.TheVariants as refusal
 use Rattle.fast_field.specs.Values.{units_of}
 use Rattle.fast_field.specs.Planning.{left_out_of}
 use Rattle.fast_field.specs.Refusals.{refusal_of, has_characters}
@@ -17,7 +16,6 @@ use Rattle.fast_stream.specs.Bodies.{State, written}
 use Rattle.fast_stream.specs.Streams.{members_of, identifier}
 use Rattle.fast_writer.specs.Written.{state, bits_for, has_set}
 use Rattle.fast_nodes.specs.declared.fault.EncodeCause.{EncodeCause}
-use Rattle.fast_nodes.specs.declared.fault.EncodeCause.TheVariants as cause
 use Rattle.fast_nodes.specs.declared.fault.EncodeFault.{EncodeFault}
 
 -- ---- shape, types and characters
@@ -70,24 +68,24 @@ is_too_large ns = nat_lt node_limit (nodes_in ns) || has_large ns
 -- ---- fields in their order, and each map at the end of its segment
 
 abbrev pub cause_of : FieldRefusal → EncodeCause
-cause_of refusal.D3 = cause.D3
-cause_of refusal.D4 = cause.D4
-cause_of refusal.D6 = cause.D6
-cause_of refusal.R1 = cause.R1
-cause_of refusal.NotConstant = cause.NotConstant
-cause_of refusal.TooShort = cause.TooShort
-cause_of refusal.Mismatch = cause.Mismatch
-cause_of refusal.Limit = cause.Limit
-cause_of refusal.Memory = cause.Memory
+cause_of FieldRefusal.D3 = EncodeCause.D3
+cause_of FieldRefusal.D4 = EncodeCause.D4
+cause_of FieldRefusal.D6 = EncodeCause.D6
+cause_of FieldRefusal.R1 = EncodeCause.R1
+cause_of FieldRefusal.NotConstant = EncodeCause.NotConstant
+cause_of FieldRefusal.TooShort = EncodeCause.TooShort
+cause_of FieldRefusal.Mismatch = EncodeCause.Mismatch
+cause_of FieldRefusal.Limit = EncodeCause.Limit
+cause_of FieldRefusal.Memory = EncodeCause.Memory
 
 -- a refusal that names no instruction
 abbrev pub refused : EncodeCause → EncodeFault
 refused c = record { cause = c; instruction = 0 }
 
 abbrev pub fault_of : FieldPart → FieldRefusal → EncodeFault
-fault_of p refusal.Mismatch = refused cause.Mismatch
-fault_of p refusal.Limit = refused cause.Limit
-fault_of p refusal.Memory = refused cause.Memory
+fault_of p FieldRefusal.Mismatch = refused EncodeCause.Mismatch
+fault_of p FieldRefusal.Limit = refused EncodeCause.Limit
+fault_of p FieldRefusal.Memory = refused EncodeCause.Memory
 fault_of p r = record { cause = cause_of r; instruction = p.number }
 
 -- A part's refusal, or the dictionary after it and one bit more, 0 where that gives the value.
@@ -102,7 +100,7 @@ part_judged p s v = judged p s v (refusal_of p (entry_at s.dictionary p.key) v)
 -- A map has room for 1,792 bits, up to the last 1.
 abbrev pub segment_judged : Bool → (State → Result State EncodeFault) → Dictionary → Result Dictionary EncodeFault
 segment_judged own inside d =
-    inside (state d []) >>= λ s. if own && has_set (drop 1792 s.bits) then Err (refused cause.Limit) else Ok s.dictionary
+    inside (state d []) >>= λ s. if own && has_set (drop 1792 s.bits) then Err (refused EncodeCause.Limit) else Ok s.dictionary
 
 abbrev mutual
   pub item_judged : Instruction → Item → State → Result State EncodeFault
@@ -116,12 +114,12 @@ abbrev mutual
   item_judged (sequence_of name number presence length members) (single None) s = part_judged length s None
   item_judged (sequence_of name number presence length members) (sequence_elements es) s =
       part_judged length s (Some (U32 (element_count es))) >>= λ t. elements_judged members es t.dictionary >>= λ d. Ok (state d t.bits)
-  item_judged i n s = Err (refused cause.Mismatch)
+  item_judged i n s = Err (refused EncodeCause.Mismatch)
 
   pub items_judged : Instructions → Items → State → Result State EncodeFault
   items_judged no_instructions no_items s = Ok s
   items_judged (then_instruction i is) (then_item n ns) s = item_judged i n s >>= λ t. items_judged is ns t
-  items_judged is ns s = Err (refused cause.Mismatch)
+  items_judged is ns s = Err (refused EncodeCause.Mismatch)
 
   pub elements_judged : Instructions → Elements → Dictionary → Result Dictionary EncodeFault
   elements_judged members no_elements d = Ok d
@@ -137,12 +135,12 @@ error_in (Err f) = Some f
 -- what is judged before the fields
 abbrev pub whole_refusal : Instructions → Items → Option EncodeFault
 whole_refusal members ns =
-    if not (items_fit members ns) then Some (refused cause.Mismatch)
-    else if is_too_large ns then Some (refused cause.Limit) else None
+    if not (items_fit members ns) then Some (refused EncodeCause.Mismatch)
+    else if is_too_large ns then Some (refused EncodeCause.Limit) else None
 
 -- what is judged of a message before its fields, whatever the entries are: its template, its shape and its size
 abbrev pub early_refusal : Option Instructions → Items → Option EncodeFault
-early_refusal None ns = Some (refused cause.D9)
+early_refusal None ns = Some (refused EncodeCause.D9)
 early_refusal (Some members) ns = whole_refusal members ns
 
 -- the members are those of the message's template, and it is whole
@@ -155,7 +153,7 @@ or_else (Some f) later = Some f
 or_else None later = later
 
 abbrev pub message_refusal : Option Instructions → Dictionary → Content → Option EncodeFault
-message_refusal None d m = Some (refused cause.D9)
+message_refusal None d m = Some (refused EncodeCause.D9)
 message_refusal (Some members) d m =
     or_else (whole_refusal members m.items)
     (error_in (segment_judged true (λ s. part_judged identifier s (Some (U32 m.template)) >>= λ t. items_judged members m.items t) d))

@@ -1,3 +1,4 @@
+mod Common
 pub mod SearchSteps
 pub mod SearchGroups
 pub mod SearchTurns

@@ -1,16 +1,5 @@
 -- A search is through with a whole group at once, and ends.
-use Rattle.std.proofs.Common.{◌≡◌, ◌≢◌, ◌<◌, ◌≤◌, ◌+◌, ◌-◌, ◌⊎◌, inl, inr, ℕ, suc, zero, List, [], ◌∷◌, ◌++◌, length, set, take, drop, Some, None, Vec, Bool, true, false, refl, sym, ap, subst, ◌∙◌, arith}
-use Rattle.std.specs.Prelude.{slice_get}
-use Rattle.std.specs.Option.{option_map_or}
-use Rattle.std.specs.declared.alloc.Global.{Global}
-use Rattle.std.proofs.lemmas.Bool.{cases_eq, cases_lt}
-use Rattle.std.proofs.lemmas.Option.{slice_get_within, slice_get-get_or}
-use Rattle.std.proofs.lemmas.List.{length-set, length-take}
-use Rattle.fast_order.specs.Order.{IsReference, IsOrder, IsFirstOnCycle, Reaches, one}
-use Rattle.fast_order.specs.Search.{State, visiting, Joins, IsDone, NoneStarts, ToCome, IsFollowed, Stands, KeepsSeen, row_length, unseen_steps, path_steps, steps_left, set_all, entered, closed}
-use Rattle.fast_order.specs.declared.order.Mark.{Mark}
-use Rattle.fast_order.specs.declared.order.Mark.TheVariants.{Unseen, Open, Done}
-use Rattle.fast_order.specs.declared.order.Visit.{Visit}
+use Rattle.fast_order.proofs.Common.{◌≡◌, ◌≢◌, ◌<◌, ◌≤◌, ◌+◌, ◌-◌, ◌⊎◌, inl, inr, ℕ, suc, zero, List, [], ◌∷◌, ◌++◌, length, set, take, drop, Some, None, Vec, Bool, true, false, refl, sym, ap, subst, ◌∙◌, arith, slice_get, option_map_or, Global, cases_eq, cases_lt, slice_get_within, slice_get-get_or, length-set, length-take, IsReference, IsOrder, IsFirstOnCycle, Reaches, one, State, visiting, Joins, IsDone, NoneStarts, ToCome, IsFollowed, Stands, KeepsSeen, row_length, unseen_steps, path_steps, steps_left, set_all, entered, closed, Mark, Unseen, Open, Done, Visit}
 use Rattle.fast_order.proofs.SearchSteps.{at_old, at_last, at_push, at_append, at_right, at_take, at_taken, at_drop, at_dropped, at_set_same, at_set_other, at_set, reaches_joins, done_onwards, IsThrough, nothing_to_come}
 
 -- ---- marks that are set together

@@ -1,15 +1,5 @@
 -- Each step of a search keeps what holds of it.
-use Rattle.std.proofs.Common.{◌≡◌, ◌≢◌, ◌<◌, ◌≤◌, ◌+◌, ◌-◌, ◌⊎◌, inl, inr, ℕ, suc, zero, List, [], ◌∷◌, ◌++◌, length, set, take, drop, Option, Some, None, Vec, Bool, true, false, refl, sym, ap, subst, ◌∙◌, arith}
-use Rattle.std.specs.Prelude.{slice_get}
-use Rattle.std.specs.declared.alloc.Global.{Global}
-use Rattle.std.proofs.lemmas.Bool.{cases_eq, cases_lt}
-use Rattle.std.proofs.lemmas.Option.{slice_get_within}
-use Rattle.std.proofs.lemmas.List.{length-set}
-use Rattle.fast_order.specs.Order.{IsReference, Reaches, one, further}
-use Rattle.fast_order.specs.Search.{State, visiting, Joins, IsDone, NoneStarts, ToCome, IsNow, IsFollowed, Stands, entered}
-use Rattle.fast_order.specs.declared.order.Mark.{Mark}
-use Rattle.fast_order.specs.declared.order.Mark.TheVariants.{Unseen, Open, Done}
-use Rattle.fast_order.specs.declared.order.Visit.{Visit}
+use Rattle.fast_order.proofs.Common.{◌≡◌, ◌≢◌, ◌<◌, ◌≤◌, ◌+◌, ◌-◌, ◌⊎◌, inl, inr, ℕ, suc, zero, List, [], ◌∷◌, ◌++◌, length, set, take, drop, Option, Some, None, Vec, Bool, true, false, refl, sym, ap, subst, ◌∙◌, arith, slice_get, Global, cases_eq, cases_lt, slice_get_within, length-set, IsReference, Reaches, one, further, State, visiting, Joins, IsDone, NoneStarts, ToCome, IsNow, IsFollowed, Stands, entered, Mark, Unseen, Open, Done, Visit}
 
 -- ---- elements of lists
 

@@ -1,14 +1,5 @@
 -- Each turn of a search.
-use Rattle.std.proofs.Common.{◌≡◌, ◌≢◌, ◌<◌, ◌≤◌, ◌+◌, ◌-◌, ◌⊎◌, inl, inr, ℕ, List, [], ◌∷◌, ◌++◌, length, set, take, Option, Some, None, Vec, Bool, true, refl, sym, ap, subst, ◌∙◌, arith, get_or, IsTrue, ◌↔◌}
-use Rattle.std.specs.Prelude.{slice_get, MatchOption}
-use Rattle.std.specs.declared.alloc.Global.{Global}
-use Rattle.std.proofs.lemmas.Bool.{cases_lt}
-use Rattle.std.proofs.lemmas.Option.{slice_get_within, slice_get-get_or, get_or_from_slice_get}
-use Rattle.std.proofs.lemmas.List.{take_more, take_all}
-use Rattle.fast_order.specs.Order.{IsReference, AreWithin}
-use Rattle.fast_order.specs.Search.{State, visiting, IsDone, IsFollowed, Stands, KeepsSeen, Advances, path_steps, steps_left, entered, closed}
-use Rattle.fast_order.specs.declared.order.Mark.TheVariants.{Unseen, Open}
-use Rattle.fast_order.specs.declared.order.Visit.{Visit}
+use Rattle.fast_order.proofs.Common.{◌≡◌, ◌≢◌, ◌<◌, ◌≤◌, ◌+◌, ◌-◌, ◌⊎◌, inl, inr, ℕ, List, [], ◌∷◌, ◌++◌, length, set, take, Option, Some, None, Vec, Bool, true, refl, sym, ap, subst, ◌∙◌, arith, get_or, IsTrue, ◌↔◌, slice_get, MatchOption, Global, cases_lt, slice_get_within, slice_get-get_or, get_or_from_slice_get, take_more, take_all, IsReference, AreWithin, State, visiting, IsDone, IsFollowed, Stands, KeepsSeen, Advances, path_steps, steps_left, entered, closed, Unseen, Open, Visit}
 use Rattle.fast_order.proofs.SearchSteps.{at_old, at_last, at_push, at_set_same, advanced, resolved, opened_one, lowered, left, IsThrough, joins_reference}
 use Rattle.fast_order.proofs.SearchGroups.{IsJudged, is_judged, group_done, fewer_on, fewer_entered, fewer_left, fewer_closed, entered_seen, closed_seen, done_at_rest}
 

@@ -1,24 +1,6 @@
 -- What is taken of a part is of its type, and of a mandatory one it is there.
-use Rattle.std.proofs.Common.{◌≡◌, ◌<◌, ℕ, Bool, true, List, Option, Some, None, Result, Ok, Err, ap, drop, get_or, subst, ◌∙◌}
-use Rattle.std.specs.Prelude.{IfSome, IsTrue}
-use Rattle.fast_wire.specs.declared.level.Level.{Level}
-use Rattle.fast_value.specs.Scalar.{is_of}
-use Rattle.fast_value.specs.declared.kind.Kind.{Kind}
-use Rattle.fast_value.specs.declared.kind.Part.{Part}
-use Rattle.fast_value.specs.declared.kind.Presence.TheVariants.{Mandatory}
-use Rattle.fast_value.specs.declared.scalar.Scalar.{Scalar}
-use Rattle.fast_template.specs.declared.resolved.FieldPart.{FieldPart}
-use Rattle.fast_dictionary.specs.Dictionary.{Dictionary, entry_at, set_entry, set_entry-there}
-use Rattle.fast_dictionary.specs.declared.entry.Entry.{Entry}
-use Rattle.fast_field.specs.AsUsual.{ReadsAsUsual}
-use Rattle.fast_field.specs.Parts.{IsBitOf, IsKindOfPart}
-use Rattle.fast_relay.specs.Relayed.{Takes as TakesAtOnce}
-use Rattle.fast_walk.specs.Received.{Took, TookFrom}
-use Rattle.fast_walk.specs.Told.{IsTold}
-use Rattle.fast_walk.proofs.Passings.{took_of}
-use Rattle.fast_field.specs.declared.fault.FieldFault.{FieldFault}
+use Rattle.fast_part.proofs.Common.{◌≡◌, ◌<◌, ℕ, Bool, true, List, Option, Some, None, Result, Ok, Err, ap, drop, get_or, subst, ◌∙◌, IfSome, IsTrue, Level, is_of, Kind, Part, Mandatory, Scalar, FieldPart, Dictionary, entry_at, set_entry, set_entry-there, Entry, ReadsAsUsual, IsBitOf, IsKindOfPart, Takes as TakesAtOnce, Took, TookFrom, IsTold, took_of, FieldFault, told_kind, told_there}
 use Rattle.fast_part.specs.Taking.{Takes, TakesFrom}
-use Rattle.fast_walk.proofs.Telling.{told_kind, told_there}
 
 -- what is taken at once where it is read as at the usual level
 pub took_as_usual : {level : Level} {p : FieldPart} {old new : Entry} {v : Scalar} {bytes rest : List ℕ} → ReadsAsUsual level p bytes → TakesAtOnce p old new v bytes rest → TookFrom level p true old new (Some v) bytes rest

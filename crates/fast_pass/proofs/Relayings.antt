@@ -1,36 +1,6 @@
 -- Lemmas on a stream on its way through an output.
-use Rattle.std.proofs.Common.{◌≡◌, ◌≤◌, ℕ, ◌+◌, ◌-◌, min, List, [], ◌∷◌, ◌++◌, length, length-append, take, drop, append_assoc, append-nil, arith, Option, None, Result, Ok, Err, refl, ap, sym, ◌∙◌, ◌⊎◌, inl, inr}
-use Rattle.std.proofs.lemmas.List.{take_rest}
-use Rattle.fast_template.specs.Resolved.{Resolved}
-use Rattle.fast_template.specs.TemplateSets.{templates_in}
-use Rattle.fast_dictionary.specs.Dictionary.{Dictionary}
-use Rattle.fast_dictionary.specs.declared.entries.Entries.{Ghosts}
-use Rattle.fast_decoder.specs.declared.input.Reached.{Reached}
-use Rattle.fast_decoder.specs.declared.input.Reached.TheVariants as reached
-use Rattle.fast_machine.specs.declared.machine.Machine.{Machine}
+use Rattle.fast_pass.proofs.Common.{◌≡◌, ◌≤◌, ℕ, ◌+◌, ◌-◌, min, List, [], ◌∷◌, ◌++◌, length, length-append, take, drop, append_assoc, append-nil, arith, Option, None, Result, Ok, Err, refl, ap, sym, ◌∙◌, ◌⊎◌, inl, inr, take_rest, Resolved, templates_in, Dictionary, Ghosts, Reached, Machine, Reader, Reads, Refuses, Fault, Mode, Content, FollowsTaken, Carried, Follows, mode_of, Keeps, counted_by, Taken, Appends-kept, Appends-nil, Appends-trans, all_carried, has_kept, take_again, carried_of, Passes, PassesBy, PassesFront, Break, HandsOn, Making, Relays, Step, Way, answer_of, farther, outset, CanonFault, Stop, Summary, handed_on}
 use Rattle.fast_walk.specs.declared.receiver.Receiver.{Ghosts as Receiving}
-use Rattle.fast_decoder.specs.Inputs.{Reader, Reads, Refuses}
-use Rattle.fast_stream.specs.declared.fault.Fault.{Fault}
-use Rattle.fast_stream.specs.declared.mode.Mode.{Mode}
-use Rattle.fast_stream.specs.Nodes.{Content}
-use Rattle.fast_machine.specs.Calls.{FollowsTaken}
-use Rattle.fast_machine.specs.Standing.{Carried}
-use Rattle.fast_machine.specs.Following.{Follows, mode_of}
-use Rattle.std.specs.Io.KnownBytes.{Keeps}
-use Rattle.fast_io.specs.Counts.{counted_by}
-use Rattle.fast_io.specs.Traffic.{Taken}
-use Rattle.fast_io.proofs.Outputs.{Appends-kept, Appends-nil, Appends-trans}
-use Rattle.fast_machine.proofs.Followings.{all_carried, has_kept}
-use Rattle.fast_machine.proofs.MessageEnds.{take_again}
-use Rattle.fast_machine.proofs.Runs.{carried_of}
-use Rattle.fast_pass.specs.Passed.{Passes, PassesBy, PassesFront}
-use Rattle.fast_pass.specs.Relays.{Break, HandsOn, Making, Relays, Step, Way, answer_of, farther, outset}
-use Rattle.fast_pass.specs.declared.fault.CanonFault.{CanonFault}
-use Rattle.fast_pass.specs.declared.fault.CanonFault.TheVariants as refusal
-use Rattle.fast_pass.specs.declared.stop.Stop.{Stop}
-use Rattle.fast_pass.specs.declared.stop.Stop.TheVariants as stop
-use Rattle.fast_pass.specs.declared.summary.Summary.{Summary}
-use Rattle.fast_walk.specs.Received.{handed_on}
 
 -- what a front carries, the whole carries in a front
 pub carried_more : (mode : Mode) (set : List Resolved) (bytes more : List ℕ) (messages : List Content) → Carried mode set bytes messages → Carried mode set (bytes ++ more) messages
@@ -72,19 +42,19 @@ made_by {receiver = R} {entries = entries} waiting makes law m way f =
 
 -- a machine that follows its bytes goes on
 pub goes_on : {O E : Type 0} {receiver : Receiving O} {entries : Ghosts E} {waiting : O → List ℕ} {makes : Making} → IsMade receiver waiting makes → (m : Machine O E receiver entries) (turns : ℕ) (left : Option (List ℕ)) (way : Way)
-    → m.fault ≡ None → Follows m (handed_on way.handed ∷ way.messages) way.input way.messages → Relays waiting makes reached.Open m turns left way
+    → m.fault ≡ None → Follows m (handed_on way.handed ∷ way.messages) way.input way.messages → Relays waiting makes Reached.Open m turns left way
 goes_on {waiting = waiting} {makes = makes} law m turns left way none f = record { holds = record { unrefused = none; follows = f }; made = made_by waiting makes law m way f; counts = λ e. absurd cc }
 
 -- or stops where they are refused
 pub stops : {O E : Type 0} {receiver : Receiving O} {entries : Ghosts E} {waiting : O → List ℕ} {makes : Making} → IsMade receiver waiting makes → (m : Machine O E receiver entries) (turns : ℕ) (left : Option (List ℕ)) (way : Way) (f : Fault)
-    → Refuses (mode_of m) (templates_in m.traversal.set.now) turns left way.input way.messages f → Follows m (handed_on way.handed ∷ way.messages) way.input way.messages → Relays waiting makes (reached.Fault f) m turns left way
+    → Refuses (mode_of m) (templates_in m.traversal.set.now) turns left way.input way.messages f → Follows m (handed_on way.handed ∷ way.messages) way.input way.messages → Relays waiting makes (Reached.Fault f) m turns left way
 stops {waiting = waiting} {makes = makes} law m turns left way f refuses g = record { holds = refuses; made = made_by waiting makes law m way g; counts = λ e. absurd cc }
 
 carried_by : {O E : Type 0} {receiver : Receiving O} {entries : Ghosts E} {waiting : O → List ℕ} {makes : Making} {turns : ℕ} {left : Option (List ℕ)} (at : Reached) (m : Machine O E receiver entries) (way : Way)
     → Relays waiting makes at m turns left way → Carried (mode_of m) (templates_in m.traversal.set.now) way.input way.messages
-carried_by reached.Open m way r = let f = rw (r.holds.unrefused) at r.holds.follows.at in carried_of f.0
-carried_by reached.End m way r = all_carried (mode_of m) (templates_in m.traversal.set.now) way.input way.messages r.holds.carried
-carried_by (reached.Fault f) m way r = r.holds.carried
+carried_by Reached.Open m way r = let f = rw (r.holds.unrefused) at r.holds.follows.at in carried_of f.0
+carried_by Reached.End m way r = all_carried (mode_of m) (templates_in m.traversal.set.now) way.input way.messages r.holds.carried
+carried_by (Reached.Fault f) m way r = r.holds.carried
 
 -- ---- steps
 
@@ -161,8 +131,8 @@ module _ {O E : Type 0} {receiver : Receiving O} {entries : Ghosts E} {waiting :
 
 -- the next bytes of a chunk were fed, up to the end of a message
 pub feeds_on : {O E : Type 0} {receiver : Receiving O} {entries : Ghosts E} {waiting : O → List ℕ} {makes : Making} {m : Machine O E receiver entries} {turns : ℕ} {left t u : Option (List ℕ)} {size : ℕ} {way : Way} {B : Type 0} → IsMade receiver waiting makes
-    → (bytes : List ℕ) (k n : ℕ) (new : Machine O E receiver entries) → Step waiting makes reached.Open m turns left t u size way (take k bytes) B → new.fault ≡ None → FollowsTaken m (take (length bytes - k) (drop k bytes)) (Ok n) new
-    → Step waiting makes reached.Open new turns left t u size way (take (k + n) bytes) B
+    → (bytes : List ℕ) (k n : ℕ) (new : Machine O E receiver entries) → Step waiting makes Reached.Open m turns left t u size way (take k bytes) B → new.fault ≡ None → FollowsTaken m (take (length bytes - k) (drop k bytes)) (Ok n) new
+    → Step waiting makes Reached.Open new turns left t u size way (take (k + n) bytes) B
 feeds_on {turns = turns} {left = left} law bytes k n new s none fed =
     let f = fed (handed_on (behind s).handed ∷ (behind s).messages) (behind s).input (behind s).messages s.relays.holds.follows in
     let same = ap (λ (xs : List ℕ). take k bytes ++ take n xs) (take_rest bytes k) ∙ take_again k n bytes in
@@ -180,12 +150,12 @@ front_of b = record { messages = b.ended; front = b.more; rest = b.rest; carried
 -- whatever kept it from going on
 pub broke_off : {O E : Type 0} {receiver : Receiving O} {entries : Ghosts E} {makes : Making} {mode : Mode} {set : List Resolved} (turns : ℕ) {a b : Reader} {t u : Option (List ℕ)} (m : Machine O E receiver entries) (s : Stop) (count : ℕ) {input : List ℕ}
     → Reads a b count input → count ≤ turns → PassesFront makes mode set t u input → PassesBy makes mode set turns a b t u (answer_of (Err s) m)
-broke_off turns m stop.Write count {input = input} reads few front = (count, input, reads, few, front, tt)
-broke_off turns m stop.Memory count {input = input} reads few front = (count, input, reads, few, front, tt)
+broke_off turns m Stop.Write count {input = input} reads few front = (count, input, reads, few, front, tt)
+broke_off turns m Stop.Memory count {input = input} reads few front = (count, input, reads, few, front, tt)
 
 -- a flush behind a relay keeps what was written
 pub passes_front : {makes : Making} {mode : Mode} {set : List Resolved} (turns : ℕ) (left u : Option (List ℕ)) {t v : Option (List ℕ)} {input : List ℕ} (r : Result Summary CanonFault) → Keeps u v → Passes makes mode set turns left t u input r → PassesFront makes mode set t v input
 passes_front {mode = mode} {set = set} turns left u {input = input} (Ok s) kept p =
     record { messages = p.messages; front = p.out; rest = []; carried = all_carried mode set input p.messages p.ends.carried; made = rw (append-nil p.out) p.made; written = Appends-kept _ _ _ p.out p.written kept }
-passes_front turns left u (Err (refusal.Stream f)) kept p = record { messages = p.messages; front = p.out; rest = []; carried = p.refuses.carried; made = rw (append-nil p.out) p.made; written = Appends-kept _ _ _ p.out p.written kept }
+passes_front turns left u (Err (CanonFault.Stream f)) kept p = record { messages = p.messages; front = p.out; rest = []; carried = p.refuses.carried; made = rw (append-nil p.out) p.made; written = Appends-kept _ _ _ p.out p.written kept }
 passes_front turns left u (Err f) kept p = record { messages = p.messages; front = p.front; rest = p.rest; carried = p.carried; made = p.made; written = Appends-kept _ _ _ p.front p.written kept }

@@ -6,11 +6,10 @@ use Rattle.fast_stream.specs.declared.fault.Fault.{Fault}
 use Rattle.fast_stream.specs.declared.mode.Mode.{Mode}
 use Rattle.fast_stream.specs.Nodes.{Content}
 use Rattle.fast_io.specs.Counts.{counted, counted_by}
-use Rattle.fast_decoder.specs.declared.input.Reached.TheVariants as reached
+use Rattle.fast_decoder.specs.declared.input.Reached.{Reached}
 use Rattle.fast_decoder.specs.Inputs.{EndsWith, IsCaused, Reader, Reads, Refuses}
 use Rattle.fast_machine.specs.Standing.{Carried}
 use Rattle.fast_pass.specs.declared.fault.CanonFault.{CanonFault}
-use Rattle.fast_pass.specs.declared.fault.CanonFault.TheVariants as refusal
 use Rattle.fast_pass.specs.declared.summary.Summary.{Summary}
 use Rattle.fast_pass.specs.Relays.{Making}
 
@@ -44,7 +43,7 @@ pub record PassesFront (makes : Making) (mode : Mode) (set : List Resolved) (tak
 -- What passes of a stream through an output.
 abbrev pub Passes : Making → Mode → List Resolved → ℕ → Option (List ℕ) → Option (List ℕ) → Option (List ℕ) → List ℕ → Result Summary CanonFault → Type 0
 Passes makes mode set turns left taken_old taken_new input (Ok summary) = PassesAll makes mode set left taken_old taken_new input summary
-Passes makes mode set turns left taken_old taken_new input (Err (refusal.Stream fault)) = PassesBefore makes mode set turns left taken_old taken_new input fault
+Passes makes mode set turns left taken_old taken_new input (Err (CanonFault.Stream fault)) = PassesBefore makes mode set turns left taken_old taken_new input fault
 Passes makes mode set turns left taken_old taken_new input (Err f) = PassesFront makes mode set taken_old taken_new input
 
 -- ---- the calls of the reader and the writer
@@ -52,7 +51,7 @@ Passes makes mode set turns left taken_old taken_new input (Err f) = PassesFront
 -- an answer has its cause in the counts of the reader
 abbrev pub IsCausedBy : Result Summary CanonFault → Type 0 → Reader → Reader → Type 0
 IsCausedBy (Ok summary) UsedUp old new = (new.ends ≡ counted old.ends) × (new.errors ≡ old.errors)
-IsCausedBy (Err (refusal.Stream fault)) UsedUp old new = IsCaused (reached.Fault fault) UsedUp old new
+IsCausedBy (Err (CanonFault.Stream fault)) UsedUp old new = IsCaused (Reached.Fault fault) UsedUp old new
 IsCausedBy (Err f) UsedUp old new = Unit {0}
 
 -- So many reads, no more than asked for, gave bytes of which this passes, and the reader's counts show why this is answered.
@@ -62,11 +61,11 @@ PassesBy makes mode set turns old new taken_old taken_new result =
 
 -- a failed write is answered exactly where a call of the writer failed
 abbrev pub errors_after : Result Summary CanonFault → ℕ → ℕ
-errors_after (Err refusal.Write) old = counted old
+errors_after (Err CanonFault.Write) old = counted old
 errors_after r old = old
 
 -- one flush before the end and before a refused stream is answered
 abbrev pub FlushesOnce : Result Summary CanonFault → ℕ → ℕ → Type 0
 FlushesOnce (Ok summary) old new = new ≡ counted old
-FlushesOnce (Err (refusal.Stream fault)) old new = new ≡ counted old
+FlushesOnce (Err (CanonFault.Stream fault)) old new = new ≡ counted old
 FlushesOnce (Err f) old new = Unit {0}

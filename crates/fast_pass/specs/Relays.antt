@@ -7,7 +7,6 @@ use Rattle.fast_template.specs.Resolved.{Resolved}
 use Rattle.fast_template.specs.TemplateSets.{templates_in}
 use Rattle.fast_dictionary.specs.declared.entries.Entries.{Ghosts}
 use Rattle.fast_decoder.specs.declared.input.Reached.{Reached}
-use Rattle.fast_decoder.specs.declared.input.Reached.TheVariants as reached
 use Rattle.fast_machine.specs.declared.machine.Machine.{Machine}
 use Rattle.fast_walk.specs.declared.receiver.Receiver.{Ghosts as Receiving}
 use Rattle.fast_stream.specs.Nodes.{Content}
@@ -20,9 +19,7 @@ use Rattle.fast_decoder.specs.Inputs.{HasReached, OnFault}
 use Rattle.fast_machine.specs.Standing.{Carried}
 use Rattle.fast_walk.specs.Received.{handed_on}
 use Rattle.fast_pass.specs.declared.fault.CanonFault.{CanonFault}
-use Rattle.fast_pass.specs.declared.fault.CanonFault.TheVariants as refusal
 use Rattle.fast_pass.specs.declared.stop.Stop.{Stop}
-use Rattle.fast_pass.specs.declared.stop.Stop.TheVariants as stop
 use Rattle.fast_pass.specs.declared.summary.Summary.{Summary}
 
 -- what an output makes of messages of a set
@@ -56,7 +53,7 @@ pub record GoesOn {O E : Type 0} {receiver : Receiving O} {entries : Ghosts E} (
 pub record Relays {O E : Type 0} {receiver : Receiving O} {entries : Ghosts E} (waiting : O → List ℕ) (makes : Making) (at : Reached) (m : Machine O E receiver entries) (turns : ℕ) (left : Option (List ℕ)) (way : Way) : Type 0 where
   pub holds : HasReached at (GoesOn m way) (mode_of m) (templates_in m.traversal.set.now) turns left way.input way.messages
   pub made : makes (templates_in m.traversal.set.now) way.messages (way.handed ++ waiting m.receiver)
-  pub counts : at ≡ reached.End → Counts m.fed m.messages way.input way.messages
+  pub counts : at ≡ Reached.End → Counts m.fed m.messages way.input way.messages
 
 -- ---- a step
 
@@ -71,7 +68,7 @@ pub record Step {O E : Type 0} {receiver : Receiving O} {entries : Ghosts E} (wa
 
 -- the bytes of one read end no stream, and are refused for what they are
 abbrev pub IsOfBytes : Reached → Type 0
-IsOfBytes at = (at ≢ reached.End) × OnFault at (λ c. (c ≢ Truncated) × (c ≢ Read) × (c ≢ Turns))
+IsOfBytes at = (at ≢ Reached.End) × OnFault at (λ c. (c ≢ Truncated) × (c ≢ Read) × (c ≢ Turns))
 
 -- Behind a way these bytes more were read, and a write failed or memory was refused: a front of what more was made is handed on.
 pub record Break (makes : Making) (mode : Mode) (set : List Resolved) (taken_old taken_new : Option (List ℕ)) (way : Way) (got : List ℕ) : Type 0 where
@@ -86,8 +83,8 @@ pub record Break (makes : Making) (mode : Mode) (set : List Resolved) (taken_old
 -- is a cause, or a break.
 abbrev pub Goes : {O E : Type 0} {receiver : Receiving O} {entries : Ghosts E} → (O → List ℕ) → Making → Result (Reached × ℕ) Stop → Machine O E receiver entries → Machine O E receiver entries → Option (List ℕ) → Option (List ℕ) → Option (List ℕ) → Option (List ℕ) → List ℕ → (Reached → Type 0) → Type 0
 Goes waiting makes result old new left later taken_old taken_new got Because = MatchResult result
-    (λ x. (turns : ℕ) (way : Way) → Relays waiting makes reached.Open old turns left way → Step waiting makes x.0 new turns later taken_old taken_new x.1 way got (Because x.0))
-    (λ s. (turns : ℕ) (way : Way) → Relays waiting makes reached.Open old turns left way → Break makes (mode_of new) (templates_in new.traversal.set.now) taken_old taken_new way got)
+    (λ x. (turns : ℕ) (way : Way) → Relays waiting makes Reached.Open old turns left way → Step waiting makes x.0 new turns later taken_old taken_new x.1 way got (Because x.0))
+    (λ s. (turns : ℕ) (way : Way) → Relays waiting makes Reached.Open old turns left way → Break makes (mode_of new) (templates_in new.traversal.set.now) taken_old taken_new way got)
 
 -- ---- what is handed on
 
@@ -113,13 +110,13 @@ pub record StandsStill {O E : Type 0} {receiver : Receiving O} {entries : Ghosts
 -- a stream that was read to its end, of which so many bytes were handed on, or to a fault, or what kept its relay from going on
 abbrev pub answer_of : {O E : Type 0} {receiver : Receiving O} {entries : Ghosts E} → Result (Option Fault × ℕ) Stop → Machine O E receiver entries → Result Summary CanonFault
 answer_of (Ok (None, size)) m = Ok (record { messages = m.messages; read = m.fed; written = size })
-answer_of (Ok (Some fault, size)) m = Err (refusal.Stream fault)
-answer_of (Err stop.Write) m = Err refusal.Write
-answer_of (Err stop.Memory) m = Err refusal.Memory
+answer_of (Ok (Some fault, size)) m = Err (CanonFault.Stream fault)
+answer_of (Err Stop.Write) m = Err CanonFault.Write
+answer_of (Err Stop.Memory) m = Err CanonFault.Memory
 
 -- ---- the calls of the writer
 
 -- a call of the writer failed where a failed write keeps the relay from going on, and only there
 abbrev pub errors_behind : {T : Type 0} → Result T Stop → ℕ → ℕ
-errors_behind (Err stop.Write) old = counted old
+errors_behind (Err Stop.Write) old = counted old
 errors_behind r old = old

@@ -1,14 +1,5 @@
 -- The high bits of a word say whether its bytes are ASCII.
-use Rattle.std.proofs.Common.{◌≡◌, ℕ, zero, suc, ◌+◌, ◌*◌, ◌/◌, ◌<◌, List, length, get_or, refl, sym, ap, ◌∙◌, inl, inr, arith}
-use Rattle.std.proofs.Math.Logic.{◌↔◌}
-use Rattle.std.proofs.lemmas.Bool.{cases_lt, eq-eqb, eqb-true}
-use Rattle.std.proofs.lemmas.List.{get_or_past}
-use Rattle.std.proofs.lemmas.Nat.{and_block}
-use Rattle.std.proofs.lemmas.Nat.Bits.{and_high_mask}
-use Rattle.std.specs.Int.{w64, from_le_bytes}
-use Rattle.std.specs.Int.Bits.{bit_and}
-use Rattle.std.specs.Prelude.{◌==◌, IsTrue}
-use Rattle.std.specs.Str.{IsAscii}
+use Rattle.fast_relay.proofs.Common.{◌≡◌, ℕ, zero, suc, ◌+◌, ◌*◌, ◌/◌, ◌<◌, List, length, get_or, refl, sym, ap, ◌∙◌, inl, inr, arith, ◌↔◌, cases_lt, eq-eqb, eqb-true, get_or_past, and_block, and_high_mask, w64, from_le_bytes, bit_and, ◌==◌, IsTrue, IsAscii}
 
 -- the number that n bytes from k on spell, the least first
 abbrev spelled : (ℕ → ℕ) → ℕ → ℕ → ℕ

@@ -1,25 +1,5 @@
 -- What decimals rest on that are judged as they stand.
-use Rattle.std.proofs.Common.{◌≡◌, ℕ, Bool, true, List, drop, slice_range, refl, sym, subst, ◌∙◌}
-use Rattle.std.specs.Prelude.{ℤ, ◌+ℤ◌, Some}
-use Rattle.fast_value.specs.Scalar.{exponent_in_range, in_range}
-use Rattle.fast_value.specs.declared.kind.Kind.TheVariants as kind
-use Rattle.fast_value.specs.declared.kind.Operator.TheVariants as operator
-use Rattle.fast_value.specs.declared.kind.Part.TheVariants as part
-use Rattle.fast_value.specs.declared.kind.Presence.{Presence}
-use Rattle.fast_value.specs.declared.kind.Presence.TheVariants.{Mandatory}
-use Rattle.fast_template.specs.declared.resolved.FieldPart.{FieldPart}
-use Rattle.fast_value.specs.declared.scalar.Scalar.TheVariants.{Decimal}
-use Rattle.fast_dictionary.specs.declared.entry.Entry.{Entry}
-use Rattle.fast_dictionary.specs.declared.entry.Entry.TheVariants.{Assigned}
-use Rattle.fast_field.specs.Chosen.{ShortestPair}
-use Rattle.fast_field.specs.Bases.{next as next_entry}
-use Rattle.fast_field.specs.Fields.{FormOf}
-use Rattle.fast_field.proofs.BestDeltas.{IsFirst}
-use Rattle.fast_value.specs.declared.kind.Operator.{Operator}
-use Rattle.fast_wire.specs.declared.level.Level.TheVariants.{Usual}
-use Rattle.fast_relay.specs.Judged.{Leaves, PairGives, PairStandsFrom}
-use Rattle.fast_relay.specs.Numbers.{SpellsWhole}
-use Rattle.fast_field.proofs.ChosenForms.{whole_shortest}
+use Rattle.fast_relay.proofs.Common.{◌≡◌, ℕ, Bool, true, List, drop, slice_range, refl, sym, subst, ◌∙◌, ℤ, ◌+ℤ◌, Some, exponent_in_range, in_range, Kind, Part, Presence, Mandatory, FieldPart, Decimal, Entry, Assigned, ShortestPair, next as next_entry, FormOf, IsFirst, Operator, Usual, Leaves, PairGives, PairStandsFrom, SpellsWhole, whole_shortest}
 use Rattle.fast_relay.proofs.DecimalRelaying.{decimal_of, delta_as, delta_first, delta_read, of_type, whole_read}
 use Rattle.fast_relay.proofs.Ranges.{range_split}
 use Rattle.fast_relay.proofs.Standing.{shortest_signed}
@@ -38,7 +18,7 @@ pair_shortest p bytes at first next x m s =
       second = shortest_signed Mandatory m back s.mantissa.form s.mantissa.short;
     }
 
-pub decimal_gives : (bit : Bool) (i : FieldPart) (old new : Entry) (x m : ℤ) → i.kind ≡ kind.Decimal → i.part ≡ part.Whole → SpellsWhole i.operator → exponent_in_range x ≡ true → in_range kind.Int64 m ≡ true → Leaves bit i old new (Some (Decimal x m)) → PairGives bit i old new x m
+pub decimal_gives : (bit : Bool) (i : FieldPart) (old new : Entry) (x m : ℤ) → i.kind ≡ Kind.Decimal → i.part ≡ Part.Whole → SpellsWhole i.operator → exponent_in_range x ≡ true → in_range Kind.Int64 m ≡ true → Leaves bit i old new (Some (Decimal x m)) → PairGives bit i old new x m
 decimal_gives bit i old new x m k p o near fits l = λ bytes at first next s.
     let v = Decimal x m in
     let form = slice_range bytes first next in
@@ -49,7 +29,7 @@ decimal_gives bit i old new x m k p o near fits l = λ bytes at first next s.
           (whole_first i.operator i old (Some v) form o (whole_shortest i.kind i.presence v form (of_type i.kind x m k near fits) (pair_shortest i.presence bytes at first next x m s))),
     )
 
-assigned_adds : (i : FieldPart) (new : Entry) (x m dx dm : ℤ) → i.kind ≡ kind.Decimal → i.operator ≡ operator.Delta → i.part ≡ part.Whole → exponent_in_range (x +ℤ dx) ≡ true → in_range kind.Int64 (m +ℤ dm) ≡ true → new ≡ Assigned (Decimal (x +ℤ dx) (m +ℤ dm))
+assigned_adds : (i : FieldPart) (new : Entry) (x m dx dm : ℤ) → i.kind ≡ Kind.Decimal → i.operator ≡ Operator.Delta → i.part ≡ Part.Whole → exponent_in_range (x +ℤ dx) ≡ true → in_range Kind.Int64 (m +ℤ dm) ≡ true → new ≡ Assigned (Decimal (x +ℤ dx) (m +ℤ dm))
     → PairGives true i (Assigned (Decimal x m)) new dx dm
 assigned_adds i new x m dx dm k o p near fits entry = λ bytes at first next s.
     let old = Assigned (Decimal x m) in
@@ -63,6 +43,6 @@ assigned_adds i new x m dx dm k o p near fits entry = λ bytes at first next s.
           (subst (λ (o : Operator). IsFirst (λ c b. FormOf Usual o i old true c b (Some v)) form) (sym o) (delta_first i x m dx dm form k near fits (pair_shortest i.presence bytes at first next dx dm s))),
     )
 
-pub decimal_adds : (i : FieldPart) (old new : Entry) (x m dx dm : ℤ) → old ≡ Assigned (Decimal x m) → i.kind ≡ kind.Decimal → i.operator ≡ operator.Delta → i.part ≡ part.Whole → exponent_in_range (x +ℤ dx) ≡ true → in_range kind.Int64 (m +ℤ dm) ≡ true
+pub decimal_adds : (i : FieldPart) (old new : Entry) (x m dx dm : ℤ) → old ≡ Assigned (Decimal x m) → i.kind ≡ Kind.Decimal → i.operator ≡ Operator.Delta → i.part ≡ Part.Whole → exponent_in_range (x +ℤ dx) ≡ true → in_range Kind.Int64 (m +ℤ dm) ≡ true
     → new ≡ Assigned (Decimal (x +ℤ dx) (m +ℤ dm)) → PairGives true i old new dx dm
 decimal_adds i old new x m dx dm is k o p near fits entry = subst (λ (e : Entry). PairGives true i e new dx dm) (sym is) (assigned_adds i new x m dx dm k o p near fits entry)

@@ -1,32 +1,7 @@
 -- What numbers rest on that are judged as they stand.
-use Rattle.std.proofs.Common.{◌≡◌, ◌≤◌, ℕ, Bool, true, false, List, length, drop, slice_range, refl, rules, sym, ap, subst, ◌∙◌}
-use Rattle.std.specs.Prelude.{ℤ, Some}
-use Rattle.fast_wire.specs.Reader.{IsBytes}
-use Rattle.fast_value.specs.Scalar.{is_of, of_integer, scalar_eq-exact, scalar_eq-same}
+use Rattle.fast_relay.proofs.Common.{◌≡◌, ◌≤◌, ℕ, Bool, true, false, List, length, drop, slice_range, refl, rules, sym, ap, subst, ◌∙◌, ℤ, Some, IsBytes, is_of, of_integer, scalar_eq-exact, scalar_eq-same, Kind, Operator, Presence, FieldPart, Scalar, Entry, Assigned, next, HasNumber, IsNumber, next_number, left_out_of, overlong_number, integer_of, increased_is, kind_is, number_back, IfFound, Leaves, StandsAt, Spelt, Judged, Stands, Behind, BehindTwo, Given, Elsewhere, None, arith, HasBest, JudgedTo}
 use Rattle.fast_value.specs.contracts.scalar.ScalarPartialEq.TheImpl as scalar_eq
-use Rattle.fast_value.specs.declared.kind.Kind.{Kind}
-use Rattle.fast_value.specs.declared.kind.Operator.{Operator}
-use Rattle.fast_value.specs.declared.kind.Operator.TheVariants as operator
-use Rattle.fast_value.specs.declared.kind.Presence.{Presence}
-use Rattle.fast_template.specs.declared.resolved.FieldPart.{FieldPart}
-use Rattle.fast_value.specs.declared.scalar.Scalar.{Scalar}
-use Rattle.fast_dictionary.specs.declared.entry.Entry.{Entry}
-use Rattle.fast_dictionary.specs.declared.entry.Entry.TheVariants.{Assigned}
-use Rattle.fast_field.specs.Bases.{next}
-use Rattle.fast_field.specs.Numbers.{HasNumber, IsNumber, next_number}
-use Rattle.fast_field.specs.Planning.{left_out_of}
-use Rattle.fast_field.specs.Spelled.{overlong_number}
-use Rattle.fast_field.specs.Values.{integer_of}
-use Rattle.fast_field.proofs.Passing.{increased_is, kind_is, number_back}
-use Rattle.fast_relay.specs.Judged.{IfFound, Leaves, StandsAt}
-use Rattle.fast_relay.specs.Numbers.{Spelt}
-use Rattle.fast_relay.specs.declared.judged.Judged.{Judged}
-use Rattle.fast_relay.specs.declared.judged.Judged.TheVariants.{Stands, Behind, BehindTwo, Given, Elsewhere}
 use Rattle.fast_relay.proofs.Standing.{standing}
-use Rattle.std.specs.Prelude.{None}
-use Rattle.std.proofs.Common.{arith}
-use Rattle.fast_relay.specs.Best.{HasBest}
-use Rattle.fast_relay.specs.Judged.{JudgedTo}
 use Rattle.fast_relay.proofs.Ranges.{range_none}
 
 -- ---- what is handed on
@@ -45,13 +20,13 @@ stands_at u p bytes at next z fits le within h short = record { spelt = h; form 
 
 -- ---- numbers by the one that the entry has
 
-increments : (k : Kind) (i : FieldPart) (e : Entry) (y : ℤ) (w : Scalar) → k ≡ i.kind → i.operator ≡ operator.Increment → HasNumber k e y → left_out_of i.operator i e (Some w) ≡ (scalar_eq.eq-value).it (of_integer k (next_number k y)) w
+increments : (k : Kind) (i : FieldPart) (e : Entry) (y : ℤ) (w : Scalar) → k ≡ i.kind → i.operator ≡ Operator.Increment → HasNumber k e y → left_out_of i.operator i e (Some w) ≡ (scalar_eq.eq-value).it (of_integer k (next_number k y)) w
 increments k i (Assigned v) y w same o h =
     let is : is_of i.kind v ≡ true = subst (λ (x : Kind). is_of x v ≡ true) same (kind_is k v y h) in
     ap (λ (x : Operator). left_out_of x i (Assigned v) (Some w)) o ∙ rw (is, o, increased_is k v y h) refl
 increments k i e y w same o h = absurd h
 
-number_next : (i : FieldPart) (old new : Entry) (v : Scalar) → i.operator ≡ operator.Increment → new ≡ Assigned v → new ≡ next i old (Some v)
+number_next : (i : FieldPart) (old new : Entry) (v : Scalar) → i.operator ≡ Operator.Increment → new ≡ Assigned v → new ≡ next i old (Some v)
 number_next i old new v o entry = rw o entry
 
 number_kept : (k : Kind) (e : Entry) (y : ℤ) → HasNumber k e y → IsNumber k y
@@ -61,7 +36,7 @@ number_kept k e y h = absurd h
 next_fits : (k : Kind) (y : ℤ) → IsNumber k y → IsNumber k (next_number k y)
 next_fits k y h = search rules depth 2
 
-pub increment_gives : (k : Kind) (i : FieldPart) (old new : Entry) (y z : ℤ) → k ≡ i.kind → i.operator ≡ operator.Increment → HasNumber k old y → next_number k y ≡ z → new ≡ Assigned (of_integer k z) → Leaves false i old new (Some (of_integer k z))
+pub increment_gives : (k : Kind) (i : FieldPart) (old new : Entry) (y z : ℤ) → k ≡ i.kind → i.operator ≡ Operator.Increment → HasNumber k old y → next_number k y ≡ z → new ≡ Assigned (of_integer k z) → Leaves false i old new (Some (of_integer k z))
 increment_gives k i old new y z same o h is entry = record {
   entry = number_next i old new (of_integer k z) o entry;
   left_out = increments k i old y (of_integer k z) same o h ∙ rw is (scalar_eq-same (of_integer k z));
@@ -71,7 +46,7 @@ no_same : (v w : Scalar) (b : Bool) → (v ≡ w → ⊥) → (scalar_eq.eq-valu
 no_same v w true differ e = absurd (differ (scalar_eq-exact v w e))
 no_same v w false differ e = e
 
-pub increment_sends : (k : Kind) (i : FieldPart) (old new : Entry) (y z : ℤ) → k ≡ i.kind → i.operator ≡ operator.Increment → HasNumber k old y → IsNumber k z → (next_number k y ≡ z → ⊥) → new ≡ Assigned (of_integer k z) → Leaves true i old new (Some (of_integer k z))
+pub increment_sends : (k : Kind) (i : FieldPart) (old new : Entry) (y z : ℤ) → k ≡ i.kind → i.operator ≡ Operator.Increment → HasNumber k old y → IsNumber k z → (next_number k y ≡ z → ⊥) → new ≡ Assigned (of_integer k z) → Leaves true i old new (Some (of_integer k z))
 increment_sends k i old new y z same o h fits differ entry =
     let v = of_integer k (next_number k y) in
     let w = of_integer k z in

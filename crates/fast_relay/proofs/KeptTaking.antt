@@ -1,22 +1,11 @@
 -- What values that are read at once into their entries rest on.
-use Rattle.std.proofs.Common.{◌≡◌, ◌≤◌, ℕ, Bool, true, List, refl, ◌∙◌, arith}
-use Rattle.std.specs.Prelude.{Some}
-use Rattle.fast_value.specs.declared.kind.Operator.{Operator}
-use Rattle.fast_value.specs.declared.kind.Operator.TheVariants as operator
-use Rattle.fast_value.specs.declared.scalar.Scalar.{Scalar}
-use Rattle.fast_template.specs.declared.resolved.FieldPart.{FieldPart}
-use Rattle.fast_dictionary.specs.declared.entry.Entry.{Entry}
-use Rattle.fast_dictionary.specs.declared.entry.Entry.TheVariants.{Assigned}
-use Rattle.fast_field.specs.Bases.{next_of}
-use Rattle.fast_relay.specs.Judged.{JudgedTo}
-use Rattle.fast_relay.specs.Kept.{TakesKept, keeps_value}
-use Rattle.fast_relay.specs.Relayed.{Takes}
+use Rattle.fast_relay.proofs.Common.{◌≡◌, ◌≤◌, ℕ, Bool, true, List, refl, ◌∙◌, arith, Some, Operator, Scalar, FieldPart, Entry, Assigned, next_of, JudgedTo, TakesKept, keeps_value, Takes}
 
 kept_value : (o : Operator) (e : Entry) (v : Scalar) → keeps_value o ≡ true → next_of o e (Some v) ≡ Assigned v
-kept_value operator.Copy e v h = refl
-kept_value operator.Increment e v h = refl
-kept_value operator.Delta e v h = refl
-kept_value operator.Tail e v h = refl
+kept_value Operator.Copy e v h = refl
+kept_value Operator.Increment e v h = refl
+kept_value Operator.Delta e v h = refl
+kept_value Operator.Tail e v h = refl
 kept_value o e v h = absurd cc
 
 pub kept_takes : {i : FieldPart} {old new : Entry} {v : Scalar} {bytes rest : List ℕ} → keeps_value i.operator ≡ true → Takes i old new v bytes rest → (w : Scalar) × (new ≡ Assigned w) × Takes i old new w bytes rest

@@ -1,3 +1,4 @@
+mod Common
 pub mod Ranges
 pub mod Taking
 mod TextRelaying

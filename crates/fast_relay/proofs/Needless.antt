@@ -1,22 +1,5 @@
 -- Groups that are needless in front of a number: behind them its bytes spell the same.
-use Rattle.std.proofs.Common.{◌≡◌, ℕ, ℤ, pos, ◌+◌, ◌-◌, ◌*◌, ◌%◌, ◌^◌, ◌<◌, ◌≤◌, Bool, true, false, nat_eq, nat_lt, nat_le, List, [], ◌∷◌, length, take, drop, slice_range, sym, ap, subst, ◌∙◌, arith, inl, inr, drop-drop, length-take}
-use Rattle.std.specs.Prelude.{◌&&◌, ◌||◌, ◌-ℤ◌}
-use Rattle.std.proofs.Math.Nat.{pow-suc}
-use Rattle.std.proofs.lemmas.Bool.{cases_lt}
-use Rattle.std.proofs.lemmas.Bool.Decides.{nat_tests}
-use Rattle.std.proofs.lemmas.Int.{ints}
-use Rattle.std.proofs.lemmas.List.{drop-take, length-map}
-use Rattle.fast_wire.specs.Entity.{groups}
-use Rattle.fast_wire.specs.Integer.{IsUnsigned, IsSigned, signed_of, unsigned_of}
-use Rattle.fast_wire.specs.Level.{overlong_unsigned, overlong_signed}
-use Rattle.fast_wire.specs.Nullable.{sent_signed}
-use Rattle.fast_wire.specs.Reader.{IsBytes}
-use Rattle.fast_wire.specs.declared.nullable.Nullable.TheVariants.{Value}
-use Rattle.fast_wire.proofs.SignedNumbers.{signed_above, signed_below}
-use Rattle.fast_value.specs.declared.kind.Presence.{Presence}
-use Rattle.fast_value.specs.declared.kind.Presence.TheVariants.{Mandatory, Optional}
-use Rattle.fast_field.specs.Spelled.{SpellsIntegerUsually, overlong_number}
-use Rattle.fast_relay.specs.Numbers.{Spelt}
+use Rattle.fast_relay.proofs.Common.{◌≡◌, ℕ, ℤ, pos, ◌+◌, ◌-◌, ◌*◌, ◌%◌, ◌^◌, ◌<◌, ◌≤◌, Bool, true, false, nat_eq, nat_lt, nat_le, List, [], ◌∷◌, length, take, drop, slice_range, sym, ap, subst, ◌∙◌, arith, inl, inr, drop-drop, length-take, ◌&&◌, ◌||◌, ◌-ℤ◌, pow-suc, cases_lt, nat_tests, ints, drop-take, length-map, groups, IsUnsigned, IsSigned, signed_of, unsigned_of, overlong_unsigned, overlong_signed, sent_signed, IsBytes, Value, signed_above, signed_below, Presence, Mandatory, Optional, SpellsIntegerUsually, overlong_number, Spelt}
 use Rattle.fast_relay.proofs.Standing.{standing}
 
 -- ---- no sign

@@ -1,29 +1,6 @@
 -- NULL, read and judged at once.
-use Rattle.std.proofs.Common.{◌≡◌, ℕ, Bool, true, false, List, [], ◌∷◌, ◌++◌, Ok, refl, sym, ◌∙◌, arith}
-use Rattle.std.specs.Prelude.{None}
-use Rattle.fast_wire.specs.declared.level.Level.TheVariants.{Usual}
-use Rattle.fast_wire.specs.Nullable.{IsUnsignedNullable}
-use Rattle.fast_wire.specs.Writing.{IsShortest}
-use Rattle.fast_wire.specs.declared.nullable.Nullable.TheVariants.{Null}
-use Rattle.fast_wire.proofs.UnsignedForms.{entity_some}
-use Rattle.fast_value.specs.declared.kind.Operator.TheVariants as operator
-use Rattle.fast_value.specs.declared.kind.Presence.TheVariants.{Optional}
-use Rattle.fast_template.specs.declared.resolved.FieldPart.{FieldPart}
-use Rattle.fast_dictionary.specs.declared.entry.Entry.{Entry}
-use Rattle.fast_field.specs.Best.{IsBest}
-use Rattle.fast_field.specs.FieldReading.{field_at, row_at, whole_at}
-use Rattle.fast_field.specs.Planning.{left_out_of}
-use Rattle.fast_field.proofs.ChosenForms.{null_best}
-use Rattle.fast_field.proofs.FieldForms.{field_forms}
-use Rattle.fast_field.proofs.BestForms.{bit_zero_is_best}
-use Rattle.fast_field.proofs.BestValues.{left_out}
-use Rattle.fast_relay.specs.Numbers.{SpellsWhole}
-use Rattle.fast_relay.specs.Relayed.{Judges}
-use Rattle.fast_relay.specs.Judged.{Leaves, under}
+use Rattle.fast_relay.proofs.Common.{◌≡◌, ℕ, Bool, true, false, List, [], ◌∷◌, ◌++◌, Ok, refl, sym, ◌∙◌, arith, None, Usual, IsUnsignedNullable, IsShortest, Null, entity_some, Operator, Optional, FieldPart, Entry, IsBest, field_at, row_at, whole_at, left_out_of, null_best, field_forms, bit_zero_is_best, left_out, SpellsWhole, Judges, Leaves, under, ◌+◌, ◌<◌, length, get_or, drop, ap, drop_more, HasBest}
 use Rattle.fast_relay.proofs.Taking.{whole_row}
-use Rattle.std.proofs.Common.{◌+◌, ◌<◌, length, get_or, drop, ap}
-use Rattle.std.proofs.lemmas.List.{drop_more}
-use Rattle.fast_relay.specs.Best.{HasBest}
 use Rattle.fast_relay.proofs.Ranges.{byte_range, range_none}
 
 null_form : IsUnsignedNullable (128 ∷ []) Null
@@ -42,11 +19,11 @@ read i e rest optional out =
 
 -- the same with no look at what bit 0 gives: what is spelled whole is read as without an operator
 abbrev plain : FieldPart → FieldPart
-plain i = record { number = i.number; part = i.part; kind = i.kind; presence = i.presence; operator = operator.Plain; key = i.key; initial = i.initial }
+plain i = record { number = i.number; part = i.part; kind = i.kind; presence = i.presence; operator = Operator.Plain; key = i.key; initial = i.initial }
 
-as_plain : (i : FieldPart) (e : Entry) (bytes : List ℕ) → SpellsWhole i.operator → row_at Usual i.operator i e true bytes ≡ row_at Usual operator.Plain (plain i) e true bytes
+as_plain : (i : FieldPart) (e : Entry) (bytes : List ℕ) → SpellsWhole i.operator → row_at Usual i.operator i e true bytes ≡ row_at Usual Operator.Plain (plain i) e true bytes
 unfolding whole_at
-as_plain i e bytes o = whole_row i.operator i e bytes o ∙ sym (whole_row operator.Plain (plain i) e bytes tt)
+as_plain i e bytes o = whole_row i.operator i e bytes o ∙ sym (whole_row Operator.Plain (plain i) e bytes tt)
 
 read_plain : (i : FieldPart) (e : Entry) (bytes : List ℕ) → SpellsWhole i.operator → field_at Usual i e true bytes ≡ field_at Usual (plain i) e true bytes
 unfolding field_at

@@ -1,14 +1,5 @@
 -- Numbers in one byte, which is their shortest form.
-use Rattle.std.proofs.Common.{◌≡◌, ℕ, pos, suc, ◌+◌, ◌-◌, ◌%◌, ◌<◌, ◌≤◌, Bool, true, false, nat_le, List, ◌∷◌, [], length, drop, slice_range, get_or, refl, subst, arith, length-take, length-drop}
-use Rattle.std.proofs.lemmas.Bool.Decides.{nat_tests}
-use Rattle.fast_wire.proofs.ShortIntegers.{one_byte, short_given, short_nullable_given, short_signed_given, short_signed_nullable_given}
-use Rattle.fast_value.specs.declared.kind.Presence.{Presence}
-use Rattle.fast_value.specs.declared.kind.Presence.TheVariants.{Mandatory, Optional}
-use Rattle.fast_field.specs.FieldReading.{integer_at}
-use Rattle.fast_field.specs.Spelled.{overlong_number}
-use Rattle.fast_field.proofs.ReadFields.{bytes_from}
-use Rattle.fast_relay.specs.Judged.{StandsAt, zero_byte}
-use Rattle.fast_relay.specs.Numbers.{Spelt}
+use Rattle.fast_relay.proofs.Common.{◌≡◌, ℕ, pos, suc, ◌+◌, ◌-◌, ◌%◌, ◌<◌, ◌≤◌, Bool, true, false, nat_le, List, ◌∷◌, [], length, drop, slice_range, get_or, refl, subst, arith, length-take, length-drop, nat_tests, one_byte, short_given, short_nullable_given, short_signed_given, short_signed_nullable_given, Presence, Mandatory, Optional, integer_at, overlong_number, bytes_from, StandsAt, zero_byte, Spelt}
 use Rattle.fast_relay.proofs.Judging.{stands_at}
 use Rattle.fast_relay.proofs.Standing.{one_byte as alone}
 

@@ -1,68 +1,28 @@
 -- Strings that stand in their shortest form, read and judged at once.
-use Rattle.std.proofs.Common.{rules, ◌≡◌, ◌≤◌, ◌<◌, ◌+◌, ◌-◌, ◌%◌, true, false, List, ℕ, ◌++◌, Ok, length, take, drop, get_or, zero, suc, [], ◌∷◌, refl, sym, ap, subst, ◌∙◌, arith, length-append, length-drop, append_assoc, slice_range, drop-drop}
-use Rattle.std.specs.Prelude.{Some, ℤ, pos, negsuc, nat_le, nat_lt}
-use Rattle.std.proofs.lemmas.Bool.Decides.{nat_tests}
-use Rattle.std.proofs.lemmas.List.{drop-map, drop-take, length-map, length-take-le, take-append-drop}
+use Rattle.fast_relay.proofs.Common.{rules, ◌≡◌, ◌≤◌, ◌<◌, ◌+◌, ◌-◌, ◌%◌, true, false, List, ℕ, ◌++◌, Ok, length, take, drop, get_or, zero, suc, [], ◌∷◌, refl, sym, ap, subst, ◌∙◌, arith, length-append, length-drop, append_assoc, slice_range, drop-drop, Some, ℤ, pos, negsuc, nat_le, nat_lt, nat_tests, drop-map, drop-take, length-map, length-take-le, take-append-drop, AllByRecursion, Usual, IsEntity, groups, IsPlain, ascii_at, ascii_nullable_at, ascii_forms, ascii_nullable_forms, Value, Kind, Operator, Part, Presence, Mandatory, Optional, FieldPart, Ascii, Entry, Assigned, magnitude, sent_signed, groups_from, signed_nullable_size, signed_size, groups_from-positive, entity_some, delta_base, next, IsBestCut, IsBestTail, ShortestPart, ShortestSigned, ShortestUnits, length_size, part_size, tail_size, IsLongestPrefix, SharesEnd, ended_value, limited_value, new_part_behind, part_at, tail_at, unit_delta_at, unit_value, units_at, units_spelled_at, SpellsWhole, Spelt, is_same, left_out_of, GivesCut, GivesTail, IsText, best_at_end, shortest_is_best, units_is, all_append, all_take, part_within, string_within, unit_limit, units_of_string, Bool, IsTrue, is_of, Leaves, under, Judges}
 use Rattle.std.proofs.Math.Seq.{drop-append_seam, take-add}
-use Rattle.std.specs.List.{AllByRecursion}
-use Rattle.fast_wire.specs.declared.level.Level.TheVariants.{Usual}
 use Rattle.fast_wire.specs.Ascii.{IsAscii, IsAsciiNullable, SpellsAscii, SpellsAsciiNullable}
-use Rattle.fast_wire.specs.Entity.{IsEntity, groups}
-use Rattle.fast_wire.specs.Plain.{IsPlain}
-use Rattle.fast_wire.specs.Reading.{ascii_at, ascii_nullable_at}
-use Rattle.fast_wire.proofs.FormReaders.{ascii_forms, ascii_nullable_forms}
-use Rattle.fast_wire.specs.declared.nullable.Nullable.TheVariants.{Value}
-use Rattle.fast_value.specs.declared.kind.Kind.{Kind}
-use Rattle.fast_value.specs.declared.kind.Kind.TheVariants as kind
-use Rattle.fast_value.specs.declared.kind.Operator.TheVariants as operator
-use Rattle.fast_value.specs.declared.kind.Part.TheVariants as part
-use Rattle.fast_value.specs.declared.kind.Presence.{Presence}
-use Rattle.fast_value.specs.declared.kind.Presence.TheVariants.{Mandatory, Optional}
-use Rattle.fast_template.specs.declared.resolved.FieldPart.{FieldPart}
-use Rattle.fast_value.specs.declared.scalar.Scalar.TheVariants.{Ascii}
-use Rattle.fast_dictionary.specs.declared.entry.Entry.{Entry}
-use Rattle.fast_dictionary.specs.declared.entry.Entry.TheVariants.{Assigned}
-use Rattle.fast_wire.specs.Integer.{magnitude}
-use Rattle.fast_wire.specs.Nullable.{sent_signed}
-use Rattle.fast_wire.specs.Sizes.{groups_from, signed_nullable_size, signed_size}
-use Rattle.fast_wire.proofs.Sizes.{groups_from-positive}
-use Rattle.fast_wire.proofs.UnsignedForms.{entity_some}
-use Rattle.fast_field.specs.Bases.{delta_base, next}
-use Rattle.fast_field.specs.Chosen.{IsBestCut, IsBestTail, ShortestPart, ShortestSigned, ShortestUnits, length_size, part_size, tail_size}
-use Rattle.fast_field.specs.CommonParts.{IsLongestPrefix, SharesEnd}
-use Rattle.fast_field.specs.FieldReading.{ended_value, limited_value, new_part_behind, part_at, tail_at, unit_delta_at, unit_value, units_at, units_spelled_at}
-use Rattle.fast_relay.specs.Numbers.{SpellsWhole, Spelt}
-use Rattle.fast_field.specs.Planning.{is_same, left_out_of}
-use Rattle.fast_relay.specs.Texts.{GivesCut, GivesTail, IsText}
-use Rattle.fast_field.proofs.BestCuts.{best_at_end}
-use Rattle.fast_field.proofs.BestTails.{shortest_is_best}
-use Rattle.fast_field.proofs.Shortest.{units_is}
-use Rattle.fast_field.proofs.ValuesWithin.{all_append, all_take, part_within, string_within, unit_limit, units_of_string}
-use Rattle.std.specs.Prelude.{Bool, IsTrue}
-use Rattle.fast_value.specs.Scalar.{is_of}
-use Rattle.fast_relay.specs.Judged.{Leaves, under}
-use Rattle.fast_relay.specs.Relayed.{Judges}
 use Rattle.fast_relay.proofs.TextRelaying.{tail_base_is, tail_judges, text_delta_judges, text_judges}
 
-units_plain : (p : Presence) (bytes form rest : List ℕ) → IsPlain bytes form rest → units_at Usual kind.Ascii p bytes ≡ Ok (Value (groups form), rest)
+units_plain : (p : Presence) (bytes form rest : List ℕ) → IsPlain bytes form rest → units_at Usual Kind.Ascii p bytes ≡ Ok (Value (groups form), rest)
 unfolding units_at part_at
 units_plain Mandatory bytes form rest h = rw h.read refl
 units_plain Optional bytes form rest h = rw h.read_nullable refl
 
-pub spelled_plain : (p : Presence) (bytes form rest : List ℕ) → IsPlain bytes form rest → units_spelled_at Usual kind.Ascii p bytes ≡ Ok (Some (Ascii (groups form)), rest)
+pub spelled_plain : (p : Presence) (bytes form rest : List ℕ) → IsPlain bytes form rest → units_spelled_at Usual Kind.Ascii p bytes ≡ Ok (Some (Ascii (groups form)), rest)
 unfolding units_spelled_at unit_value
 spelled_plain p bytes form rest h = rw (units_plain p bytes form rest h) refl
 
-shortest_plain : (p : Presence) (bytes form rest : List ℕ) → IsPlain bytes form rest → ShortestUnits kind.Ascii p (groups form) form
+shortest_plain : (p : Presence) (bytes form rest : List ℕ) → IsPlain bytes form rest → ShortestUnits Kind.Ascii p (groups form) form
 shortest_plain Mandatory bytes form rest h = h.shortest
 shortest_plain Optional bytes form rest h = h.shortest_nullable
 
-pub text_plain : (bytes form rest : List ℕ) → IsPlain bytes form rest → IsText kind.Ascii (Ascii (groups form))
+pub text_plain : (bytes form rest : List ℕ) → IsPlain bytes form rest → IsText Kind.Ascii (Ascii (groups form))
 text_plain bytes form rest h =
-    let w = string_within kind.Ascii (groups form) (Ascii (groups form)) tt refl (part_within kind.Ascii form (groups form) h.shortest.form) in
+    let w = string_within Kind.Ascii (groups form) (Ascii (groups form)) tt refl (part_within Kind.Ascii form (groups form) h.shortest.form) in
     record { of_units = tt; of_kind = w.0; within = w.1 }
 
-pub plain_judges : (bit : Bool) (i : FieldPart) (old new : Entry) (bytes form rest : List ℕ) → i.kind ≡ kind.Ascii → i.part ≡ part.Whole → SpellsWhole i.operator → IsPlain bytes form rest → Leaves bit i old new (Some (Ascii (groups form)))
+pub plain_judges : (bit : Bool) (i : FieldPart) (old new : Entry) (bytes form rest : List ℕ) → i.kind ≡ Kind.Ascii → i.part ≡ Part.Whole → SpellsWhole i.operator → IsPlain bytes form rest → Leaves bit i old new (Some (Ascii (groups form)))
     → IsTrue (is_of i.kind (Ascii (groups form))) × Judges bit (under bit form) i old new (Some (Ascii (groups form))) bytes rest
 plain_judges bit i old new bytes form rest k whole o h l =
     text_judges bit i old new (Ascii (groups form)) bytes rest form whole o
@@ -125,7 +85,7 @@ some_size Optional z = groups_from-positive 9 64 (magnitude (sent_signed (Value 
 pub behind_kept : (base part : List ℕ) (n : ℕ) → n ≤ length base → drop n (take n base ++ part) ≡ part
 behind_kept base part n h = let long = length-take-le n base h in subst (λ m. drop m (take n base ++ part) ≡ part) long (drop-append_seam (take n base) part)
 
-no_less : (p : Presence) (s : List ℕ) → length s ≤ tail_size kind.Ascii p s
+no_less : (p : Presence) (s : List ℕ) → length s ≤ tail_size Kind.Ascii p s
 no_less Mandatory [] = omega arith
 no_less Mandatory (zero ∷ s) = omega arith
 no_less Mandatory (suc x ∷ s) = omega arith
@@ -133,9 +93,9 @@ no_less Optional [] = omega arith
 no_less Optional (zero ∷ s) = omega arith
 no_less Optional (suc x ∷ s) = omega arith
 
-plain_least : (bytes form rest : List ℕ) → IsPlain bytes form rest → (s : List ℕ) → length (groups form) ≤ length s → part_size kind.Ascii (groups form) ≤ part_size kind.Ascii s
+plain_least : (bytes form rest : List ℕ) → IsPlain bytes form rest → (s : List ℕ) → length (groups form) ≤ length s → part_size Kind.Ascii (groups form) ≤ part_size Kind.Ascii s
 plain_least bytes form rest h s le =
-    let size : part_size kind.Ascii (groups form) ≡ length form = sym (units_is kind.Ascii Mandatory (groups form) form h.shortest) in
+    let size : part_size Kind.Ascii (groups form) ≡ length form = sym (units_is Kind.Ascii Mandatory (groups form) form h.shortest) in
     omega (arith, size, le, length-map form (λ b. b % 128), no_less Mandatory s)
 
 pub best_removal : (k : Kind) (p : Presence) (base part : List ℕ) (r n : ℕ) → r < 63 → r ≤ length base → n ≡ length base - r → IsLongestPrefix base (take n base ++ part) n → SharesEnd base (take n base ++ part) n
@@ -153,28 +113,28 @@ best_removal k p base part r n few le is prefix shared least =
     let best = best_at_end k p base v n m prefix shared.1 (omega (arith, one, less, some_size p (negsuc (length base - m)))) in
     rw (removed, behind) at best
 
-delta_base_is : (i : FieldPart) (base : List ℕ) → i.kind ≡ kind.Ascii → delta_base i (Assigned (Ascii base)) ≡ Ok (Ascii base)
+delta_base_is : (i : FieldPart) (base : List ℕ) → i.kind ≡ Kind.Ascii → delta_base i (Assigned (Ascii base)) ≡ Ok (Ascii base)
 delta_base_is i base k = rw k refl
 
 new_part_read : (base : List ℕ) (r : ℕ) (middle form rest : List ℕ) → r ≤ length base → IsPlain middle form rest → length (take (length base - r) base ++ groups form) ≤ 65535
-    → new_part_behind Usual kind.Ascii (pos r) base middle ≡ Ok (Some (Ascii (take (length base - r) base ++ groups form)), rest)
+    → new_part_behind Usual Kind.Ascii (pos r) base middle ≡ Ok (Some (Ascii (take (length base - r) base ++ groups form)), rest)
 unfolding new_part_behind part_at limited_value unit_value
 new_part_read base r middle form rest le h few = rw (le_true r (length base) le, h.read, lt_false 65535 (length (take (length base - r) base ++ groups form)) few) refl
 
-delta_read_plain : (i : FieldPart) (base : List ℕ) (r : ℕ) (bytes middle form rest : List ℕ) → i.kind ≡ kind.Ascii → r < 63 → r ≤ length base → Spelt false i.presence bytes (pos r) middle → IsPlain middle form rest → length (take (length base - r) base ++ groups form) ≤ 65535
+delta_read_plain : (i : FieldPart) (base : List ℕ) (r : ℕ) (bytes middle form rest : List ℕ) → i.kind ≡ Kind.Ascii → r < 63 → r ≤ length base → Spelt false i.presence bytes (pos r) middle → IsPlain middle form rest → length (take (length base - r) base ++ groups form) ≤ 65535
     → unit_delta_at Usual i (Assigned (Ascii base)) bytes ≡ Ok (Some (Ascii (take (length base - r) base ++ groups form)), rest)
 unfolding unit_delta_at
 delta_read_plain i base r bytes middle form rest k small le removal h few =
     rw (removal, le_true r 2147483647 (omega (arith, small)), delta_base_is i base k, k) (new_part_read base r middle form rest le h few)
 
-text_together : (base form : List ℕ) (n : ℕ) → IsText kind.Ascii (Ascii base) → IsText kind.Ascii (Ascii (groups form)) → length (take n base ++ groups form) ≤ 65535 → IsText kind.Ascii (Ascii (take n base ++ groups form))
+text_together : (base form : List ℕ) (n : ℕ) → IsText Kind.Ascii (Ascii base) → IsText Kind.Ascii (Ascii (groups form)) → length (take n base ++ groups form) ≤ 65535 → IsText Kind.Ascii (Ascii (take n base ++ groups form))
 text_together base form n b f few =
-    let us = units_of_string kind.Ascii (Ascii base) tt (b.of_kind, b.within) in
-    let uf = units_of_string kind.Ascii (Ascii (groups form)) tt (f.of_kind, f.within) in
-    let w = string_within kind.Ascii (take n base ++ groups form) (Ascii (take n base ++ groups form)) tt refl (few, all_append (λ x. x < unit_limit kind.Ascii) (take n base) (groups form) (all_take (λ x. x < unit_limit kind.Ascii) n base us.1) uf.1) in
+    let us = units_of_string Kind.Ascii (Ascii base) tt (b.of_kind, b.within) in
+    let uf = units_of_string Kind.Ascii (Ascii (groups form)) tt (f.of_kind, f.within) in
+    let w = string_within Kind.Ascii (take n base ++ groups form) (Ascii (take n base ++ groups form)) tt refl (few, all_append (λ x. x < unit_limit Kind.Ascii) (take n base) (groups form) (all_take (λ x. x < unit_limit Kind.Ascii) n base us.1) uf.1) in
     record { of_units = tt; of_kind = w.0; within = w.1 }
 
-pub cut_read : (i : FieldPart) (base : List ℕ) (r : ℕ) (bytes middle form rest : List ℕ) → i.kind ≡ kind.Ascii → r < 63 → r ≤ length base → Spelt false i.presence bytes (pos r) middle → IsPlain middle form rest → (length base - r) + length form ≤ 65535 → GivesCut i base bytes r form rest
+pub cut_read : (i : FieldPart) (base : List ℕ) (r : ℕ) (bytes middle form rest : List ℕ) → i.kind ≡ Kind.Ascii → r < 63 → r ≤ length base → Spelt false i.presence bytes (pos r) middle → IsPlain middle form rest → (length base - r) + length form ≤ 65535 → GivesCut i base bytes r form rest
 cut_read i base r bytes middle form rest k few le removal h short =
     let long : length (take (length base - r) base ++ groups form) ≤ 65535 =
     omega (arith, short, length-append (take (length base - r) base) (groups form), length-take-le (length base - r) base (omega arith), length-map form (λ b. b % 128)) in
@@ -221,7 +181,7 @@ cut_less i base bytes b behind r first next m few le same plain long h =
       read = subst (λ (x : List ℕ). unit_delta_at Usual i (Assigned (Ascii base)) b ≡ Ok (Some (Ascii x), drop next bytes)) value h.read;
     }
 
-pub plain_delta_judges : (i : FieldPart) (base : List ℕ) (r n : ℕ) (bytes form rest front : List ℕ) → i.kind ≡ kind.Ascii → i.part ≡ part.Whole → i.operator ≡ operator.Delta → IsText kind.Ascii (Ascii base) → n ≡ length base - r → GivesCut i base bytes r form rest
+pub plain_delta_judges : (i : FieldPart) (base : List ℕ) (r n : ℕ) (bytes form rest front : List ℕ) → i.kind ≡ Kind.Ascii → i.part ≡ Part.Whole → i.operator ≡ Operator.Delta → IsText Kind.Ascii (Ascii base) → n ≡ length base - r → GivesCut i base bytes r form rest
     → IsLongestPrefix base (take n base ++ groups form) n → SharesEnd base (take n base ++ groups form) n → ShortestSigned i.presence (pos r) front
     → IsTrue (is_of i.kind (Ascii (take n base ++ groups form))) × Judges true (front ++ form) i (Assigned (Ascii base)) (Assigned (Ascii (take n base ++ groups form))) (Some (Ascii (take n base ++ groups form))) bytes rest
 plain_delta_judges i base r n bytes form rest front k whole o text is cut prefix suffix s =
@@ -233,33 +193,33 @@ plain_delta_judges i base r n bytes form rest front k whole o text is cut prefix
     (subst (λ (k : Kind). IsText k (Ascii base)) (sym k) text)
     (subst (λ (k : Kind). IsText k (Ascii v)) (sym k) t)
     (subst (λ m. unit_delta_at Usual i (Assigned (Ascii base)) bytes ≡ Ok (Some (Ascii (take m base ++ groups form)), rest)) (sym is) cut.read)
-    (subst (λ (k : Kind). IsBestCut k i.presence base v (pos r) (groups form)) (sym k) (best_removal kind.Ascii i.presence base (groups form) r n cut.few cut.within is prefix suffix (plain_least cut.behind form rest h)))
+    (subst (λ (k : Kind). IsBestCut k i.presence base v (pos r) (groups form)) (sym k) (best_removal Kind.Ascii i.presence base (groups form) r n cut.few cut.within is prefix suffix (plain_least cut.behind form rest h)))
     (record { front = front; back = form; parts = refl; first = s; second = subst (λ (k : Kind). ShortestPart k (groups form) form) (sym k) h.shortest })
 
-pub characters_text : (s : List ℕ) → (length s ≤ 65535) × AllByRecursion (λ c. c < 128) s → IsText kind.Ascii (Ascii s)
-characters_text s h = let w = string_within kind.Ascii s (Ascii s) tt refl h in record { of_units = tt; of_kind = w.0; within = w.1 }
+pub characters_text : (s : List ℕ) → (length s ≤ 65535) × AllByRecursion (λ c. c < 128) s → IsText Kind.Ascii (Ascii s)
+characters_text s h = let w = string_within Kind.Ascii s (Ascii s) tt refl h in record { of_units = tt; of_kind = w.0; within = w.1 }
 
 -- ---- tails
 
 not_same : (s t : List ℕ) → (s ≡ t → ⊥) → is_same (Some (Ascii s)) (Some (Ascii t)) ≡ false
 not_same s t differ = search rules
 
-tail_read_plain : (i : FieldPart) (base : List ℕ) (bytes form rest : List ℕ) → i.kind ≡ kind.Ascii → IsPlain bytes form rest → length (take (length base - length (groups form)) base ++ groups form) ≤ 65535
+tail_read_plain : (i : FieldPart) (base : List ℕ) (bytes form rest : List ℕ) → i.kind ≡ Kind.Ascii → IsPlain bytes form rest → length (take (length base - length (groups form)) base ++ groups form) ≤ 65535
     → tail_at Usual i (Assigned (Ascii base)) bytes ≡ Ok (Some (Ascii (take (length base - length (groups form)) base ++ groups form)), rest)
 unfolding tail_at ended_value limited_value unit_value
 tail_read_plain i base bytes form rest k h few = rw (k, units_plain i.presence bytes form rest h, lt_false 65535 (length (take (length base - length (groups form)) base ++ groups form)) few) refl
 
-best_end : (p : Presence) (base bytes form rest : List ℕ) (n : ℕ) → n + length (groups form) ≡ length base → IsPlain bytes form rest → IsLongestPrefix base (take n base ++ groups form) n → IsBestTail kind.Ascii p base (take n base ++ groups form) (groups form)
+best_end : (p : Presence) (base bytes form rest : List ℕ) (n : ℕ) → n + length (groups form) ≡ length base → IsPlain bytes form rest → IsLongestPrefix base (take n base ++ groups form) n → IsBestTail Kind.Ascii p base (take n base ++ groups form) (groups form)
 best_end p base bytes form rest n is h prefix =
     let v = take n base ++ groups form in
     let long = length-take-le n base (omega (arith, is)) in
     let whole : length v ≡ length base = omega (arith, length-append (take n base) (groups form), long, is) in
     let behind = behind_kept base (groups form) n (omega (arith, is)) in
-    let size : tail_size kind.Ascii p (groups form) ≡ length form = sym (units_is kind.Ascii p (groups form) form (shortest_plain p bytes form rest h)) in
-    let less : 0 < n → tail_size kind.Ascii p (drop n v) ≤ tail_size kind.Ascii p (drop (n - 1) v) = λ some. rw behind (omega (arith, some, size, length-map form (λ b. b % 128), whole, is, length-drop (n - 1) v, no_less p (drop (n - 1) v))) in
-    rw behind at (shortest_is_best kind.Ascii p base v n prefix whole less)
+    let size : tail_size Kind.Ascii p (groups form) ≡ length form = sym (units_is Kind.Ascii p (groups form) form (shortest_plain p bytes form rest h)) in
+    let less : 0 < n → tail_size Kind.Ascii p (drop n v) ≤ tail_size Kind.Ascii p (drop (n - 1) v) = λ some. rw behind (omega (arith, some, size, length-map form (λ b. b % 128), whole, is, length-drop (n - 1) v, no_less p (drop (n - 1) v))) in
+    rw behind at (shortest_is_best Kind.Ascii p base v n prefix whole less)
 
-other_end : (i : FieldPart) (base v : List ℕ) → i.kind ≡ kind.Ascii → i.operator ≡ operator.Tail → (base ≡ v → ⊥) → left_out_of i.operator i (Assigned (Ascii base)) (Some (Ascii v)) ≡ false
+other_end : (i : FieldPart) (base v : List ℕ) → i.kind ≡ Kind.Ascii → i.operator ≡ Operator.Tail → (base ≡ v → ⊥) → left_out_of i.operator i (Assigned (Ascii base)) (Some (Ascii v)) ≡ false
 other_end i base v k o differ = rw (o, k) (not_same base v differ)
 
 pub no_same_text : (base part : List ℕ) (n : ℕ) → n < length base → IsLongestPrefix base (take n base ++ part) n → base ≡ take n base ++ part → ⊥
@@ -267,7 +227,7 @@ no_same_text base part n lt prefix e =
     let all = prefix.longest (length base) (omega arith) (let l = ap length e in omega (arith, l)) (ap (take (length base)) e) in
     omega (arith, all, lt)
 
-pub tail_read : (i : FieldPart) (base bytes form rest : List ℕ) → i.kind ≡ kind.Ascii → length base ≤ 65535 → length form ≤ length base → IsPlain bytes form rest → GivesTail i base bytes form rest
+pub tail_read : (i : FieldPart) (base bytes form rest : List ℕ) → i.kind ≡ Kind.Ascii → length base ≤ 65535 → length form ≤ length base → IsPlain bytes form rest → GivesTail i base bytes form rest
 tail_read i base bytes form rest k short le h =
     let same = length-map form (λ b. b % 128) in
     let long : length (take (length base - length (groups form)) base ++ groups form) ≤ 65535 =
@@ -300,7 +260,7 @@ tail_less i base bytes b behind first next m le end same plain h =
       read = subst (λ (x : List ℕ). tail_at Usual i (Assigned (Ascii base)) b ≡ Ok (Some (Ascii x), drop next bytes)) value h.read;
     }
 
-pub plain_tail_judges : (i : FieldPart) (base : List ℕ) (n : ℕ) (bytes form rest : List ℕ) → i.kind ≡ kind.Ascii → i.part ≡ part.Whole → i.operator ≡ operator.Tail → IsText kind.Ascii (Ascii base) → length base ≤ 65535 → n + length form ≡ length base
+pub plain_tail_judges : (i : FieldPart) (base : List ℕ) (n : ℕ) (bytes form rest : List ℕ) → i.kind ≡ Kind.Ascii → i.part ≡ Part.Whole → i.operator ≡ Operator.Tail → IsText Kind.Ascii (Ascii base) → length base ≤ 65535 → n + length form ≡ length base
     → GivesTail i base bytes form rest → IsLongestPrefix base (take n base ++ groups form) n
     → IsTrue (is_of i.kind (Ascii (take n base ++ groups form))) × Judges true form i (Assigned (Ascii base)) (Assigned (Ascii (take n base ++ groups form))) (Some (Ascii (take n base ++ groups form))) bytes rest
 plain_tail_judges i base n bytes form rest k whole o text short is gives prefix =

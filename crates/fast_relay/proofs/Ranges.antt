@@ -1,6 +1,5 @@
 -- Slices one behind the other, and of one byte.
-use Rattle.std.proofs.Common.{◌≡◌, ◌<◌, ◌≤◌, ℕ, ◌+◌, ◌-◌, List, [], ◌∷◌, ◌++◌, length, get_or, take, drop, slice_range, ap, ◌∙◌, arith, drop-drop, take-add}
-use Rattle.std.proofs.lemmas.List.{drop_more}
+use Rattle.fast_relay.proofs.Common.{◌≡◌, ◌<◌, ◌≤◌, ℕ, ◌+◌, ◌-◌, List, [], ◌∷◌, ◌++◌, length, get_or, take, drop, slice_range, ap, ◌∙◌, arith, drop-drop, take-add, drop_more}
 
 pub range_split : (bytes : List ℕ) (a b c : ℕ) → a ≤ b → b ≤ c → slice_range bytes a c ≡ slice_range bytes a b ++ slice_range bytes b c
 range_split bytes a b c le more =

@@ -1,21 +1,7 @@
 -- A length in one byte that no entry keeps.
-use Rattle.std.proofs.Common.{◌≡◌, ℕ, pos, ◌+◌, ◌-◌, ◌^◌, ◌<◌, true, nat_le, List, ◌∷◌, [], length, drop, get_or, refl, sym, subst, arith}
-use Rattle.std.specs.Prelude.{◌&&◌, Some, None}
-use Rattle.std.proofs.lemmas.Bool.Decides.{nat_tests}
-use Rattle.fast_value.specs.declared.kind.Kind.TheVariants.{UInt32}
-use Rattle.fast_value.specs.declared.kind.Operator.TheVariants.{Plain}
-use Rattle.fast_value.specs.declared.kind.Part.TheVariants.{Length}
-use Rattle.fast_value.specs.declared.kind.Presence.{Presence}
-use Rattle.fast_value.specs.declared.kind.Presence.TheVariants.{Mandatory, Optional}
-use Rattle.fast_template.specs.declared.resolved.FieldPart.{FieldPart}
-use Rattle.fast_field.specs.Numbers.{IsFieldNumber}
-use Rattle.fast_relay.specs.Judged.{LeavesWhole, zero_byte}
-use Rattle.fast_relay.specs.OneByte.{RelaysByte}
+use Rattle.fast_relay.proofs.Common.{◌≡◌, ℕ, pos, ◌+◌, ◌-◌, ◌^◌, ◌<◌, true, nat_le, List, ◌∷◌, [], length, drop, get_or, refl, sym, subst, arith, ◌&&◌, Some, None, nat_tests, UInt32, Plain, Length, Presence, Mandatory, Optional, FieldPart, IsFieldNumber, LeavesWhole, zero_byte, RelaysByte, Judges, of_integer, Kind}
 use Rattle.fast_relay.proofs.NullRelaying.{null_byte, null_judges}
-use Rattle.fast_relay.specs.Relayed.{Judges}
 use Rattle.fast_relay.proofs.Ranges.{byte_range}
-use Rattle.fast_value.specs.Scalar.{of_integer}
-use Rattle.fast_value.specs.declared.kind.Kind.{Kind}
 use Rattle.fast_relay.proofs.Taking.{typed_judges}
 use Rattle.fast_relay.proofs.OneByte.{unsigned_stands}
 

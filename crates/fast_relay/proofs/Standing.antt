@@ -1,34 +1,5 @@
 -- An entity with no needless group in front is the shortest form of its number, so a number that stands in it is copied.
-use Rattle.std.proofs.Common.{◌≡◌, ◌⊎◌, ℕ, ℤ, pos, negsuc, zero, suc, ◌+◌, ◌-◌, ◌*◌, ◌%◌, ◌^◌, ◌<◌, ◌≤◌, Bool, true, false, nat_eq, nat_lt, nat_le, List, [], ◌∷◌, length, drop, slice_range, get_or, refl, sym, ap, ◌∙◌, not, arith, inl, inr}
-use Rattle.std.specs.Prelude.{◌&&◌, ◌||◌, ◌-ℤ◌, IsTrue}
-use Rattle.std.proofs.Math.Nat.{pow-suc, pow-le-pow_right, mul-le-mul_right}
-use Rattle.std.proofs.lemmas.Bool.{cases_lt}
-use Rattle.std.proofs.lemmas.Bool.Decides.{nat_tests}
-use Rattle.std.proofs.lemmas.Int.{ints}
-use Rattle.std.proofs.lemmas.List.{length-map}
-use Rattle.fast_wire.specs.Entity.{IsEntity, groups, number_of}
-use Rattle.fast_wire.specs.Integer.{IsUnsigned, IsSigned, magnitude, unsigned_of}
-use Rattle.fast_wire.specs.Level.{overlong_unsigned, overlong_signed}
-use Rattle.fast_wire.specs.Nullable.{sent_signed}
-use Rattle.fast_wire.specs.Reader.{IsBytes}
-use Rattle.fast_wire.specs.declared.level.Level.TheVariants.{Usual}
-use Rattle.fast_wire.specs.declared.nullable.Nullable.TheVariants.{Value}
-use Rattle.fast_wire.proofs.Numbers.{number_bound}
-use Rattle.fast_wire.proofs.SignedForms.{signed_bound}
-use Rattle.fast_wire.proofs.SignedNumbers.{signed_above, signed_below}
-use Rattle.fast_wire.proofs.UnsignedForms.{entity_some, unsigned_bound}
-use Rattle.fast_value.specs.Scalar.{is_integer, of_integer}
-use Rattle.fast_value.specs.declared.kind.Kind.{Kind}
-use Rattle.fast_value.specs.declared.kind.Kind.TheVariants as kind
-use Rattle.fast_value.specs.declared.kind.Presence.{Presence}
-use Rattle.fast_value.specs.declared.kind.Presence.TheVariants.{Mandatory, Optional}
-use Rattle.fast_field.specs.Chosen.{ShortestSigned, ShortestUnsigned, ShortestWhole}
-use Rattle.fast_field.specs.FieldReading.{integer_at}
-use Rattle.fast_field.specs.Spelled.{SpellsInteger, SpellsIntegerUsually, overlong_number}
-use Rattle.fast_field.specs.Values.{is_unsigned}
-use Rattle.fast_field.proofs.ReadFields.{found_here}
-use Rattle.fast_field.proofs.SpelledForms.{integer_forms}
-use Rattle.fast_relay.specs.Numbers.{Spelt}
+use Rattle.fast_relay.proofs.Common.{◌≡◌, ◌⊎◌, ℕ, ℤ, pos, negsuc, zero, suc, ◌+◌, ◌-◌, ◌*◌, ◌%◌, ◌^◌, ◌<◌, ◌≤◌, Bool, true, false, nat_eq, nat_lt, nat_le, List, [], ◌∷◌, length, drop, slice_range, get_or, refl, sym, ap, ◌∙◌, not, arith, inl, inr, ◌&&◌, ◌||◌, ◌-ℤ◌, IsTrue, pow-suc, pow-le-pow_right, mul-le-mul_right, cases_lt, nat_tests, ints, length-map, IsEntity, groups, number_of, IsUnsigned, IsSigned, magnitude, unsigned_of, overlong_unsigned, overlong_signed, sent_signed, IsBytes, Usual, Value, number_bound, signed_bound, signed_above, signed_below, entity_some, unsigned_bound, is_integer, of_integer, Kind, Presence, Mandatory, Optional, ShortestSigned, ShortestUnsigned, ShortestWhole, integer_at, SpellsInteger, SpellsIntegerUsually, overlong_number, is_unsigned, found_here, integer_forms, Spelt}
 
 pub one_byte : (xs : List ℕ) → length xs ≡ 1 → get_or xs 0 0 ∷ [] ≡ xs
 one_byte [] h = absurd (omega (arith, h))
@@ -164,12 +135,12 @@ no_sign_below Mandatory n b f = f
 no_sign_below Optional n b f = f
 
 pub shortest_whole : (k : Kind) (p : Presence) (z : ℤ) (b : List ℕ) → IsTrue (is_integer k) → SpellsIntegerUsually (is_unsigned k) p b (Value z) → overlong_number (is_unsigned k) b ≡ false → ShortestWhole p (of_integer k z) b
-shortest_whole kind.UInt32 p (pos n) b i f short = shortest_unsigned p n b f short
-shortest_whole kind.UInt32 p (negsuc n) b i f short = absurd (no_sign_below p n b f)
-shortest_whole kind.UInt64 p (pos n) b i f short = shortest_unsigned p n b f short
-shortest_whole kind.UInt64 p (negsuc n) b i f short = absurd (no_sign_below p n b f)
-shortest_whole kind.Int32 p z b i f short = shortest_signed p z b f short
-shortest_whole kind.Int64 p z b i f short = shortest_signed p z b f short
+shortest_whole Kind.UInt32 p (pos n) b i f short = shortest_unsigned p n b f short
+shortest_whole Kind.UInt32 p (negsuc n) b i f short = absurd (no_sign_below p n b f)
+shortest_whole Kind.UInt64 p (pos n) b i f short = shortest_unsigned p n b f short
+shortest_whole Kind.UInt64 p (negsuc n) b i f short = absurd (no_sign_below p n b f)
+shortest_whole Kind.Int32 p z b i f short = shortest_signed p z b f short
+shortest_whole Kind.Int64 p z b i f short = shortest_signed p z b f short
 shortest_whole k p z b i f short = absurd cc
 
 pub entity_in : (u : Bool) (p : Presence) (z : ℤ) (b : List ℕ) → SpellsIntegerUsually u p b (Value z) → IsEntity b

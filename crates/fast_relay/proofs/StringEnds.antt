@@ -1,9 +1,5 @@
 -- A string whose stop bit is found among sixteen bytes.
-use Rattle.std.proofs.Common.{◌≡◌, ℕ, ◌+◌, ◌-◌, ◌%◌, ◌<◌, ◌≤◌, List, length, get_or, take, drop, slice_range, sym, ap, ◌∙◌, arith, length-take, length-drop, get_or-take, get_or-drop}
-use Rattle.fast_wire.specs.Entity.{IsFirstStop, IsRun}
-use Rattle.fast_wire.specs.Plain.{IsPlain}
-use Rattle.fast_wire.proofs.Entities.{entity_from}
-use Rattle.fast_wire.proofs.PlainAscii.{plain_at}
+use Rattle.fast_relay.proofs.Common.{◌≡◌, ℕ, ◌+◌, ◌-◌, ◌%◌, ◌<◌, ◌≤◌, List, length, get_or, take, drop, slice_range, sym, ap, ◌∙◌, arith, length-take, length-drop, get_or-take, get_or-drop, IsFirstStop, IsRun, IsPlain, entity_from, plain_at}
 
 among : (xs : List ℕ) (at k : ℕ) → k < 16 → get_or (take 16 (drop at xs)) k 0 ≡ get_or xs (at + k) 0
 among xs at k less = get_or-take 16 (drop at xs) k 0 less ∙ get_or-drop at xs k 0

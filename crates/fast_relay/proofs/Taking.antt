@@ -1,39 +1,5 @@
 -- What fields that are read and judged at once rest on; here numbers and constants.
-use Rattle.std.proofs.Common.{◌≡◌, ℕ, Bool, true, false, not, List, [], Ok, drop, slice_range, refl, sym, subst, ◌∙◌, arith}
-use Rattle.std.specs.Prelude.{ℤ, ◌+ℤ◌, ◌-ℤ◌, Option, Some, IsTrue}
-use Rattle.std.proofs.lemmas.Int.{ints}
-use Rattle.fast_wire.specs.declared.level.Level.TheVariants.{Usual}
-use Rattle.fast_value.specs.Scalar.{is_of, is_integer, in_range, of_integer}
-use Rattle.fast_value.specs.declared.kind.Kind.{Kind}
-use Rattle.fast_value.specs.declared.kind.Kind.TheVariants as kind
-use Rattle.fast_value.specs.declared.kind.Operator.{Operator}
-use Rattle.fast_value.specs.declared.kind.Operator.TheVariants as operator
-use Rattle.fast_value.specs.declared.kind.Part.{Part}
-use Rattle.fast_value.specs.declared.kind.Presence.{Presence}
-use Rattle.fast_template.specs.declared.resolved.FieldPart.{FieldPart}
-use Rattle.fast_value.specs.declared.scalar.Scalar.{Scalar}
-use Rattle.fast_dictionary.specs.declared.entry.Entry.{Entry}
-use Rattle.fast_dictionary.specs.declared.entry.Entry.TheVariants.{Assigned}
-use Rattle.fast_field.specs.Bases.{delta_base, next, next_of}
-use Rattle.fast_field.specs.Chosen.{ShortestSigned, ShortestWhole}
-use Rattle.fast_field.specs.Deltas.{DeltaForm}
-use Rattle.fast_field.specs.FieldReading.{integer_value, integer_spelled_at, spelled_at, integer_sum, integer_delta_at, delta_at, whole_at, row_at, field_at}
-use Rattle.fast_field.specs.Fields.{FormOf, IsWithin, within_part}
-use Rattle.fast_field.specs.Numbers.{IsNumber, IsFieldNumber, IsNumberOf, HasNumber}
-use Rattle.fast_field.specs.Planning.{left_out_of}
-use Rattle.fast_wire.specs.Writing.{IsShortest}
-use Rattle.fast_field.specs.Spelled.{Spelled}
-use Rattle.fast_field.specs.Values.{integer_of, is_unsigned}
-use Rattle.fast_field.proofs.BestDeltas.{IsFirst}
-use Rattle.fast_field.proofs.BestValues.{whole_is_first, delta_is_first, best_under_one, constant_is_first, left_out}
-use Rattle.fast_field.proofs.BestForms.{bit_zero_is_best}
-use Rattle.fast_field.proofs.ChosenForms.{whole_shortest, number_value}
-use Rattle.fast_field.proofs.FieldForms.{checked_is}
-use Rattle.fast_field.proofs.FieldsBehave.{field_goes}
-use Rattle.fast_field.proofs.Passing.{of_type, of_kind, number_back, within_number, kind_is, number_is}
-use Rattle.fast_relay.specs.Numbers.{KeepsNothing, SpellsWhole, Spelt}
-use Rattle.fast_relay.specs.Judged.{Adds, JudgesFrom, LeavesWhole, NumberGives, StandsFrom, sent_unsigned, under}
-use Rattle.fast_relay.specs.Relayed.{Judges, Takes}
+use Rattle.fast_relay.proofs.Common.{◌≡◌, ℕ, Bool, true, false, not, List, [], Ok, drop, slice_range, refl, sym, subst, ◌∙◌, arith, ℤ, ◌+ℤ◌, ◌-ℤ◌, Option, Some, IsTrue, ints, Usual, is_of, is_integer, in_range, of_integer, Kind, Operator, Part, Presence, FieldPart, Scalar, Entry, Assigned, delta_base, next, next_of, ShortestSigned, ShortestWhole, DeltaForm, integer_value, integer_spelled_at, spelled_at, integer_sum, integer_delta_at, delta_at, whole_at, row_at, field_at, FormOf, IsWithin, within_part, IsNumber, IsFieldNumber, IsNumberOf, HasNumber, left_out_of, IsShortest, Spelled, integer_of, is_unsigned, IsFirst, whole_is_first, delta_is_first, best_under_one, constant_is_first, left_out, bit_zero_is_best, whole_shortest, number_value, checked_is, field_goes, of_type, of_kind, number_back, within_number, kind_is, number_is, KeepsNothing, SpellsWhole, Spelt, Adds, JudgesFrom, LeavesWhole, NumberGives, StandsFrom, sent_unsigned, under, Judges, Takes}
 use Rattle.fast_relay.proofs.Ranges.{range_none}
 use Rattle.fast_relay.proofs.Standing.{shortest_signed, shortest_whole}
 
@@ -45,10 +11,10 @@ spelled_number pt k p bytes rest z n h = rw (h, n.range) refl
 
 spelled_as : (pt : Part) (k : Kind) (p : Presence) (bytes : List ℕ) → IsTrue (is_integer k) → spelled_at Usual pt k p bytes ≡ integer_spelled_at Usual pt k p bytes
 unfolding spelled_at
-spelled_as pt kind.UInt32 p bytes h = refl
-spelled_as pt kind.Int32 p bytes h = refl
-spelled_as pt kind.UInt64 p bytes h = refl
-spelled_as pt kind.Int64 p bytes h = refl
+spelled_as pt Kind.UInt32 p bytes h = refl
+spelled_as pt Kind.Int32 p bytes h = refl
+spelled_as pt Kind.UInt64 p bytes h = refl
+spelled_as pt Kind.Int64 p bytes h = refl
 spelled_as pt k p bytes h = absurd cc
 
 pub whole_read : (i : FieldPart) (bytes rest : List ℕ) (z : ℤ) → IsNumber i.kind z → Spelt (is_unsigned i.kind) i.presence bytes z rest → whole_at Usual i bytes ≡ Ok (Some (of_integer i.kind z), rest)
@@ -57,10 +23,10 @@ whole_read i bytes rest z n h = spelled_as i.part i.kind i.presence bytes n.inte
 
 pub whole_row : (o : Operator) (i : FieldPart) (e : Entry) (bytes : List ℕ) → SpellsWhole o → row_at Usual o i e true bytes ≡ whole_at Usual i bytes
 unfolding row_at
-whole_row operator.Plain i e bytes h = refl
-whole_row operator.Default i e bytes h = refl
-whole_row operator.Copy i e bytes h = refl
-whole_row operator.Increment i e bytes h = refl
+whole_row Operator.Plain i e bytes h = refl
+whole_row Operator.Default i e bytes h = refl
+whole_row Operator.Copy i e bytes h = refl
+whole_row Operator.Increment i e bytes h = refl
 whole_row o i e bytes h = absurd h
 
 pub row_read : (i : FieldPart) (e : Entry) (bytes rest : List ℕ) (v : Option Scalar) → row_at Usual i.operator i e true bytes ≡ Ok (v, rest) → IsWithin i.part v → field_at Usual i e true bytes ≡ Ok (v, rest)
@@ -69,10 +35,10 @@ row_read i e bytes rest v h within = rw (h, checked_is i.part v within) refl
 
 -- an operator that spells a value whole has the forms of the value itself
 pub whole_first : (o : Operator) (i : FieldPart) (e : Entry) (v : Option Scalar) (b : List ℕ) → SpellsWhole o → IsShortest (Spelled Usual i.kind i.presence) b v → IsFirst (λ c b. FormOf Usual o i e true c b v) b
-whole_first operator.Plain i e v b o s = whole_is_first i.kind i.presence v b s
-whole_first operator.Default i e v b o s = whole_is_first i.kind i.presence v b s
-whole_first operator.Copy i e v b o s = whole_is_first i.kind i.presence v b s
-whole_first operator.Increment i e v b o s = whole_is_first i.kind i.presence v b s
+whole_first Operator.Plain i e v b o s = whole_is_first i.kind i.presence v b s
+whole_first Operator.Default i e v b o s = whole_is_first i.kind i.presence v b s
+whole_first Operator.Copy i e v b o s = whole_is_first i.kind i.presence v b s
+whole_first Operator.Increment i e v b o s = whole_is_first i.kind i.presence v b s
 whole_first o' i e v b o s = absurd o
 
 pub takes : (i : FieldPart) (old new : Entry) (v : Scalar) (bytes rest : List ℕ) → IsTrue (within_part i.part v) → row_at Usual i.operator i old true bytes ≡ Ok (Some v, rest) → new ≡ next i old (Some v) → Takes i old new v bytes rest
@@ -88,12 +54,12 @@ judges true i old new v bytes rest form of_kind within t out first = (of_kind, r
 judges false i old new v bytes rest form of_kind within t out first =
     (of_kind, record { read = t.read; entry = t.entry; best = bit_zero_is_best i old (Some v) (record { row = left_out i.operator i old (Some v) out; within = within }) })
 
-constant_row : (o : Operator) (i : FieldPart) (e : Entry) (v : Scalar) (bytes : List ℕ) → o ≡ operator.Constant → i.initial ≡ Some v → row_at Usual o i e true bytes ≡ Ok (Some v, bytes)
+constant_row : (o : Operator) (i : FieldPart) (e : Entry) (v : Scalar) (bytes : List ℕ) → o ≡ Operator.Constant → i.initial ≡ Some v → row_at Usual o i e true bytes ≡ Ok (Some v, bytes)
 unfolding row_at
-constant_row operator.Constant i e v bytes o initial = rw initial refl
+constant_row Operator.Constant i e v bytes o initial = rw initial refl
 constant_row o' i e v bytes o initial = absurd cc
 
-pub constant_stands : (i : FieldPart) (e : Entry) (v : Scalar) (bytes : List ℕ) (at : ℕ) → i.operator ≡ operator.Constant → i.initial ≡ Some v → is_of i.kind v ≡ true → IsTrue (within_part i.part v) → JudgesFrom true i e e v bytes at at at
+pub constant_stands : (i : FieldPart) (e : Entry) (v : Scalar) (bytes : List ℕ) (at : ℕ) → i.operator ≡ Operator.Constant → i.initial ≡ Some v → is_of i.kind v ≡ true → IsTrue (within_part i.part v) → JudgesFrom true i e e v bytes at at at
 constant_stands i e v bytes at o initial is within =
     rw (range_none bytes at)
     (judges true i e e v (drop at bytes) (drop at bytes) [] is within (takes i e e v (drop at bytes) (drop at bytes) within (constant_row i.operator i e v (drop at bytes) o initial) (rw o refl)) (rw o refl)
@@ -114,10 +80,10 @@ typed_judges bit i old new z bytes at first next l s =
     (whole_first i.operator i old (Some v) form l.whole (whole_shortest i.kind i.presence v form (of_type i.kind z l.number.number) (shortest_whole i.kind i.presence z form l.number.number.integer s.form s.short)))
 
 whole_sign : (o : Operator) (k : Kind) → SpellsWhole o → sent_unsigned o k ≡ is_unsigned k
-whole_sign operator.Plain k whole = refl
-whole_sign operator.Default k whole = refl
-whole_sign operator.Copy k whole = refl
-whole_sign operator.Increment k whole = refl
+whole_sign Operator.Plain k whole = refl
+whole_sign Operator.Default k whole = refl
+whole_sign Operator.Copy k whole = refl
+whole_sign Operator.Increment k whole = refl
 whole_sign o k whole = absurd whole
 
 typed_gives : (bit : Bool) (i : FieldPart) (old new : Entry) (z : ℤ) → LeavesWhole bit i.kind i.part i old new z → NumberGives bit i.kind i old new z
@@ -134,13 +100,13 @@ whole_gives bit k i old new z same = subst (λ (k : Kind). LeavesWhole bit k i.p
 -- ---- numbers that no entry keeps
 
 pub leaves : (o : Operator) (e : Entry) (v : Scalar) → KeepsNothing o → next_of o e (Some v) ≡ e
-leaves operator.Plain e v h = refl
-leaves operator.Default e v h = refl
+leaves Operator.Plain e v h = refl
+leaves Operator.Default e v h = refl
 leaves o e v h = absurd h
 
 pub spells_whole : (o : Operator) → KeepsNothing o → SpellsWhole o
-spells_whole operator.Plain h = tt
-spells_whole operator.Default h = tt
+spells_whole Operator.Plain h = tt
+spells_whole Operator.Default h = tt
 spells_whole o h = absurd h
 
 typed_aside : (i : FieldPart) (e : Entry) (z : ℤ) (bytes rest : List ℕ) → KeepsNothing i.operator → IsFieldNumber i.kind i.part z → Spelt (is_unsigned i.kind) i.presence bytes z rest → Takes i e e (of_integer i.kind z) bytes rest
@@ -153,10 +119,10 @@ number_aside k i e z bytes rest same o = subst (λ (k : Kind). IsFieldNumber k i
 
 pub delta_as : (k : Kind) (i : FieldPart) (e : Entry) (bytes : List ℕ) → IsTrue (is_integer k) → delta_at Usual k i e bytes ≡ integer_delta_at Usual i e bytes
 unfolding delta_at
-delta_as kind.UInt32 i e bytes h = refl
-delta_as kind.Int32 i e bytes h = refl
-delta_as kind.UInt64 i e bytes h = refl
-delta_as kind.Int64 i e bytes h = refl
+delta_as Kind.UInt32 i e bytes h = refl
+delta_as Kind.Int32 i e bytes h = refl
+delta_as Kind.UInt64 i e bytes h = refl
+delta_as Kind.Int64 i e bytes h = refl
 delta_as k i e bytes h = absurd cc
 
 pub base_is : (i : FieldPart) (v : Scalar) → is_of i.kind v ≡ true → delta_base i (Assigned v) ≡ Ok v
@@ -167,9 +133,9 @@ pub delta_read : (i : FieldPart) (e : Entry) (base : Scalar) (bytes rest : List 
 unfolding integer_delta_at integer_sum integer_value
 delta_read i e base bytes rest d is range h = rw (h, is, range) refl
 
-pub delta_row : (o : Operator) (i : FieldPart) (e : Entry) (bytes : List ℕ) → o ≡ operator.Delta → row_at Usual o i e true bytes ≡ delta_at Usual i.kind i e bytes
+pub delta_row : (o : Operator) (i : FieldPart) (e : Entry) (bytes : List ℕ) → o ≡ Operator.Delta → row_at Usual o i e true bytes ≡ delta_at Usual i.kind i e bytes
 unfolding row_at
-delta_row operator.Delta i e bytes o = refl
+delta_row Operator.Delta i e bytes o = refl
 delta_row o' i e bytes o = absurd cc
 
 pub added_back : (z d : ℤ) → d ≡ (z +ℤ d) -ℤ z
@@ -181,10 +147,10 @@ delta_first i v z d b is h s =
     let e : d ≡ integer_of w -ℤ integer_of v = rw (number_back i.kind (z +ℤ d) h, number_is i.kind v z is) (added_back z d) in
     delta_is_first i (Assigned v) v w b (base_is i v (kind_is i.kind v z is)) (number_value i.kind i.presence v w b h.integer (of_type i.kind (z +ℤ d) h) (subst (λ (x : ℤ). ShortestSigned i.presence x b) e s))
 
-pub delta_out : (i : FieldPart) (e : Entry) (v : Option Scalar) → i.operator ≡ operator.Delta → left_out_of i.operator i e v ≡ false
+pub delta_out : (i : FieldPart) (e : Entry) (v : Option Scalar) → i.operator ≡ Operator.Delta → left_out_of i.operator i e v ≡ false
 delta_out i e v o = rw o refl
 
-assigned_takes : (i : FieldPart) (v : Scalar) (new : Entry) (z d : ℤ) (bytes rest : List ℕ) → i.operator ≡ operator.Delta → IsNumberOf i.kind v z → IsFieldNumber i.kind i.part (z +ℤ d) → Spelt false i.presence bytes d rest
+assigned_takes : (i : FieldPart) (v : Scalar) (new : Entry) (z d : ℤ) (bytes rest : List ℕ) → i.operator ≡ Operator.Delta → IsNumberOf i.kind v z → IsFieldNumber i.kind i.part (z +ℤ d) → Spelt false i.presence bytes d rest
     → new ≡ Assigned (of_integer i.kind (z +ℤ d)) → Takes i (Assigned v) new (of_integer i.kind (z +ℤ d)) bytes rest
 assigned_takes i v new z d bytes rest o is h read entry =
     let w = of_integer i.kind (z +ℤ d) in
@@ -194,7 +160,7 @@ assigned_takes i v new z d bytes rest o is h read entry =
     let last : next i (Assigned v) (Some w) ≡ Assigned w = rw o refl in
     takes i (Assigned v) new w bytes rest (within_number i.kind i.part (z +ℤ d) h) (rw n at row) (entry ∙ sym last)
 
-entry_takes : (i : FieldPart) (old new : Entry) (z d : ℤ) (bytes rest : List ℕ) → i.operator ≡ operator.Delta → HasNumber i.kind old z → IsFieldNumber i.kind i.part (z +ℤ d) → Spelt false i.presence bytes d rest
+entry_takes : (i : FieldPart) (old new : Entry) (z d : ℤ) (bytes rest : List ℕ) → i.operator ≡ Operator.Delta → HasNumber i.kind old z → IsFieldNumber i.kind i.part (z +ℤ d) → Spelt false i.presence bytes d rest
     → new ≡ Assigned (of_integer i.kind (z +ℤ d)) → Takes i old new (of_integer i.kind (z +ℤ d)) bytes rest
 entry_takes i (Assigned v) new z d bytes rest o is h read entry = assigned_takes i v new z d bytes rest o is h read entry
 entry_takes i old new z d bytes rest o is h read entry = absurd is
@@ -203,7 +169,7 @@ entry_first : (i : FieldPart) (old : Entry) (z d : ℤ) (b : List ℕ) → HasNu
 entry_first i (Assigned v) z d b is h s = delta_first i v z d b is h s
 entry_first i old z d b is h s = absurd is
 
-typed_adds : (i : FieldPart) (old new : Entry) (d : ℤ) → i.operator ≡ operator.Delta → Adds i.kind i.part d old new → NumberGives true i.kind i old new d
+typed_adds : (i : FieldPart) (old new : Entry) (d : ℤ) → i.operator ≡ Operator.Delta → Adds i.kind i.part d old new → NumberGives true i.kind i old new d
 typed_adds i old new d o h =
     let z = h.number +ℤ d in
     let w = of_integer i.kind z in
@@ -219,5 +185,5 @@ typed_adds i old new d o h =
           );
     }
 
-pub added_gives : (k : Kind) (i : FieldPart) (old new : Entry) (d : ℤ) → k ≡ i.kind → i.operator ≡ operator.Delta → Adds k i.part d old new → NumberGives true k i old new d
+pub added_gives : (k : Kind) (i : FieldPart) (old new : Entry) (d : ℤ) → k ≡ i.kind → i.operator ≡ Operator.Delta → Adds k i.part d old new → NumberGives true k i old new d
 added_gives k i old new d same o = subst (λ (k : Kind). Adds k i.part d old new → NumberGives true k i old new d) (sym same) (typed_adds i old new d o)

@@ -1,54 +1,17 @@
 -- What strings and vectors that are read and judged at once rest on.
-use Rattle.std.proofs.Common.{◌≡◌, ◌≤◌, true, false, List, ℕ, Ok, length, refl, sym, subst, ◌∙◌}
-use Rattle.std.specs.Prelude.{ℤ, Some, IsTrue}
-use Rattle.fast_wire.specs.declared.level.Level.TheVariants.{Usual}
-use Rattle.fast_wire.specs.Writing.{IsShortest}
-use Rattle.fast_value.specs.Scalar.{is_of}
-use Rattle.fast_value.specs.declared.kind.Kind.{Kind}
-use Rattle.fast_value.specs.declared.kind.Kind.TheVariants as kind
-use Rattle.fast_value.specs.declared.kind.Operator.{Operator}
-use Rattle.fast_value.specs.declared.kind.Operator.TheVariants as operator
-use Rattle.fast_value.specs.declared.kind.Part.{Part}
-use Rattle.fast_value.specs.declared.kind.Part.TheVariants as part
-use Rattle.fast_value.specs.declared.kind.Presence.{Presence}
-use Rattle.fast_template.specs.declared.resolved.FieldPart.{FieldPart}
-use Rattle.fast_value.specs.declared.scalar.Scalar.{Scalar}
-use Rattle.fast_dictionary.specs.declared.entry.Entry.{Entry}
-use Rattle.fast_dictionary.specs.declared.entry.Entry.TheVariants.{Assigned}
-use Rattle.fast_field.specs.Bases.{tail_base}
-use Rattle.fast_field.specs.Chosen.{Both, IsBestCut, IsBestTail, ShortestPart, ShortestSigned, ShortestUnits}
-use Rattle.fast_field.specs.Deltas.{DeltaForm}
-use Rattle.fast_field.specs.FieldReading.{delta_at, row_at, spelled_at, tail_at, unit_delta_at, units_spelled_at, whole_at}
-use Rattle.fast_field.specs.Fields.{FormOf, within_part}
-use Rattle.fast_relay.specs.Numbers.{SpellsWhole}
-use Rattle.fast_field.specs.Planning.{left_out_of}
-use Rattle.fast_field.specs.Spelled.{Spelled}
-use Rattle.fast_relay.specs.Texts.{IsText}
-use Rattle.fast_field.specs.Values.{units_of, IsUnitKind}
-use Rattle.fast_field.proofs.BestDeltas.{IsFirst}
-use Rattle.fast_field.proofs.BestTails.{tail_is_first}
-use Rattle.fast_field.proofs.BestValues.{delta_is_first, tail_form_is_first, whole_is_first}
-use Rattle.fast_field.proofs.ChosenForms.{string_value}
-use Rattle.fast_field.proofs.Refused.{few_units}
+use Rattle.fast_relay.proofs.Common.{◌≡◌, ◌≤◌, true, false, List, ℕ, Ok, length, refl, sym, subst, ◌∙◌, ℤ, Some, IsTrue, Usual, IsShortest, is_of, Kind, Operator, Part, Presence, FieldPart, Scalar, Entry, Assigned, tail_base, Both, IsBestCut, IsBestTail, ShortestPart, ShortestSigned, ShortestUnits, DeltaForm, delta_at, row_at, spelled_at, tail_at, unit_delta_at, units_spelled_at, whole_at, FormOf, within_part, SpellsWhole, left_out_of, Spelled, IsText, units_of, IsUnitKind, IsFirst, tail_is_first, delta_is_first, tail_form_is_first, whole_is_first, string_value, few_units, units_form, string_is_shortest, IsOfType, Bool, Leaves, under, Judges}
 use Rattle.fast_relay.proofs.Taking.{base_is, delta_out, delta_row, judges, takes, whole_first, whole_row}
-use Rattle.fast_field.proofs.Shortest.{units_form}
-use Rattle.fast_field.proofs.StandingForms.{string_is_shortest}
-use Rattle.fast_field.proofs.ValuesWithin.{IsOfType}
-use Rattle.std.proofs.Common.{Bool}
-use Rattle.fast_value.specs.Scalar.{is_of}
-use Rattle.fast_relay.specs.Judged.{Leaves, under}
-use Rattle.fast_relay.specs.Relayed.{Judges}
 
-pub whole_within : (p : Part) (v : Scalar) → p ≡ part.Whole → IsTrue (within_part p v)
+pub whole_within : (p : Part) (v : Scalar) → p ≡ Part.Whole → IsTrue (within_part p v)
 whole_within p v is = rw is refl
 
 -- ---- what stands whole
 
 spelled_as : (pt : Part) (k : Kind) (p : Presence) (bytes : List ℕ) → IsUnitKind k → spelled_at Usual pt k p bytes ≡ units_spelled_at Usual k p bytes
 unfolding spelled_at
-spelled_as pt kind.Ascii p bytes h = refl
-spelled_as pt kind.Unicode p bytes h = refl
-spelled_as pt kind.Bytes p bytes h = refl
+spelled_as pt Kind.Ascii p bytes h = refl
+spelled_as pt Kind.Unicode p bytes h = refl
+spelled_as pt Kind.Bytes p bytes h = refl
 spelled_as pt k p bytes h = absurd h
 
 pub text_read : (i : FieldPart) (v : Scalar) (bytes rest : List ℕ) → IsUnitKind i.kind → units_spelled_at Usual i.kind i.presence bytes ≡ Ok (Some v, rest) → whole_at Usual i bytes ≡ Ok (Some v, rest)
@@ -58,7 +21,7 @@ text_read i v bytes rest h read = spelled_as i.part i.kind i.presence bytes h �
 text_shortest : (k : Kind) (p : Presence) (v : Scalar) (b : List ℕ) → IsText k v → ShortestUnits k p (units_of v) b → IsShortest (Spelled Usual k p) b (Some v)
 text_shortest k p v b h s = string_is_shortest k p v b h.of_units (h.of_kind, h.within) (units_form k p (units_of v) b s)
 
-pub text_judges : (bit : Bool) (i : FieldPart) (old new : Entry) (v : Scalar) (bytes rest form : List ℕ) → i.part ≡ part.Whole → SpellsWhole i.operator → IsText i.kind v → units_spelled_at Usual i.kind i.presence bytes ≡ Ok (Some v, rest) → Leaves bit i old new (Some v)
+pub text_judges : (bit : Bool) (i : FieldPart) (old new : Entry) (v : Scalar) (bytes rest form : List ℕ) → i.part ≡ Part.Whole → SpellsWhole i.operator → IsText i.kind v → units_spelled_at Usual i.kind i.presence bytes ≡ Ok (Some v, rest) → Leaves bit i old new (Some v)
     → ShortestUnits i.kind i.presence (units_of v) form → IsTrue (is_of i.kind v) × Judges bit (under bit form) i old new (Some v) bytes rest
 text_judges bit i old new v bytes rest form whole o h read l s =
     let within = whole_within i.part v whole in
@@ -74,9 +37,9 @@ text_few k v h = few_units v h.within
 
 pub delta_as : (k : Kind) (i : FieldPart) (e : Entry) (bytes : List ℕ) → IsUnitKind k → delta_at Usual k i e bytes ≡ unit_delta_at Usual i e bytes
 unfolding delta_at
-delta_as kind.Ascii i e bytes h = refl
-delta_as kind.Unicode i e bytes h = refl
-delta_as kind.Bytes i e bytes h = refl
+delta_as Kind.Ascii i e bytes h = refl
+delta_as Kind.Unicode i e bytes h = refl
+delta_as Kind.Bytes i e bytes h = refl
 delta_as k i e bytes h = absurd h
 
 cut_first : (i : FieldPart) (base v : Scalar) (removal : ℤ) (new_part b : List ℕ) → IsText i.kind base → IsText i.kind v → IsBestCut i.kind i.presence (units_of base) (units_of v) removal new_part
@@ -85,7 +48,7 @@ cut_first i base v removal new_part b h l best s =
     delta_is_first i (Assigned base) base v b (base_is i base h.of_kind)
     (string_value i.kind i.presence base v removal new_part b h.of_units (text_of_type i.kind base h) (text_of_type i.kind v l) best s)
 
-pub text_delta_judges : (i : FieldPart) (base v : Scalar) (removal : ℤ) (new_part bytes rest form : List ℕ) → i.part ≡ part.Whole → i.operator ≡ operator.Delta → IsText i.kind base → IsText i.kind v → unit_delta_at Usual i (Assigned base) bytes ≡ Ok (Some v, rest)
+pub text_delta_judges : (i : FieldPart) (base v : Scalar) (removal : ℤ) (new_part bytes rest form : List ℕ) → i.part ≡ Part.Whole → i.operator ≡ Operator.Delta → IsText i.kind base → IsText i.kind v → unit_delta_at Usual i (Assigned base) bytes ≡ Ok (Some v, rest)
     → IsBestCut i.kind i.presence (units_of base) (units_of v) removal new_part → Both (ShortestSigned i.presence removal) (ShortestPart i.kind new_part) form → IsTrue (is_of i.kind v) × Judges true form i (Assigned base) (Assigned v) (Some v) bytes rest
 text_delta_judges i base v removal new_part bytes rest form whole o h l read best s =
     let old = Assigned base in
@@ -97,16 +60,16 @@ text_delta_judges i base v removal new_part bytes rest form whole o h l read bes
 
 -- ---- tails
 
-pub tail_row : (o : Operator) (i : FieldPart) (e : Entry) (bytes : List ℕ) → o ≡ operator.Tail → row_at Usual o i e true bytes ≡ tail_at Usual i e bytes
+pub tail_row : (o : Operator) (i : FieldPart) (e : Entry) (bytes : List ℕ) → o ≡ Operator.Tail → row_at Usual o i e true bytes ≡ tail_at Usual i e bytes
 unfolding row_at
-tail_row operator.Tail i e bytes o = refl
+tail_row Operator.Tail i e bytes o = refl
 tail_row o' i e bytes o = absurd cc
 
 pub tail_base_is : (i : FieldPart) (v : Scalar) → is_of i.kind v ≡ true → tail_base i (Assigned v) ≡ Ok v
 tail_base_is i v is = rw is refl
 
 -- an entry gives a tail a base, which may be another one than its value
-pub tail_judges : (i : FieldPart) (old : Entry) (base v : Scalar) (tail bytes rest form : List ℕ) → i.part ≡ part.Whole → i.operator ≡ operator.Tail → tail_base i old ≡ Ok base → IsText i.kind v → tail_at Usual i old bytes ≡ Ok (Some v, rest)
+pub tail_judges : (i : FieldPart) (old : Entry) (base v : Scalar) (tail bytes rest form : List ℕ) → i.part ≡ Part.Whole → i.operator ≡ Operator.Tail → tail_base i old ≡ Ok base → IsText i.kind v → tail_at Usual i old bytes ≡ Ok (Some v, rest)
     → left_out_of i.operator i old (Some v) ≡ false → IsBestTail i.kind i.presence (units_of base) (units_of v) tail → ShortestUnits i.kind i.presence tail form → IsTrue (is_of i.kind v) × Judges true form i old (Assigned v) (Some v) bytes rest
 tail_judges i old base v tail bytes rest form whole o given l read out best s =
     let within = whole_within i.part v whole in

@@ -1,39 +1,21 @@
 -- What strings that are read at once into their entry rest on.
-use Rattle.std.proofs.Common.{◌≡◌, List, ℕ, ◌-◌, ◌++◌, length, take, refl, sym, subst, ◌∙◌, Ok}
-use Rattle.std.specs.Prelude.{Some}
-use Rattle.fast_wire.specs.declared.level.Level.TheVariants.{Usual}
-use Rattle.fast_wire.specs.Entity.{groups}
-use Rattle.fast_wire.specs.Plain.{IsPlain}
-use Rattle.fast_value.specs.declared.kind.Kind.{Kind}
-use Rattle.fast_value.specs.declared.kind.Kind.TheVariants as kind
-use Rattle.fast_value.specs.declared.kind.Operator.TheVariants as operator
-use Rattle.fast_value.specs.declared.kind.Part.TheVariants as part
-use Rattle.fast_value.specs.declared.scalar.Scalar.TheVariants.{Ascii}
-use Rattle.fast_template.specs.declared.resolved.FieldPart.{FieldPart}
-use Rattle.fast_dictionary.specs.declared.entry.Entry.{Entry}
-use Rattle.fast_dictionary.specs.declared.entry.Entry.TheVariants.{Assigned}
-use Rattle.fast_field.specs.Bases.{next, next_of}
-use Rattle.fast_field.specs.FieldReading.{units_spelled_at}
-use Rattle.fast_field.specs.Values.{IsUnitKind}
-use Rattle.fast_relay.specs.Numbers.{KeepsNothing, SpellsWhole}
-use Rattle.fast_relay.specs.Relayed.{Takes}
-use Rattle.fast_relay.specs.Texts.{GivesCut, GivesTail}
+use Rattle.fast_relay.proofs.Common.{◌≡◌, List, ℕ, ◌-◌, ◌++◌, length, take, refl, sym, subst, ◌∙◌, Ok, Some, Usual, groups, IsPlain, Kind, Operator, Part, Ascii, FieldPart, Entry, Assigned, next, next_of, units_spelled_at, IsUnitKind, KeepsNothing, SpellsWhole, Takes, GivesCut, GivesTail}
 use Rattle.fast_relay.proofs.PlainTexts.{spelled_plain}
 use Rattle.fast_relay.proofs.Taking.{delta_row, leaves, spells_whole, takes, whole_row}
 use Rattle.fast_relay.proofs.TextRelaying.{delta_as, tail_row, text_read, whole_within}
 
-pub text_takes : {i : FieldPart} {old new : Entry} {bytes form rest : List ℕ} → i.kind ≡ kind.Ascii → i.part ≡ part.Whole → i.operator ≡ operator.Copy → IsPlain bytes form rest
-    → new ≡ next_of operator.Copy old (Some (Ascii (groups form))) → Takes i old new (Ascii (groups form)) bytes rest
+pub text_takes : {i : FieldPart} {old new : Entry} {bytes form rest : List ℕ} → i.kind ≡ Kind.Ascii → i.part ≡ Part.Whole → i.operator ≡ Operator.Copy → IsPlain bytes form rest
+    → new ≡ next_of Operator.Copy old (Some (Ascii (groups form))) → Takes i old new (Ascii (groups form)) bytes rest
 text_takes {i} {old} {new} {bytes} {form} {rest} k whole o h entry =
     let spells : SpellsWhole i.operator = rw o tt in
     let units : IsUnitKind i.kind = rw k tt in
-    let last : next i old (Some (Ascii (groups form))) ≡ next_of operator.Copy old (Some (Ascii (groups form))) = rw o refl in
+    let last : next i old (Some (Ascii (groups form))) ≡ next_of Operator.Copy old (Some (Ascii (groups form))) = rw o refl in
     takes i old new (Ascii (groups form)) bytes rest (whole_within i.part (Ascii (groups form)) whole)
     (whole_row i.operator i old bytes spells ∙ text_read i (Ascii (groups form)) bytes rest units (subst (λ (k : Kind). units_spelled_at Usual k i.presence bytes ≡ Ok (Some (Ascii (groups form)), rest)) (sym k) (spelled_plain i.presence bytes form rest h)))
     (entry ∙ sym last)
 
 -- one that its entry does not keep
-pub aside_takes : {i : FieldPart} {e : Entry} {bytes form rest : List ℕ} → i.kind ≡ kind.Ascii → i.part ≡ part.Whole → KeepsNothing i.operator → IsPlain bytes form rest → Takes i e e (Ascii (groups form)) bytes rest
+pub aside_takes : {i : FieldPart} {e : Entry} {bytes form rest : List ℕ} → i.kind ≡ Kind.Ascii → i.part ≡ Part.Whole → KeepsNothing i.operator → IsPlain bytes form rest → Takes i e e (Ascii (groups form)) bytes rest
 aside_takes {i} {e} {bytes} {form} {rest} k whole o h =
     let v = Ascii (groups form) in
     let units : IsUnitKind i.kind = rw k tt in
@@ -41,7 +23,7 @@ aside_takes {i} {e} {bytes} {form} {rest} k whole o h =
     (whole_row i.operator i e bytes (spells_whole i.operator o) ∙ text_read i v bytes rest units (subst (λ (k : Kind). units_spelled_at Usual k i.presence bytes ≡ Ok (Some v, rest)) (sym k) (spelled_plain i.presence bytes form rest h)))
     (sym (leaves i.operator e v o))
 
-pub cut_takes : {i : FieldPart} {base bytes : List ℕ} {removed : ℕ} {form rest : List ℕ} → i.kind ≡ kind.Ascii → i.part ≡ part.Whole → i.operator ≡ operator.Delta → GivesCut i base bytes removed form rest
+pub cut_takes : {i : FieldPart} {base bytes : List ℕ} {removed : ℕ} {form rest : List ℕ} → i.kind ≡ Kind.Ascii → i.part ≡ Part.Whole → i.operator ≡ Operator.Delta → GivesCut i base bytes removed form rest
     → Takes i (Assigned (Ascii base)) (Assigned (Ascii (take (length base - removed) base ++ groups form))) (Ascii (take (length base - removed) base ++ groups form)) bytes rest
 cut_takes {i} {base} {bytes} {removed} {form} {rest} k whole o h =
     let v = Ascii (take (length base - removed) base ++ groups form) in
@@ -51,7 +33,7 @@ cut_takes {i} {base} {bytes} {removed} {form} {rest} k whole o h =
     (delta_row i.operator i (Assigned (Ascii base)) bytes o ∙ delta_as i.kind i (Assigned (Ascii base)) bytes units ∙ h.read)
     (sym last)
 
-pub end_takes : {i : FieldPart} {base bytes form rest : List ℕ} → i.part ≡ part.Whole → i.operator ≡ operator.Tail → GivesTail i base bytes form rest
+pub end_takes : {i : FieldPart} {base bytes form rest : List ℕ} → i.part ≡ Part.Whole → i.operator ≡ Operator.Tail → GivesTail i base bytes form rest
     → Takes i (Assigned (Ascii base)) (Assigned (Ascii (take (length base - length form) base ++ groups form))) (Ascii (take (length base - length form) base ++ groups form)) bytes rest
 end_takes {i} {base} {bytes} {form} {rest} whole o h =
     let v = Ascii (take (length base - length form) base ++ groups form) in

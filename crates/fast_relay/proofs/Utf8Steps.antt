@@ -1,9 +1,6 @@
 -- UTF-8 that is gone over from place to place, and what is left of it.
 use Rattle.std.proofs.Common.{◌≡◌, ℕ, ◌+◌, ◌-◌, ◌≤◌, List, length, take, drop, sym, ap, subst, ◌∙◌, arith, drop-drop, take-add, take-append-drop}
-use Rattle.std.proofs.Math.Logic.{◌↔◌}
-use Rattle.std.proofs.lemmas.Str.{IsUtf8-append, IsUtf8-drop, IsCharBoundary-from_take}
-use Rattle.std.specs.Str.{IsUtf8}
-use Rattle.fast_relay.specs.Skips.{Skips}
+use Rattle.fast_relay.proofs.Common.{◌↔◌, IsUtf8-append, IsUtf8-drop, IsCharBoundary-from_take, IsUtf8, Skips}
 
 -- one step more
 pub further : (bs : List ℕ) (i j n : ℕ) → Skips bs i j → j + n ≤ length bs → IsUtf8 (take n (drop j bs)) → Skips bs i (j + n)

@@ -1,22 +1,6 @@
 -- What strings and vectors rest on that are judged as they stand: a length in its shortest form, and the bytes behind it, are
 -- their shortest form.
-use Rattle.std.proofs.Common.{◌≡◌, ◌≤◌, ◌+◌, ◌-◌, ◌++◌, ℕ, true, List, length, drop, slice_range, refl, ap, subst, arith, length-append, length-drop}
-use Rattle.std.specs.Prelude.{pos}
-use Rattle.std.proofs.lemmas.List.{length-take-le}
-use Rattle.fast_wire.specs.Integer.{IsUnsigned}
-use Rattle.fast_wire.specs.Reader.{IsBytes}
-use Rattle.fast_wire.specs.Vector.{IsCounted, IsLengthNullable}
-use Rattle.fast_wire.specs.Writing.{IsShortest}
-use Rattle.fast_wire.specs.declared.nullable.Nullable.TheVariants.{Value}
-use Rattle.fast_value.specs.declared.kind.Kind.{Kind}
-use Rattle.fast_value.specs.declared.kind.Kind.TheVariants as kind
-use Rattle.fast_value.specs.declared.kind.Presence.{Presence}
-use Rattle.fast_value.specs.declared.kind.Presence.TheVariants.{Mandatory, Optional}
-use Rattle.fast_field.specs.Chosen.{ShortestUnits, ShortestUnsigned}
-use Rattle.fast_field.specs.Spelled.{SpellsIntegerUsually}
-use Rattle.fast_field.specs.Values.{of_units}
-use Rattle.fast_relay.specs.Judged.{StandsFrom, UnitsStandFrom}
-use Rattle.fast_relay.specs.Texts.{IsText, IsVectorKind}
+use Rattle.fast_relay.proofs.Common.{◌≡◌, ◌≤◌, ◌+◌, ◌-◌, ◌++◌, ℕ, true, List, length, drop, slice_range, refl, ap, subst, arith, length-append, length-drop, pos, length-take-le, IsUnsigned, IsBytes, IsCounted, IsLengthNullable, IsShortest, Value, Kind, Presence, Mandatory, Optional, ShortestUnits, ShortestUnsigned, SpellsIntegerUsually, of_units, StandsFrom, UnitsStandFrom, IsText, IsVectorKind}
 use Rattle.fast_relay.proofs.Ranges.{range_split}
 use Rattle.fast_relay.proofs.Standing.{shortest_unsigned}
 use Rattle.fast_relay.proofs.VectorTexts.{bytes_found, fits}
@@ -28,10 +12,10 @@ counted IsLength front s form least fit = record {
 }
 
 behind_length : (k : Kind) (p : Presence) (front s : List ℕ) → IsVectorKind k → IsText k (of_units k s) → ShortestUnsigned p (length s) front → ShortestUnits k p s (front ++ s)
-behind_length kind.Unicode Mandatory front s is t h = counted IsUnsigned front s h.form h.least (fits kind.Unicode s is t)
-behind_length kind.Bytes Mandatory front s is t h = counted IsUnsigned front s h.form h.least (fits kind.Bytes s is t)
-behind_length kind.Unicode Optional front s is t h = let c = counted IsLengthNullable front s h.form h.least (fits kind.Unicode s is t) in record { form = c.form; least = c.least }
-behind_length kind.Bytes Optional front s is t h = let c = counted IsLengthNullable front s h.form h.least (fits kind.Bytes s is t) in record { form = c.form; least = c.least }
+behind_length Kind.Unicode Mandatory front s is t h = counted IsUnsigned front s h.form h.least (fits Kind.Unicode s is t)
+behind_length Kind.Bytes Mandatory front s is t h = counted IsUnsigned front s h.form h.least (fits Kind.Bytes s is t)
+behind_length Kind.Unicode Optional front s is t h = let c = counted IsLengthNullable front s h.form h.least (fits Kind.Unicode s is t) in record { form = c.form; least = c.least }
+behind_length Kind.Bytes Optional front s is t h = let c = counted IsLengthNullable front s h.form h.least (fits Kind.Bytes s is t) in record { form = c.form; least = c.least }
 behind_length k p front s is t h = absurd is
 
 pub vector_stands : (k : Kind) (p : Presence) (bytes : List ℕ) (at first start n : ℕ) → IsVectorKind k → first ≤ start → start ≤ length bytes → n ≤ 65535 → n ≤ length bytes - start → StandsFrom true p bytes at first start (pos n)

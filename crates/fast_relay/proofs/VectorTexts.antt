@@ -1,51 +1,8 @@
 -- Unicode strings and byte vectors, read and written at once.
-use Rattle.std.proofs.Common.{◌≡◌, ◌≤◌, ◌<◌, ◌+◌, ◌-◌, Bool, true, false, List, [], ℕ, ◌++◌, Result, Ok, Err, length, take, drop, slice_range, refl, sym, ap, subst, ◌∙◌, arith, drop-drop, length-append, length-drop}
-use Rattle.std.specs.Prelude.{Some, None, ℤ, pos, IsCharBoundary}
-use Rattle.std.proofs.lemmas.List.{length-take-le}
-use Rattle.std.proofs.lemmas.Str.{IsUtf8-append, IsUtf8-take, is_utf8-from_IsUtf8}
-use Rattle.std.proofs.Math.Seq.{take-nil}
-use Rattle.fast_wire.specs.declared.level.Level.TheVariants.{Usual}
-use Rattle.fast_wire.specs.Reading.{◌>>=◌, behind_length, bytes_at, unsigned_at, unsigned_nullable_at, vector_at, vector_nullable_at}
-use Rattle.fast_wire.specs.declared.fault.WireFault.{WireFault}
-use Rattle.fast_wire.specs.declared.fault.WireFault.TheVariants as wire
-use Rattle.fast_wire.specs.declared.nullable.Nullable.{Nullable}
-use Rattle.fast_wire.specs.declared.nullable.Nullable.TheVariants.{Null, Value}
-use Rattle.fast_wire.specs.Reader.{IsBytes}
-use Rattle.fast_wire.specs.Sizes.{unsigned_size, vector_nullable_size}
-use Rattle.fast_wire.proofs.Sizes.{unsigned_size-grows}
-use Rattle.fast_value.specs.Scalar.{is_of, scalar_eq-exact}
+use Rattle.fast_relay.proofs.Common.{◌≡◌, ◌≤◌, ◌<◌, ◌+◌, ◌-◌, Bool, true, false, List, [], ℕ, ◌++◌, Result, Ok, Err, length, take, drop, slice_range, refl, sym, ap, subst, ◌∙◌, arith, drop-drop, length-append, length-drop, Some, None, ℤ, pos, IsCharBoundary, length-take-le, IsUtf8-append, IsUtf8-take, is_utf8-from_IsUtf8, take-nil, Usual, ◌>>=◌, behind_length, bytes_at, unsigned_at, unsigned_nullable_at, vector_at, vector_nullable_at, WireFault, Nullable, Null, Value, IsBytes, unsigned_size, vector_nullable_size, unsigned_size-grows, is_of, scalar_eq-exact, Kind, Operator, Part, Presence, Mandatory, Optional, FieldPart, Scalar, Unicode, Bytes, Entry, Assigned, Empty, FieldFault, start_of, Both, IsBestCut, IsBestTail, ShortestPart, ShortestSigned, ShortestUnits, part_size, tail_size, IsLongestPrefix, SharesEnd, ended_by, ended_value, in_field, integer_at, limited_value, new_part_behind, part_at, signless, tail_at, unit_delta_at, unit_value, units_at, units_spelled_at, left_out_of, default_of, of_units, units_of, SpellsWhole, Spelt, IsText, IsVectorKind, parts, longer_tail, shortest_is_best, IsPartCost, vector_parts, all_append, all_take, IsTrue, Leaves, UnitsGive, Judges}
 use Rattle.fast_value.specs.contracts.scalar.ScalarPartialEq.TheImpl as scalar_eq
-use Rattle.fast_value.specs.declared.kind.Kind.{Kind}
-use Rattle.fast_value.specs.declared.kind.Kind.TheVariants as kind
-use Rattle.fast_value.specs.declared.kind.Operator.TheVariants as operator
-use Rattle.fast_value.specs.declared.kind.Part.TheVariants as part
-use Rattle.fast_value.specs.declared.kind.Presence.{Presence}
-use Rattle.fast_value.specs.declared.kind.Presence.TheVariants.{Mandatory, Optional}
-use Rattle.fast_template.specs.declared.resolved.FieldPart.{FieldPart}
-use Rattle.fast_value.specs.declared.scalar.Scalar.{Scalar}
-use Rattle.fast_value.specs.declared.scalar.Scalar.TheVariants.{Unicode, Bytes}
-use Rattle.fast_dictionary.specs.declared.entry.Entry.{Entry}
-use Rattle.fast_dictionary.specs.declared.entry.Entry.TheVariants.{Assigned, Empty}
-use Rattle.fast_field.specs.declared.fault.FieldFault.{FieldFault}
-use Rattle.fast_field.specs.Bases.{start_of}
-use Rattle.fast_field.specs.Chosen.{Both, IsBestCut, IsBestTail, ShortestPart, ShortestSigned, ShortestUnits, part_size, tail_size}
-use Rattle.fast_field.specs.CommonParts.{IsLongestPrefix, SharesEnd}
-use Rattle.fast_field.specs.Deltas.{ended_by}
-use Rattle.fast_field.specs.FieldReading.{ended_value, in_field, integer_at, limited_value, new_part_behind, part_at, signless, tail_at, unit_delta_at, unit_value, units_at, units_spelled_at}
-use Rattle.fast_field.specs.Planning.{left_out_of}
-use Rattle.fast_field.specs.Values.{default_of, of_units, units_of}
-use Rattle.fast_relay.specs.Numbers.{SpellsWhole, Spelt}
-use Rattle.fast_relay.specs.Texts.{IsText, IsVectorKind}
-use Rattle.fast_field.proofs.BestCuts.{parts}
-use Rattle.fast_field.proofs.BestTails.{longer_tail, shortest_is_best}
-use Rattle.fast_field.proofs.Least.{IsPartCost, vector_parts}
-use Rattle.fast_field.proofs.ValuesWithin.{all_append, all_take}
 use Rattle.fast_relay.proofs.PlainTexts.{behind_kept, best_removal, le_true, lt_false, no_same_text}
 use Rattle.fast_relay.proofs.Taking.{base_is}
-use Rattle.std.specs.Prelude.{IsTrue}
-use Rattle.fast_value.specs.Scalar.{is_of}
-use Rattle.fast_relay.specs.Judged.{Leaves, UnitsGive}
-use Rattle.fast_relay.specs.Relayed.{Judges}
 use Rattle.fast_relay.proofs.TextRelaying.{tail_base_is, tail_judges, text_delta_judges, text_judges}
 
 -- ---- what stands behind a length
@@ -53,13 +10,13 @@ use Rattle.fast_relay.proofs.TextRelaying.{tail_base_is, tail_judges, text_delta
 -- the number that was sent, and the same where it may be NULL
 number : Result (Nullable ℤ × List ℕ) FieldFault → Result (ℕ × List ℕ) WireFault
 number (Ok (Value (pos n), rest)) = Ok (n, rest)
-number (Ok (x, rest)) = Err wire.NeedMore
-number (Err f) = Err wire.NeedMore
+number (Ok (x, rest)) = Err WireFault.NeedMore
+number (Err f) = Err WireFault.NeedMore
 
 number_or_null : Result (Nullable ℤ × List ℕ) FieldFault → Result (Nullable ℕ × List ℕ) WireFault
 number_or_null (Ok (Value (pos n), rest)) = Ok (Value n, rest)
 number_or_null (Ok (x, rest)) = Ok (Null, rest)
-number_or_null (Err f) = Err wire.NeedMore
+number_or_null (Err f) = Err WireFault.NeedMore
 
 abbrev as_number : ℕ × List ℕ → Result (Nullable ℤ × List ℕ) FieldFault
 as_number x = Ok (Value (pos x.0), x.1)
@@ -80,10 +37,10 @@ sent_nullable (Err f) n rest h = absurd cc
 
 behind : (k : Kind) (p : Presence) (bytes rest : List ℕ) (n : ℕ) → IsVectorKind k → Spelt true p bytes (pos n) rest → n ≤ 65535 → n ≤ length rest → units_at Usual k p bytes ≡ Ok (Value (take n rest), drop n rest)
 unfolding integer_at units_at part_at vector_at vector_nullable_at behind_length bytes_at
-behind kind.Unicode Mandatory bytes rest n k h few there = rw (sent (unsigned_at bytes) n rest h, lt_false 65535 n few, lt_false (length rest) n there) refl
-behind kind.Bytes Mandatory bytes rest n k h few there = rw (sent (unsigned_at bytes) n rest h, lt_false 65535 n few, lt_false (length rest) n there) refl
-behind kind.Unicode Optional bytes rest n k h few there = rw (sent_nullable (unsigned_nullable_at bytes) n rest h, lt_false 65535 n few, lt_false (length rest) n there) refl
-behind kind.Bytes Optional bytes rest n k h few there = rw (sent_nullable (unsigned_nullable_at bytes) n rest h, lt_false 65535 n few, lt_false (length rest) n there) refl
+behind Kind.Unicode Mandatory bytes rest n k h few there = rw (sent (unsigned_at bytes) n rest h, lt_false 65535 n few, lt_false (length rest) n there) refl
+behind Kind.Bytes Mandatory bytes rest n k h few there = rw (sent (unsigned_at bytes) n rest h, lt_false 65535 n few, lt_false (length rest) n there) refl
+behind Kind.Unicode Optional bytes rest n k h few there = rw (sent_nullable (unsigned_nullable_at bytes) n rest h, lt_false 65535 n few, lt_false (length rest) n there) refl
+behind Kind.Bytes Optional bytes rest n k h few there = rw (sent_nullable (unsigned_nullable_at bytes) n rest h, lt_false 65535 n few, lt_false (length rest) n there) refl
 behind k' p bytes rest n k h few there = absurd k
 
 pub bytes_found : (k : Kind) (p : Presence) (bytes : List ℕ) (at start n : ℕ) → IsVectorKind k → Spelt true p (drop at bytes) (pos n) (drop start bytes) → n ≤ 65535 → n ≤ length bytes - start → start ≤ length bytes
@@ -98,17 +55,17 @@ bytes_found k p bytes at start n is h few there within =
 -- ---- what stands whole
 
 units_back : (k : Kind) (s : List ℕ) → IsVectorKind k → units_of (of_units k s) ≡ s
-units_back kind.Unicode s h = refl
-units_back kind.Bytes s h = refl
+units_back Kind.Unicode s h = refl
+units_back Kind.Bytes s h = refl
 units_back k s h = absurd h
 
 pub spelled : (k : Kind) (p : Presence) (bytes s rest : List ℕ) → IsVectorKind k → IsText k (of_units k s) → units_at Usual k p bytes ≡ Ok (Value s, rest) → units_spelled_at Usual k p bytes ≡ Ok (Some (of_units k s), rest)
 unfolding units_spelled_at unit_value
-spelled kind.Unicode p bytes s rest is t h = rw (h, is_utf8-from_IsUtf8 s t.within.2) refl
-spelled kind.Bytes p bytes s rest is t h = rw h refl
+spelled Kind.Unicode p bytes s rest is t h = rw (h, is_utf8-from_IsUtf8 s t.within.2) refl
+spelled Kind.Bytes p bytes s rest is t h = rw h refl
 spelled k p bytes s rest is t h = absurd is
 
-pub units_give : (bit : Bool) (i : FieldPart) (old new : Entry) (s : List ℕ) → IsVectorKind i.kind → i.part ≡ part.Whole → SpellsWhole i.operator → IsText i.kind (of_units i.kind s) → Leaves bit i old new (Some (of_units i.kind s)) → UnitsGive bit i old new s
+pub units_give : (bit : Bool) (i : FieldPart) (old new : Entry) (s : List ℕ) → IsVectorKind i.kind → i.part ≡ Part.Whole → SpellsWhole i.operator → IsText i.kind (of_units i.kind s) → Leaves bit i old new (Some (of_units i.kind s)) → UnitsGive bit i old new s
 units_give bit i old new s is whole o t l = λ bytes at first next stands. (
   of_units i.kind s,
   text_judges bit i old new (of_units i.kind s) (drop at bytes) (drop next bytes) (slice_range bytes first next) whole o t (spelled i.kind i.presence (drop at bytes) s (drop next bytes) is t stands.spelt) l
@@ -118,24 +75,24 @@ units_give bit i old new s is whole o t l = λ bytes at first next stands. (
 -- ---- units put behind others
 
 together : (k : Kind) (s t : List ℕ) → IsVectorKind k → IsText k (of_units k s) → IsText k (of_units k t) → length (s ++ t) ≤ 65535 → IsText k (of_units k (s ++ t))
-together kind.Unicode s t is a b few = record { of_units = tt; of_kind = refl; within = (few, all_append (λ c. c < 256) s t a.within.1 b.within.1, IsUtf8-append s t a.within.2 b.within.2) }
-together kind.Bytes s t is a b few = record { of_units = tt; of_kind = refl; within = (few, all_append (λ c. c < 256) s t a.within.1 b.within.1) }
+together Kind.Unicode s t is a b few = record { of_units = tt; of_kind = refl; within = (few, all_append (λ c. c < 256) s t a.within.1 b.within.1, IsUtf8-append s t a.within.2 b.within.2) }
+together Kind.Bytes s t is a b few = record { of_units = tt; of_kind = refl; within = (few, all_append (λ c. c < 256) s t a.within.1 b.within.1) }
 together k s t is a b few = absurd is
 
 pub put_behind : (k : Kind) (base s : List ℕ) (n : ℕ) → IsVectorKind k → n ≤ length base → n + length s ≤ 65535 → IsText k (of_units k (take n base)) → IsText k (of_units k s) → IsText k (of_units k (take n base ++ s))
 put_behind k base s n is within few front back = together k (take n base) s is front back (omega (arith, few, length-append (take n base) s, length-take-le n base within))
 
-pub front_text : (k : Kind) (base : Scalar) (n : ℕ) → IsVectorKind k → IsText k base → n ≤ length (units_of base) → (k ≡ kind.Unicode → IsCharBoundary (units_of base) n) → IsText k (of_units k (take n (units_of base)))
-front_text kind.Unicode (Unicode s) n is t le cut = record { of_units = tt; of_kind = refl; within = (omega (arith, length-take-le n s le, le, t.within.0), all_take (λ c. c < 256) n s t.within.1, IsUtf8-take s n t.within.2 (cut refl)) }
-front_text kind.Bytes (Bytes s) n is t le cut = record { of_units = tt; of_kind = refl; within = (omega (arith, length-take-le n s le, le, t.within.0), all_take (λ c. c < 256) n s t.within.1) }
-front_text kind.Unicode v n is t le cut = absurd (let e = t.of_kind in cc)
-front_text kind.Bytes v n is t le cut = absurd (let e = t.of_kind in cc)
+pub front_text : (k : Kind) (base : Scalar) (n : ℕ) → IsVectorKind k → IsText k base → n ≤ length (units_of base) → (k ≡ Kind.Unicode → IsCharBoundary (units_of base) n) → IsText k (of_units k (take n (units_of base)))
+front_text Kind.Unicode (Unicode s) n is t le cut = record { of_units = tt; of_kind = refl; within = (omega (arith, length-take-le n s le, le, t.within.0), all_take (λ c. c < 256) n s t.within.1, IsUtf8-take s n t.within.2 (cut refl)) }
+front_text Kind.Bytes (Bytes s) n is t le cut = record { of_units = tt; of_kind = refl; within = (omega (arith, length-take-le n s le, le, t.within.0), all_take (λ c. c < 256) n s t.within.1) }
+front_text Kind.Unicode v n is t le cut = absurd (let e = t.of_kind in cc)
+front_text Kind.Bytes v n is t le cut = absurd (let e = t.of_kind in cc)
 front_text k v n is t le cut = absurd is
 
 pub limited : (k : Kind) (s : List ℕ) → IsVectorKind k → IsText k (of_units k s) → limited_value k s ≡ Ok (of_units k s)
 unfolding limited_value unit_value
-limited kind.Unicode s is t = rw (lt_false 65535 (length s) t.within.0, is_utf8-from_IsUtf8 s t.within.2) refl
-limited kind.Bytes s is t = rw (lt_false 65535 (length s) t.within.0) refl
+limited Kind.Unicode s is t = rw (lt_false 65535 (length s) t.within.0, is_utf8-from_IsUtf8 s t.within.2) refl
+limited Kind.Bytes s is t = rw (lt_false 65535 (length s) t.within.0) refl
 limited k s is t = absurd is
 
 -- ---- tails
@@ -148,7 +105,7 @@ not_same : (v w : Scalar) (b : Bool) → (units_of v ≡ units_of w → ⊥) →
 not_same v w true differ e = absurd (differ (ap units_of (scalar_eq-exact v w e)))
 not_same v w false differ e = e
 
-other_end : (i : FieldPart) (base v : Scalar) → i.operator ≡ operator.Tail → is_of i.kind base ≡ true → (units_of base ≡ units_of v → ⊥) → left_out_of i.operator i (Assigned base) (Some v) ≡ false
+other_end : (i : FieldPart) (base v : Scalar) → i.operator ≡ Operator.Tail → is_of i.kind base ≡ true → (units_of base ≡ units_of v → ⊥) → left_out_of i.operator i (Assigned base) (Some v) ≡ false
 other_end i base v o is differ = rw (o, is) (not_same base v ((scalar_eq.eq-value).it base v) differ refl)
 
 vector_parts_nullable : IsPartCost (λ s. vector_nullable_size (Value s))
@@ -161,10 +118,10 @@ shorter cost is v n some =
     subst (λ (t : List ℕ). cost t ≤ cost (drop (n - 1) v)) next (is.on_drop 1 (drop (n - 1) v))
 
 no_more : (k : Kind) (p : Presence) (v : List ℕ) (n : ℕ) → IsVectorKind k → 0 < n → tail_size k p (drop n v) ≤ tail_size k p (drop (n - 1) v)
-no_more kind.Unicode Mandatory v n is some = shorter (part_size kind.Unicode) (parts kind.Unicode) v n some
-no_more kind.Bytes Mandatory v n is some = shorter (part_size kind.Bytes) (parts kind.Bytes) v n some
-no_more kind.Unicode Optional v n is some = shorter (λ s. vector_nullable_size (Value s)) vector_parts_nullable v n some
-no_more kind.Bytes Optional v n is some = shorter (λ s. vector_nullable_size (Value s)) vector_parts_nullable v n some
+no_more Kind.Unicode Mandatory v n is some = shorter (part_size Kind.Unicode) (parts Kind.Unicode) v n some
+no_more Kind.Bytes Mandatory v n is some = shorter (part_size Kind.Bytes) (parts Kind.Bytes) v n some
+no_more Kind.Unicode Optional v n is some = shorter (λ s. vector_nullable_size (Value s)) vector_parts_nullable v n some
+no_more Kind.Bytes Optional v n is some = shorter (λ s. vector_nullable_size (Value s)) vector_parts_nullable v n some
 no_more k p v n is some = absurd is
 
 best_end : (k : Kind) (p : Presence) (base s : List ℕ) (n : ℕ) → IsVectorKind k → n + length s ≡ length base → IsLongestPrefix base (take n base ++ s) n → IsBestTail k p base (take n base ++ s) s
@@ -174,7 +131,7 @@ best_end k p base s n is size prefix =
     let whole : length v ≡ length base = omega (arith, length-append (take n base) s, length-take-le n base within, size) in
     rw (behind_kept base s n within) at (shortest_is_best k p base v n prefix whole (λ some. no_more k p v n is some))
 
-pub end_gives : (i : FieldPart) (base : Scalar) (n : ℕ) (s : List ℕ) → IsVectorKind i.kind → i.part ≡ part.Whole → i.operator ≡ operator.Tail → IsText i.kind base → n + length s ≡ length (units_of base) → 0 < length s
+pub end_gives : (i : FieldPart) (base : Scalar) (n : ℕ) (s : List ℕ) → IsVectorKind i.kind → i.part ≡ Part.Whole → i.operator ≡ Operator.Tail → IsText i.kind base → n + length s ≡ length (units_of base) → 0 < length s
     → IsLongestPrefix (units_of base) (take n (units_of base) ++ s) n → IsText i.kind (of_units i.kind (take n (units_of base) ++ s)) → IsText i.kind (of_units i.kind s) → UnitsGive true i (Assigned base) (Assigned (of_units i.kind (take n (units_of base) ++ s))) s
 end_gives i base n s is whole o text size some prefix t part = λ bytes at first next stands.
     let b = units_of base in
@@ -194,8 +151,8 @@ end_gives i base n s is whole o text size some prefix t part = λ bytes at first
 -- ---- tails of an empty entry
 
 default_none : (k : Kind) → IsVectorKind k → units_of (default_of k) ≡ []
-default_none kind.Unicode is = refl
-default_none kind.Bytes is = refl
+default_none Kind.Unicode is = refl
+default_none Kind.Bytes is = refl
 default_none k is = absurd is
 
 start_none : (i : FieldPart) → IsVectorKind i.kind → i.initial ≡ None → units_of (start_of i) ≡ []
@@ -205,11 +162,11 @@ first_read : (i : FieldPart) (v : Scalar) (s bytes rest : List ℕ) → units_at
 unfolding tail_at ended_value
 first_read i v s bytes rest read made = rw (read, made) refl
 
-first_out : (p : Presence) (i : FieldPart) (v : Scalar) → i.operator ≡ operator.Tail → i.presence ≡ p → left_out_of i.operator i Empty (Some v) ≡ false
+first_out : (p : Presence) (i : FieldPart) (v : Scalar) → i.operator ≡ Operator.Tail → i.presence ≡ p → left_out_of i.operator i Empty (Some v) ≡ false
 first_out Mandatory i v o is = rw (o, is) refl
 first_out Optional i v o is = rw (o, is) refl
 
-pub first_gives : (i : FieldPart) (s : List ℕ) → IsVectorKind i.kind → i.part ≡ part.Whole → i.operator ≡ operator.Tail → i.initial ≡ None → IsText i.kind (of_units i.kind s) → 0 < length s → UnitsGive true i Empty (Assigned (of_units i.kind s)) s
+pub first_gives : (i : FieldPart) (s : List ℕ) → IsVectorKind i.kind → i.part ≡ Part.Whole → i.operator ≡ Operator.Tail → i.initial ≡ None → IsText i.kind (of_units i.kind s) → 0 < length s → UnitsGive true i Empty (Assigned (of_units i.kind s)) s
 first_gives i s is whole o none t some = λ bytes at first next stands.
     let v = of_units i.kind s in
     let base = start_of i in
@@ -224,8 +181,8 @@ first_gives i s is whole o none t some = λ bytes at first next stands.
 -- ---- deltas that remove few bytes at the end
 
 part_least : (k : Kind) (s t : List ℕ) → IsVectorKind k → length s ≤ length t → part_size k s ≤ part_size k t
-part_least kind.Unicode s t is le = omega (arith, le, unsigned_size-grows (length s) (length t) le)
-part_least kind.Bytes s t is le = omega (arith, le, unsigned_size-grows (length s) (length t) le)
+part_least Kind.Unicode s t is le = omega (arith, le, unsigned_size-grows (length s) (length t) le)
+part_least Kind.Bytes s t is le = omega (arith, le, unsigned_size-grows (length s) (length t) le)
 part_least k s t is le = absurd is
 
 part_of : Result (Nullable (List ℕ) × List ℕ) FieldFault → Result (List ℕ × List ℕ) FieldFault
@@ -255,7 +212,7 @@ unfolding unit_delta_at
 delta_read i base v r s bytes middle rest is small le removal read made =
     rw (removal, le_true r 2147483647 (omega (arith, small)), base_is i base is) (new_part_read i.kind (units_of base) v r s middle rest le read made)
 
-pub vector_delta_judges : (i : FieldPart) (base : Scalar) (r n : ℕ) (s bytes middle rest form : List ℕ) → IsVectorKind i.kind → i.part ≡ part.Whole → i.operator ≡ operator.Delta → IsText i.kind base → r < 63 → r ≤ length (units_of base) → n ≡ length (units_of base) - r
+pub vector_delta_judges : (i : FieldPart) (base : Scalar) (r n : ℕ) (s bytes middle rest form : List ℕ) → IsVectorKind i.kind → i.part ≡ Part.Whole → i.operator ≡ Operator.Delta → IsText i.kind base → r < 63 → r ≤ length (units_of base) → n ≡ length (units_of base) - r
     → IsLongestPrefix (units_of base) (take n (units_of base) ++ s) n → SharesEnd (units_of base) (take n (units_of base) ++ s) n → IsText i.kind (of_units i.kind (take n (units_of base) ++ s)) → Spelt false i.presence bytes (pos r) middle → units_at Usual i.kind Mandatory middle ≡ Ok (Value s, rest)
     → Both (ShortestSigned i.presence (pos r)) (ShortestPart i.kind s) form
     → IsTrue (is_of i.kind (of_units i.kind (take n (units_of base) ++ s))) × Judges true form i (Assigned base) (Assigned (of_units i.kind (take n (units_of base) ++ s))) (Some (of_units i.kind (take n (units_of base) ++ s))) bytes rest
@@ -273,6 +230,6 @@ vector_delta_judges i base r n s bytes middle rest form is whole o text small le
 -- ---- what is within its type
 
 pub fits : (k : Kind) (s : List ℕ) → IsVectorKind k → IsText k (of_units k s) → IsBytes s × (length s ≤ 65535)
-fits kind.Unicode s is t = (t.within.1, t.within.0)
-fits kind.Bytes s is t = (t.within.1, t.within.0)
+fits Kind.Unicode s is t = (t.within.1, t.within.0)
+fits Kind.Bytes s is t = (t.within.1, t.within.0)
 fits k s is t = absurd is

@@ -1,12 +1,5 @@
 -- Texts whose last characters are written over.
-use Rattle.std.proofs.Common.{◌≡◌, ◌+◌, ◌-◌, ◌%◌, ℕ, List, ◌++◌, ◌∙◌, length, take, drop, get_or, refl, sym, ap, arith, inr, length-append}
-use Rattle.std.proofs.Math.ListN.{set}
-use Rattle.std.proofs.lemmas.List.{get_or_default, length-set, length-take-le}
-use Rattle.std.proofs.Math.Seq.{take-append_seam}
-use Rattle.fast_value.specs.Overwritten.{with_bytes}
-use Rattle.fast_wire.specs.Entity.{IsEntity, groups}
-use Rattle.fast_wire.proofs.UnsignedForms.{entity_some}
-use Rattle.fast_field.proofs.PutTogether.{last_cleared}
+use Rattle.fast_relay.proofs.Common.{◌≡◌, ◌+◌, ◌-◌, ◌%◌, ℕ, List, ◌++◌, ◌∙◌, length, take, drop, get_or, refl, sym, ap, arith, inr, length-append, set, get_or_default, length-set, length-take-le, take-append_seam, with_bytes, IsEntity, groups, entity_some, last_cleared}
 
 -- as many bytes as there were are the bytes now
 pub all_written : (old new : List ℕ) → length new ≡ length old → with_bytes old new ≡ new

@@ -1,8 +1,6 @@
 -- What the best form of a field is that was read and is best spelled otherwise than it stands, or is NULL. (Own.)
 use Rattle.std.specs.Prelude.{◌≤◌, ℕ, List, [], ◌∷◌, ◌++◌, length, drop, slice_range, Option, Some, None}
-use Rattle.fast_template.specs.declared.resolved.FieldPart.{FieldPart}
-use Rattle.fast_value.specs.declared.scalar.Scalar.{Scalar}
-use Rattle.fast_dictionary.specs.declared.entry.Entry.{Entry}
+use Rattle.fast_relay.specs.Prelude.{FieldPart, Scalar, Entry}
 use Rattle.fast_relay.specs.Relayed.{IsThere, Judges}
 use Rattle.fast_relay.specs.declared.best.Best.{Best}
 

@@ -1,27 +1,6 @@
 -- A field whose bytes are judged as they stand: they are the best form of their value, or bit 0 is. (Own.)
 use Rattle.std.specs.Prelude.{◌≡◌, ◌≤◌, ◌+◌, ◌+ℤ◌, ℕ, ℤ, Bool, true, false, not, List, [], length, drop, slice_range, Option, Some, None, Ok, IsTrue, ⊤}
-use Rattle.fast_wire.specs.Plain.{IsPlain}
-use Rattle.fast_wire.specs.declared.level.Level.TheVariants.{Usual}
-use Rattle.fast_wire.specs.declared.nullable.Nullable.TheVariants.{Value}
-use Rattle.fast_value.specs.Scalar.{is_of, of_integer}
-use Rattle.fast_value.specs.declared.kind.Kind.{Kind}
-use Rattle.fast_value.specs.declared.kind.Operator.{Operator}
-use Rattle.fast_value.specs.declared.kind.Operator.TheVariants as operator
-use Rattle.fast_value.specs.declared.kind.Part.{Part}
-use Rattle.fast_value.specs.declared.kind.Presence.{Presence}
-use Rattle.fast_value.specs.declared.kind.Presence.TheVariants.{Mandatory, Optional}
-use Rattle.fast_value.specs.declared.scalar.Scalar.{Scalar}
-use Rattle.fast_value.specs.declared.scalar.Scalar.TheVariants.{Ascii}
-use Rattle.fast_template.specs.declared.resolved.FieldPart.{FieldPart}
-use Rattle.fast_dictionary.specs.declared.entry.Entry.{Entry}
-use Rattle.fast_dictionary.specs.declared.entry.Entry.TheVariants.{Assigned}
-use Rattle.fast_field.specs.Bases.{next}
-use Rattle.fast_field.specs.Chosen.{ShortestUnits}
-use Rattle.fast_field.specs.FieldReading.{units_at}
-use Rattle.fast_field.specs.Numbers.{HasNumber, IsFieldNumber}
-use Rattle.fast_field.specs.Planning.{left_out_of}
-use Rattle.fast_field.specs.Spelled.{SpellsIntegerUsually, overlong_number}
-use Rattle.fast_field.specs.Values.{is_unsigned, of_units}
+use Rattle.fast_relay.specs.Prelude.{IsPlain, Usual, Value, is_of, of_integer, Kind, Operator, Part, Presence, Mandatory, Optional, Scalar, Ascii, FieldPart, Entry, Assigned, next, ShortestUnits, units_at, HasNumber, IsFieldNumber, left_out_of, SpellsIntegerUsually, overlong_number, is_unsigned, of_units}
 use Rattle.fast_relay.specs.Numbers.{SpellsWhole, Spelt}
 use Rattle.fast_relay.specs.Relayed.{Judges, Takes}
 use Rattle.fast_relay.specs.Texts.{GivesTail, IsText}
@@ -163,7 +142,7 @@ pub record LeavesWhole (bit : Bool) (k : Kind) (p : Part) (i : FieldPart) (old n
 
 -- whether what is sent of an integer has no sign: a difference has one
 abbrev pub sent_unsigned : Operator → Kind → Bool
-sent_unsigned operator.Delta k = false
+sent_unsigned Operator.Delta k = false
 sent_unsigned o k = is_unsigned k
 
 -- wherever this number is spelled, it gives a value, and wherever its shortest form stands, the best form of that has this bit

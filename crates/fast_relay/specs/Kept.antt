@@ -1,20 +1,14 @@
 -- Values that their entries have, and those that they have not. (Own.)
 use Rattle.std.specs.Prelude.{◌≡◌, ◌≤◌, ℕ, Bool, true, false, List, length, drop, Option, Some, None}
-use Rattle.fast_value.specs.declared.kind.Operator.{Operator}
-use Rattle.fast_value.specs.declared.kind.Operator.TheVariants as operator
-use Rattle.fast_value.specs.declared.scalar.Scalar.{Scalar}
-use Rattle.fast_value.specs.declared.scalar.Scalar.TheVariants.{Ascii}
-use Rattle.fast_template.specs.declared.resolved.FieldPart.{FieldPart}
-use Rattle.fast_dictionary.specs.declared.entry.Entry.{Entry}
-use Rattle.fast_dictionary.specs.declared.entry.Entry.TheVariants.{Assigned}
+use Rattle.fast_relay.specs.Prelude.{Operator, Scalar, Ascii, FieldPart, Entry, Assigned}
 use Rattle.fast_relay.specs.Relayed.{Takes}
 
 -- whether an operator leaves a value that was read in its entry
 abbrev pub keeps_value : Operator → Bool
-keeps_value operator.Copy = true
-keeps_value operator.Increment = true
-keeps_value operator.Delta = true
-keeps_value operator.Tail = true
+keeps_value Operator.Copy = true
+keeps_value Operator.Increment = true
+keeps_value Operator.Delta = true
+keeps_value Operator.Tail = true
 keeps_value o = false
 
 -- ---- what is read at once at a place in these bytes

@@ -1,3 +1,4 @@
+mod Prelude
 pub mod Best
 pub mod Judged
 pub mod Numbers

@@ -1,8 +1,6 @@
 -- A length in one byte that no entry keeps. (Own.)
 use Rattle.std.specs.Prelude.{ℕ, ◌+◌, true, List, [], ◌∷◌, Option, Some, None, drop, slice_index}
-use Rattle.fast_template.specs.declared.resolved.FieldPart.{FieldPart}
-use Rattle.fast_value.specs.declared.scalar.Scalar.TheVariants.{U32}
-use Rattle.fast_dictionary.specs.declared.entry.Entry.{Entry}
+use Rattle.fast_relay.specs.Prelude.{FieldPart, U32, Entry}
 use Rattle.fast_relay.specs.Relayed.{Judges}
 
 -- the byte at a place gives the number, or NULL, and is its best form, and whatever the entry is it stays

@@ -1,15 +1,7 @@
 -- A field that is read at once: what was read is a form of its value, the entry is the one afterwards, and what the value's best
 -- form is. (Own.)
 use Rattle.std.specs.Prelude.{◌≡◌, ℕ, Bool, true, false, List, ◌++◌, Option, Some, None, Ok, IsTrue}
-use Rattle.fast_wire.specs.declared.level.Level.TheVariants.{Usual}
-use Rattle.fast_value.specs.Scalar.{is_of}
-use Rattle.fast_value.specs.declared.kind.Kind.{Kind}
-use Rattle.fast_template.specs.declared.resolved.FieldPart.{FieldPart}
-use Rattle.fast_value.specs.declared.scalar.Scalar.{Scalar}
-use Rattle.fast_dictionary.specs.declared.entry.Entry.{Entry}
-use Rattle.fast_field.specs.Bases.{next}
-use Rattle.fast_field.specs.Best.{IsBest}
-use Rattle.fast_field.specs.FieldReading.{field_at}
+use Rattle.fast_relay.specs.Prelude.{Usual, is_of, Kind, FieldPart, Scalar, Entry, next, IsBest, field_at}
 
 -- the bytes before `rest` give the value under bit 1, and the entry is the one afterwards
 pub record Takes (i : FieldPart) (old new : Entry) (v : Scalar) (bytes rest : List ℕ) : Type 0 where

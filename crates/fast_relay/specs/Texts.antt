@@ -1,17 +1,6 @@
 -- Strings and vectors within their types. (Own.) No public clause names these.
 use Rattle.std.specs.Prelude.{◌≡◌, ℕ, ◌+◌, ◌-◌, ◌<◌, ◌≤◌, List, ◌++◌, length, take, Some, Ok, IsTrue}
-use Rattle.fast_wire.specs.declared.level.Level.TheVariants.{Usual}
-use Rattle.fast_wire.specs.Entity.{groups}
-use Rattle.fast_wire.specs.Plain.{IsPlain}
-use Rattle.fast_value.specs.Scalar.{IsScalar, is_of}
-use Rattle.fast_value.specs.declared.kind.Kind.{Kind}
-use Rattle.fast_value.specs.declared.kind.Kind.TheVariants as kind
-use Rattle.fast_value.specs.declared.scalar.Scalar.{Scalar}
-use Rattle.fast_value.specs.declared.scalar.Scalar.TheVariants.{Ascii}
-use Rattle.fast_template.specs.declared.resolved.FieldPart.{FieldPart}
-use Rattle.fast_dictionary.specs.declared.entry.Entry.TheVariants.{Assigned}
-use Rattle.fast_field.specs.FieldReading.{tail_at, unit_delta_at}
-use Rattle.fast_field.specs.Values.{IsUnitKind}
+use Rattle.fast_relay.specs.Prelude.{Usual, groups, IsPlain, IsScalar, is_of, Kind, Scalar, Ascii, FieldPart, Assigned, tail_at, unit_delta_at, IsUnitKind}
 
 -- a string or vector of a type, and within it
 pub record IsText (k : Kind) (v : Scalar) : Type 0 where
@@ -21,8 +10,8 @@ pub record IsText (k : Kind) (v : Scalar) : Type 0 where
 
 -- the types whose bytes stand behind their length
 abbrev pub IsVectorKind : Kind → Type 0
-IsVectorKind kind.Unicode = Unit {0}
-IsVectorKind kind.Bytes = Unit {0}
+IsVectorKind Kind.Unicode = Unit {0}
+IsVectorKind Kind.Bytes = Unit {0}
 IsVectorKind k = ⊥
 
 -- the bytes before `rest` give the text without so many characters at its end, and these behind it, which stand in their

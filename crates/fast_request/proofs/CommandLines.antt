@@ -1,10 +1,5 @@
 -- Lines of words, computed: what is found of each.
-use Rattle.std.proofs.Common.{◌≡◌, List, [], ◌∷◌, Option, None, Some, refl}
-use Rattle.std.specs.Prelude.{codes}
-use Rattle.clap.specs.Words.{Text, first_of, one_of}
-use Rattle.clap.proofs.OnLiterals.{clap_on_literals}
-use Rattle.fast_request.specs.CommandLine.{command_named, rows_among}
-use Rattle.fast_command.specs.declared.command.Command.TheVariants.{Check}
+use Rattle.fast_request.proofs.Common.{◌≡◌, List, [], ◌∷◌, Option, None, Some, refl, codes, Text, first_of, one_of, clap_on_literals, command_named, rows_among, Check}
 
 abbrev of : Text → List Text → Option Text
 of id words = first_of id (rows_among None words)

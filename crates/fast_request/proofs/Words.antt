@@ -1,9 +1,5 @@
 -- Words added to a line one after the other, and what is found of them.
-use Rattle.std.proofs.Common.{◌≡◌, ◌∙◌, List, Option, true, ap, ap₂, refl, subst}
-use Rattle.clap.specs.Words.{App, Row, Rule, Text, is_simple, matches_of, with_rule}
-use Rattle.clap.specs.declared.builder.value_parser.ValueParser.{ValueParser}
-use Rattle.clap.proofs.OnLiterals.{clap_on_literals}
-use Rattle.fast_request.specs.CommandLine.{Asked, Finds, line_among, rows_among}
+use Rattle.fast_request.proofs.Common.{◌≡◌, ◌∙◌, List, Option, true, ap, ap₂, refl, subst, App, Row, Rule, Text, is_simple, matches_of, with_rule, ValueParser, clap_on_literals, Asked, Finds, line_among, rows_among}
 
 -- one word more
 pub next : (old new whole : App) (added rule : Rule) → new ≡ with_rule old added → old ≡ whole → added ≡ rule → new ≡ with_rule whole rule

@@ -14,7 +14,6 @@ use Rattle.fast_stream.specs.declared.mode.Mode.{Mode}
 use Rattle.fast_command.specs.declared.command.Command.{Command}
 use Rattle.fast_command.specs.declared.command.Command.TheVariants.{Show, Check, Canon}
 use Rattle.fast_lines.specs.declared.form.Form.{Form}
-use Rattle.fast_lines.specs.declared.form.Form.TheVariants as forms
 use Rattle.fast_request.specs.declared.request.Request.{Request}
 
 -- ---- the words
@@ -101,8 +100,8 @@ is_blocks Plain = false
 is_blocks Blocks = true
 
 abbrev pub is_json : Form → Bool
-is_json forms.Text = false
-is_json forms.Json = true
+is_json Form.Text = false
+is_json Form.Json = true
 
 -- what is found in the words is what is asked for
 pub record Finds (rows : List Row) (asked : Asked) : Type 0 where

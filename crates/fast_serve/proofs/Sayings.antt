@@ -1,18 +1,5 @@
 -- What is said of a refusal, of words that may ask for an explanation.
-use Rattle.std.proofs.Common.{◌≡◌, List, ℕ, [], false, inl, inr, Result, Ok, Err, refl, sym, subst}
-use Rattle.std.specs.Prelude.{OnOk, OnErr}
-use Rattle.std.specs.Io.KnownBytes.{Appends}
-use Rattle.std.proofs.lemmas.List.{append-nil}
-use Rattle.fast_io.specs.Counts.{counted}
-use Rattle.fast_io.specs.Traffic.{CountsError, Taken}
-use Rattle.fast_io.specs.declared.input.Failed.{Failed}
-use Rattle.fast_host.specs.Devices.{Writer}
-use Rattle.fast_host.specs.Refusals.{text_of}
-use Rattle.fast_host.specs.declared.refusal.Refusal.{Refusal}
-use Rattle.fast_pass.specs.declared.fault.CanonFault.TheVariants as fault
-use Rattle.fast_stream.specs.declared.fault.Fault.{Fault}
-use Rattle.fast_request.specs.CommandLine.{Asked, AsksFor}
-use Rattle.fast_serve.specs.Served.{Answer, AnswersInHex, Says, SaysAsked, SaysText, WritesHex}
+use Rattle.fast_serve.proofs.Common.{◌≡◌, List, ℕ, [], false, inl, inr, Result, Ok, Err, refl, sym, subst, OnOk, OnErr, Appends, append-nil, counted, CountsError, Taken, Failed, Writer, text_of, Refusal, CanonFault, Fault, Asked, AsksFor, Answer, AnswersInHex, Says, SaysAsked, SaysText, WritesHex}
 
 -- the refusal's text alone
 pub said_alone : (words : List (List ℕ)) (old new : Writer) (r : Refusal) → SaysText old new (text_of r) → SaysAsked words old new (Err r)
@@ -29,7 +16,7 @@ handed_text old new text (Ok x) written part failed flushed = inl (written, fail
 handed_text old new text (Err e) written part failed flushed = inr (part.0, part.1, failed)
 
 -- a line of hex that failed behind a refused stream
-pub failed_line : (old new : Writer) (bytes : List ℕ) (f : Fault) (e : Refusal) → WritesHex old new bytes (Err e) → AnswersInHex old new bytes (Err (fault.Stream f)) (Err e)
+pub failed_line : (old new : Writer) (bytes : List ℕ) (f : Fault) (e : Refusal) → WritesHex old new bytes (Err e) → AnswersInHex old new bytes (Err (CanonFault.Stream f)) (Err e)
 failed_line old new bytes f e (inl h) = absurd cc
 failed_line old new bytes f e (inr (inl h)) = inr (inl h)
 failed_line old new bytes f e (inr (inr h)) = inr (inr h)

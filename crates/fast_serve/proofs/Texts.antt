@@ -1,8 +1,5 @@
 -- A text that was read whole.
-use Rattle.std.proofs.Common.{◌≤◌, ℕ, List, length, ap, sym, subst, arith, refl}
-use Rattle.fast_decoder.specs.Inputs.{Reader, Reads}
-use Rattle.fast_host.specs.Input.{IsText}
-use Rattle.fast_serve.specs.Served.{HasText}
+use Rattle.fast_serve.proofs.Common.{◌≤◌, ℕ, List, length, ap, sym, subst, arith, refl, Reader, Reads, IsText, HasText}
 
 -- what was read is a text that was read whole
 pub has_text : (turns count : ℕ) (old new : Reader) (text got : List ℕ) → Reads old new count got → count ≤ turns → IsText text got new.left → HasText turns old new text

@@ -14,7 +14,6 @@ use Rattle.fast_written.specs.declared.fault.LoadFault.{LoadFault}
 use Rattle.fast_decoder.specs.Inputs.{Reader, Reads}
 use Rattle.fast_pass.specs.Passed.{FlushesOnce, IsCausedBy, errors_after}
 use Rattle.fast_pass.specs.declared.fault.CanonFault.{CanonFault}
-use Rattle.fast_pass.specs.declared.fault.CanonFault.TheVariants as fault
 use Rattle.fast_pass.specs.declared.summary.Summary.{Summary}
 use Rattle.fast_host.specs.HexText.{digits_of}
 use Rattle.fast_host.specs.Input.{GivesNoText, IsText}
@@ -29,7 +28,6 @@ use Rattle.fast_command.specs.declared.command.Command.{Command}
 use Rattle.fast_command.specs.declared.command.Command.TheVariants.{Show, Check, Canon}
 use Rattle.fast_host.specs.declared.input.TextFault.{TextFault}
 use Rattle.fast_host.specs.declared.refusal.Refusal.{Refusal}
-use Rattle.fast_host.specs.declared.refusal.Refusal.TheVariants as refusal
 
 abbrev pub Answer : Type 0
 Answer = Result (Unit {0}) Refusal
@@ -81,7 +79,7 @@ RefusesText turns old new r =
 -- or their file cannot be opened
 abbrev pub RefusesTemplates : Option (List ℕ) → ℕ → Refusal → Type 0
 RefusesTemplates left turns r =
-    (r ≡ refusal.Open) ⊎ ((old : Reader) × (new : Reader) × (old.left ≡ left) × RefusesText turns old new r)
+    (r ≡ Refusal.Open) ⊎ ((old : Reader) × (new : Reader) × (old.left ≡ left) × RefusesText turns old new r)
 
 -- ---- a run in plain bytes
 
@@ -121,18 +119,18 @@ line_of_hex bytes = encode_lower bytes ++ 10 ∷ []
 abbrev pub WritesHex : Writer → Writer → List ℕ → Answer → Type 0
 WritesHex old new bytes r =
     ((r ≡ Ok tt) × WritesText old new (line_of_hex bytes))
-    ⊎ ((r ≡ Err refusal.Write) × WritesFront old new (line_of_hex bytes))
-    ⊎ ((r ≡ Err refusal.Memory) × (new ≡ old))
+    ⊎ ((r ≡ Err Refusal.Write) × WritesFront old new (line_of_hex bytes))
+    ⊎ ((r ≡ Err Refusal.Memory) × (new ≡ old))
 
 -- what is answered of a run in memory that wrote these bytes
 abbrev pub AnswersInHex : Writer → Writer → List ℕ → Result Summary CanonFault → Answer → Type 0
 AnswersInHex old new bytes (Ok summary) r = WritesHex old new bytes r
-AnswersInHex old new bytes (Err (fault.Stream f)) r =
+AnswersInHex old new bytes (Err (CanonFault.Stream f)) r =
     (WritesText old new (line_of_hex bytes) × IsErrAnd r (IsOfStream f))
-    ⊎ ((r ≡ Err refusal.Write) × WritesFront old new (line_of_hex bytes))
-    ⊎ ((r ≡ Err refusal.Memory) × (new ≡ old))
-AnswersInHex old new bytes (Err fault.Write) r = (r ≡ Err refusal.Memory) × (new ≡ old)
-AnswersInHex old new bytes (Err fault.Memory) r = (r ≡ Err refusal.Memory) × (new ≡ old)
+    ⊎ ((r ≡ Err Refusal.Write) × WritesFront old new (line_of_hex bytes))
+    ⊎ ((r ≡ Err Refusal.Memory) × (new ≡ old))
+AnswersInHex old new bytes (Err CanonFault.Write) r = (r ≡ Err Refusal.Memory) × (new ≡ old)
+AnswersInHex old new bytes (Err CanonFault.Memory) r = (r ≡ Err Refusal.Memory) × (new ≡ old)
 
 -- the canonical bytes of a stream in memory were written as a line of hex
 pub record CanonInHex (mode : Mode) (set : TemplateList) (turns : ℕ) (stream : List ℕ) (old new : Writer) (r : Answer) : Type 0 where
@@ -162,7 +160,7 @@ PerformsInHex Canon mode form set turns stream old new r = CanonInHex mode set t
 abbrev pub RefusesHex : ℕ → Reader → Reader → Refusal → Type 0
 RefusesHex turns old new r =
     ((why : TextFault) × HasNoText turns old new why × (r ≡ of_text_lem why))
-    ⊎ ((text : List ℕ) × HasText turns old new text × (((r ≡ refusal.NotHex) × IsErr (decode_of (digits_of text))) ⊎ (r ≡ refusal.Memory)))
+    ⊎ ((text : List ℕ) × HasText turns old new text × (((r ≡ Refusal.NotHex) × IsErr (decode_of (digits_of text))) ⊎ (r ≡ Refusal.Memory)))
 
 -- the whole input is hex text of these bytes
 abbrev pub ReadsHex : ℕ → Reader → Reader → List ℕ → Type 0
@@ -184,7 +182,7 @@ PerformsOver true command mode form set turns in_old in_new out_old out_new r = 
 -- with templates that are loaded: the input's file cannot be opened, or it was opened at its beginning
 abbrev pub PerformsWith : Asked → TemplateList → Inputs → ℕ → Writer → Writer → Answer → Type 0
 PerformsWith asked set inputs turns out_old out_new r =
-    ((asked.input ≢ None) × (r ≡ Err refusal.Open) × (out_new ≡ out_old))
+    ((asked.input ≢ None) × (r ≡ Err Refusal.Open) × (out_new ≡ out_old))
     ⊎ ((in_old : Reader) × (in_new : Reader) × (in_old.left ≡ input_of inputs asked.input)
     × PerformsOver asked.hex asked.command asked.mode asked.form set turns in_old in_new out_old out_new r)
 

@@ -6,7 +6,6 @@ use Rattle.fast_wire.specs.Reader.{IsBytes}
 use Rattle.fast_template.specs.Resolved.{Resolved}
 use Rattle.fast_template.specs.TemplateSets.{IsSound, TemplateList, templates_in}
 use Rattle.fast_stream.specs.declared.fault.Cause.{Cause}
-use Rattle.fast_stream.specs.declared.fault.Cause.TheVariants as cause
 use Rattle.fast_stream.specs.declared.fault.Fault.{Fault}
 use Rattle.fast_stream.specs.declared.mode.Mode.{Mode}
 use Rattle.fast_stream.specs.declared.place.Place.{Place}
@@ -23,33 +22,32 @@ use Rattle.fast_pass.specs.Passed.{IsCausedBy, Passes, PassesFront}
 use Rattle.fast_canon.specs.Canonicalised.{Canonicalises, Checks}
 use Rattle.fast_pass.specs.Relays.{Making}
 use Rattle.fast_pass.specs.declared.fault.CanonFault.{CanonFault}
-use Rattle.fast_pass.specs.declared.fault.CanonFault.TheVariants as canon
 use Rattle.fast_pass.specs.declared.summary.Summary.{Summary}
 use Rattle.fast_pass.proofs.Relayings.{carried_more, summary_by}
 use Rattle.fast_canon.proofs.CanonicalBytes.{no_longer}
-use Rattle.fast_slices.specs.declared.answer.Refusal.TheVariants as refusal
+use Rattle.fast_slices.specs.declared.answer.Refusal.{Refusal}
 use Rattle.fast_slices.specs.Answers.{answer_of}
 use Rattle.fast_slices.specs.Calls.{Canons, Counts, Done, IsRefused, Overflows, RefusesCall, Settles, Writes}
 
 -- ---- why a stream is refused
 
-by_cause : (c : Cause) (mode : Mode) (set : List Resolved) (turns : ℕ) (left : Option (List ℕ)) (bytes : List ℕ) (place : Place) → RefusedBy c mode set turns left bytes place → c ≢ cause.Memory → c ≢ cause.Read → length bytes < turns
-    → FirstFault mode set bytes place c × (c ≡ cause.Truncated → IsAtEnd left)
-by_cause cause.Truncated mode set turns left bytes place h memory read few = (h.0, λ e. h.1)
-by_cause cause.Read mode set turns left bytes place h memory read few = absurd (read refl)
-by_cause cause.Turns mode set turns left bytes place h memory read few = let many = h.1 in absurd (omega (arith, few, many))
-by_cause cause.Memory mode set turns left bytes place h memory read few = absurd (memory refl)
+by_cause : (c : Cause) (mode : Mode) (set : List Resolved) (turns : ℕ) (left : Option (List ℕ)) (bytes : List ℕ) (place : Place) → RefusedBy c mode set turns left bytes place → c ≢ Cause.Memory → c ≢ Cause.Read → length bytes < turns
+    → FirstFault mode set bytes place c × (c ≡ Cause.Truncated → IsAtEnd left)
+by_cause Cause.Truncated mode set turns left bytes place h memory read few = (h.0, λ e. h.1)
+by_cause Cause.Read mode set turns left bytes place h memory read few = absurd (read refl)
+by_cause Cause.Turns mode set turns left bytes place h memory read few = let many = h.1 in absurd (omega (arith, few, many))
+by_cause Cause.Memory mode set turns left bytes place h memory read few = absurd (memory refl)
 by_cause c mode set turns left bytes place h memory read few = (h, λ e. absurd cc)
 
 -- the first fault of what was read is the stream's, where Truncated comes only at the stream's end
-whole : (rest input : List ℕ) (mode : Mode) (set : TemplateList) (place : Place) (c : Cause) → IsSound set → IsBytes (input ++ rest) → FirstFault mode (templates_in set) input place c → (c ≡ cause.Truncated → rest ≡ [])
+whole : (rest input : List ℕ) (mode : Mode) (set : TemplateList) (place : Place) (c : Cause) → IsSound set → IsBytes (input ++ rest) → FirstFault mode (templates_in set) input place c → (c ≡ Cause.Truncated → rest ≡ [])
     → FirstFault mode (templates_in set) (input ++ rest) place c
 whole [] input mode set place c sound fits f ended = subst (λ (xs : List ℕ). FirstFault mode (templates_in set) xs place c) (sym (append-nil input)) f
 whole (b ∷ bs) input mode set place c sound fits f ended =
     fault_stays mode (templates_in set) (next_reader mode (templates_in set) (message_reader mode.level (templates_in set) sound.typed)) input (b ∷ bs) place c fits f (λ e. let no = ended e in absurd cc)
 
 pub refused : (fault : Fault) (mode : Mode) (set : TemplateList) (turns : ℕ) (stream input rest : List ℕ) (messages : List Content) → IsSound set → IsBytes stream → stream ≡ input ++ rest → length stream < turns
-    → Refuses mode (templates_in set) turns (Some rest) input messages fault → fault.cause ≢ cause.Memory → fault.cause ≢ cause.Read → IsRefused mode (templates_in set) stream messages fault
+    → Refuses mode (templates_in set) turns (Some rest) input messages fault → fault.cause ≢ Cause.Memory → fault.cause ≢ Cause.Read → IsRefused mode (templates_in set) stream messages fault
 refused fault mode set turns stream input rest messages sound fits parts few r memory read =
     let size = ap (λ (xs : List ℕ). length xs) parts in
     let sum = length-append input rest in
@@ -61,7 +59,7 @@ refused fault mode set turns stream input rest messages sound fits parts few r m
     }
 
 -- a reader that counts no error was none that failed
-not_read : (ran : Result Summary CanonFault) (UsedUp : Type 0) (old new : Reader) → IsCausedBy ran UsedUp old new → old.errors ≡ 0 → new.errors ≡ 0 → (fault : Fault) → ran ≡ Err (canon.Stream fault) → fault.cause ≢ cause.Read
+not_read : (ran : Result Summary CanonFault) (UsedUp : Type 0) (old new : Reader) → IsCausedBy ran UsedUp old new → old.errors ≡ 0 → new.errors ≡ 0 → (fault : Fault) → ran ≡ Err (CanonFault.Stream fault) → fault.cause ≢ Cause.Read
 not_read ran UsedUp old new h before after fault same is =
     let caused = subst (λ (x : Result Summary CanonFault). IsCausedBy x UsedUp old new) same h in
     let e : new.errors ≡ counted old.errors = caused.0 is in absurd (omega (arith, before, after, e))
@@ -80,9 +78,9 @@ as_passes mode set turns left a b input (Ok summary) few p =
       written = p.written;
       counts = p.counts ∙ ap (λ (n : ℕ). summary_by (length p.messages) (length input) n) exact;
     }
-as_passes mode set turns left a b input (Err (canon.Stream fault)) few p = p
-as_passes mode set turns left a b input (Err canon.Write) few p = p
-as_passes mode set turns left a b input (Err canon.Memory) few p = p
+as_passes mode set turns left a b input (Err (CanonFault.Stream fault)) few p = p
+as_passes mode set turns left a b input (Err CanonFault.Write) few p = p
+as_passes mode set turns left a b input (Err CanonFault.Memory) few p = p
 
 -- what is known of a run over a stream in memory, which read so much of it
 pub record HasRun (set : TemplateList) (stream : List ℕ) (ran : Result Summary CanonFault) (Passed : List ℕ → List ℕ → Type 0) : Type 0 where
@@ -92,7 +90,7 @@ pub record HasRun (set : TemplateList) (stream : List ℕ) (ran : Result Summary
   pub fits : IsBytes stream
   pub few : length stream < 2 ^ 40
   pub parts : stream ≡ input ++ rest
-  pub no_error : (fault : Fault) → ran ≡ Err (canon.Stream fault) → fault.cause ≢ cause.Read
+  pub no_error : (fault : Fault) → ran ≡ Err (CanonFault.Stream fault) → fault.cause ≢ Cause.Read
   pub passes : Passed input rest
 
 pub has_run : (set : TemplateList) (stream : List ℕ) (ran : Result Summary CanonFault) (UsedUp : Type 0) (old new : Reader) (Passed : List ℕ → List ℕ → Type 0) (input rest : List ℕ) → IsSound set → IsBytes stream → length stream < 2 ^ 40 → stream ≡ input ++ rest
@@ -127,7 +125,7 @@ overflows makes mode set stream bytes old new (Ok summary) h longer same =
       longer = subst (λ (xs : List ℕ). length old < length xs) p.written longer;
       same = same;
     }
-overflows makes mode set stream bytes old new (Err (canon.Stream fault)) h longer same =
+overflows makes mode set stream bytes old new (Err (CanonFault.Stream fault)) h longer same =
     let p = h.passes in record {
       messages = p.messages;
       bytes = p.out;
@@ -136,8 +134,8 @@ overflows makes mode set stream bytes old new (Err (canon.Stream fault)) h longe
       longer = subst (λ (xs : List ℕ). length old < length xs) p.written longer;
       same = same;
     }
-overflows makes mode set stream bytes old new (Err canon.Write) h longer same = broken makes mode set stream bytes old new h.input h.rest h.parts h.passes longer same
-overflows makes mode set stream bytes old new (Err canon.Memory) h longer same = broken makes mode set stream bytes old new h.input h.rest h.parts h.passes longer same
+overflows makes mode set stream bytes old new (Err CanonFault.Write) h longer same = broken makes mode set stream bytes old new h.input h.rest h.parts h.passes longer same
+overflows makes mode set stream bytes old new (Err CanonFault.Memory) h longer same = broken makes mode set stream bytes old new h.input h.rest h.parts h.passes longer same
 
 pub settled : (makes : Making) (mode : Mode) (set : TemplateList) (stream bytes old new : List ℕ) (ran : Result Summary CanonFault) (r : Done) → length bytes < 2 ^ 64 → HasWritten makes mode set stream bytes ran → Settles ran bytes old new r
     → Writes makes mode (templates_in set) stream old new r
@@ -153,7 +151,7 @@ settled makes mode set stream bytes old new ran (Ok summary) room h s =
       counts = p.counts ∙ ap (λ (xs : List ℕ). summary_by (length p.messages) (length h.input) (counted_by 0 (length xs))) (sym p.written)
           ∙ ap (λ (n : ℕ). summary_by (length p.messages) (length h.input) n) exact ∙ ap (λ (xs : List ℕ). summary_by (length p.messages) (length xs) (length bytes)) (sym all);
     }
-settled makes mode set stream bytes old new ran (Err (refusal.Stream fault written)) room h s =
+settled makes mode set stream bytes old new ran (Err (Refusal.Stream fault written)) room h s =
     let p = subst (λ (x : Result Summary CanonFault). Passes makes mode (templates_in set) (2 ^ 40) (Some h.rest) (Some []) (Some bytes) h.input x) s.0 h.passes in record {
       messages = p.messages;
       bytes = bytes;
@@ -162,8 +160,8 @@ settled makes mode set stream bytes old new ran (Err (refusal.Stream fault writt
       put = s.3;
       count = s.2;
     }
-settled makes mode set stream bytes old new ran (Err refusal.Room) room h s = overflows makes mode set stream bytes old new ran h s.0 s.1
-settled makes mode set stream bytes old new ran (Err refusal.Memory) room h s = s
+settled makes mode set stream bytes old new ran (Err Refusal.Room) room h s = overflows makes mode set stream bytes old new ran h s.0 s.1
+settled makes mode set stream bytes old new ran (Err Refusal.Memory) room h s = s
 settled makes mode set stream bytes old new ran r room h s = absurd s
 
 -- ---- what is counted
@@ -180,25 +178,25 @@ counted_all mode set stream old new ran (Ok summary) none h s =
       counts = p.counts ∙ ap (λ (xs : List ℕ). summary_by (length p.messages) (length xs) (length p.out)) (sym all);
       no_longer = subst (λ (xs : List ℕ). length p.out ≤ length xs) (sym all) p.no_longer;
     }
-counted_all mode set stream old new ran (Err (refusal.Stream fault written)) none h s =
+counted_all mode set stream old new ran (Err (Refusal.Stream fault written)) none h s =
     let p = subst (λ (x : Result Summary CanonFault). Checks mode (templates_in set) (2 ^ 40) (Some h.rest) h.input x) s.0 h.passes in
     ((p.messages, refused fault mode set (2 ^ 40) stream h.input h.rest p.messages h.sound h.fits h.parts h.few p.refuses s.1 (h.no_error fault s.0)), s.2)
-counted_all mode set stream old new ran (Err refusal.Room) none h s = let more = s.0 in absurd (omega (arith, none, more))
-counted_all mode set stream old new ran (Err refusal.Memory) none h s = tt
+counted_all mode set stream old new ran (Err Refusal.Room) none h s = let more = s.0 in absurd (omega (arith, none, more))
+counted_all mode set stream old new ran (Err Refusal.Memory) none h s = tt
 counted_all mode set stream old new ran r none h s = absurd s
 
 -- ---- a room of as many bytes as the stream
 
 -- a call that is refused before its stream is looked at asks for no room
-no_room : (text : List ℕ) (word : ℕ) (stream : List ℕ) → RefusesCall text word stream refusal.Room → ⊥
+no_room : (text : List ℕ) (word : ℕ) (stream : List ℕ) → RefusesCall text word stream Refusal.Room → ⊥
 no_room text word stream (inl h) = let e = h.0 in absurd cc
 no_room text word stream (inr (inl h)) = let e = h.0 in absurd cc
 no_room text word stream (inr (inr (some, few, inl e))) = absurd cc
 no_room text word stream (inr (inr (some, few, inr (fault, e, machine, loads)))) = absurd cc
 
 pub room_enough : (text : List ℕ) (word : ℕ) (stream old new : List ℕ) (r : Done) → Canons text word stream old new r → length stream ≤ length old → (answer_of r).status ≢ 3
-room_enough text word stream old new (Err refusal.Room) (inl h) enough e = absurd (no_room text word stream h.0)
-room_enough text word stream old new (Err refusal.Room) (inr (set, mode, given, over)) enough e =
+room_enough text word stream old new (Err Refusal.Room) (inl h) enough e = absurd (no_room text word stream h.0)
+room_enough text word stream old new (Err Refusal.Room) (inr (set, mode, given, over)) enough e =
     let less = no_longer mode set given.sound stream over.bytes over.messages over.carried over.made in
     let longer = over.longer in absurd (omega (arith, less, longer, enough))
 room_enough text word stream old new r h enough e = absurd cc

@@ -5,11 +5,11 @@ use Rattle.serde_json.specs.Read.{read}
 use Rattle.fast_wire.specs.declared.level.Level.TheVariants.{Usual, Strict}
 use Rattle.fast_template.specs.Resolved.{Resolved}
 use Rattle.fast_template.specs.TemplateSets.{IsSound, TemplateList, templates_in}
-use Rattle.fast_written.specs.declared.fault.LoadCause.TheVariants as load
+use Rattle.fast_written.specs.declared.fault.LoadCause.{LoadCause}
 use Rattle.fast_written.specs.declared.fault.LoadFault.{LoadFault}
 use Rattle.fast_written.specs.JsonTemplates.{templates_of}
 use Rattle.fast_load.specs.JsonLoads.{IsNoText, Loads}
-use Rattle.fast_stream.specs.declared.fault.Cause.TheVariants as cause
+use Rattle.fast_stream.specs.declared.fault.Cause.{Cause}
 use Rattle.fast_stream.specs.declared.fault.Fault.{Fault}
 use Rattle.fast_stream.specs.declared.mode.Framing.TheVariants.{Plain, Blocks}
 use Rattle.fast_stream.specs.declared.mode.Mode.{Mode}
@@ -19,12 +19,10 @@ use Rattle.fast_machine.specs.Standing.{Carried}
 use Rattle.fast_writer.specs.Canonical.{IsCanonical}
 use Rattle.fast_pass.specs.Relays.{Making}
 use Rattle.fast_pass.specs.declared.fault.CanonFault.{CanonFault}
-use Rattle.fast_pass.specs.declared.fault.CanonFault.TheVariants as canon
 use Rattle.fast_pass.specs.declared.summary.Summary.{Summary}
 use Rattle.fast_command.specs.Run.{LinesOf}
 use Rattle.fast_lines.specs.declared.form.Form.TheVariants.{Text}
 use Rattle.fast_slices.specs.declared.answer.Refusal.{Refusal}
-use Rattle.fast_slices.specs.declared.answer.Refusal.TheVariants as refusal
 
 abbrev pub Done : Type 0
 Done = Result Summary Refusal
@@ -48,7 +46,7 @@ LoadsText text result =
 -- why there are no templates of a text
 abbrev pub RefusesText : List ℕ → Refusal → Type 0
 RefusesText text r =
-    (r ≡ refusal.Memory) ⊎ ((fault : LoadFault) × (r ≡ refusal.Templates fault) × (fault.cause ≢ load.Memory) × LoadsText text (Err fault))
+    (r ≡ Refusal.Memory) ⊎ ((fault : LoadFault) × (r ≡ Refusal.Templates fault) × (fault.cause ≢ LoadCause.Memory) × LoadsText text (Err fault))
 
 -- ---- the room
 
@@ -60,10 +58,10 @@ pub record Puts (bytes old new : List ℕ) : Type 0 where
 -- what is answered of a run that wrote these bytes, and what becomes of the room
 abbrev pub Settles : Result Summary CanonFault → List ℕ → List ℕ → List ℕ → Done → Type 0
 Settles ran bytes old new (Ok summary) = (ran ≡ Ok summary) × Puts bytes old new
-Settles ran bytes old new (Err (refusal.Stream fault written)) =
-    (ran ≡ Err (canon.Stream fault)) × (fault.cause ≢ cause.Memory) × (written ≡ length bytes) × Puts bytes old new
-Settles ran bytes old new (Err refusal.Room) = (length old < length bytes) × (new ≡ old)
-Settles ran bytes old new (Err refusal.Memory) = new ≡ old
+Settles ran bytes old new (Err (Refusal.Stream fault written)) =
+    (ran ≡ Err (CanonFault.Stream fault)) × (fault.cause ≢ Cause.Memory) × (written ≡ length bytes) × Puts bytes old new
+Settles ran bytes old new (Err Refusal.Room) = (length old < length bytes) × (new ≡ old)
+Settles ran bytes old new (Err Refusal.Memory) = new ≡ old
 Settles ran bytes old new r = ⊥
 
 -- ---- a stream
@@ -104,9 +102,9 @@ pub record Overflows (makes : Making) (mode : Mode) (set : List Resolved) (strea
 -- what is answered of a stream of which something is written
 abbrev pub Writes : Making → Mode → List Resolved → List ℕ → List ℕ → List ℕ → Done → Type 0
 Writes makes mode set stream old new (Ok summary) = WritesAll makes mode set stream old new summary
-Writes makes mode set stream old new (Err (refusal.Stream fault written)) = WritesBefore makes mode set stream old new fault written
-Writes makes mode set stream old new (Err refusal.Room) = Overflows makes mode set stream old new
-Writes makes mode set stream old new (Err refusal.Memory) = new ≡ old
+Writes makes mode set stream old new (Err (Refusal.Stream fault written)) = WritesBefore makes mode set stream old new fault written
+Writes makes mode set stream old new (Err Refusal.Room) = Overflows makes mode set stream old new
+Writes makes mode set stream old new (Err Refusal.Memory) = new ≡ old
 Writes makes mode set stream old new r = ⊥
 
 -- The stream carries the messages to its end; the bytes that are counted are their canonical ones, no more than its own.
@@ -121,8 +119,8 @@ pub record CountsAll (mode : Mode) (set : List Resolved) (stream : List ℕ) (su
 -- what is answered of a stream that is checked
 abbrev pub Counts : Mode → List Resolved → List ℕ → Done → Type 0
 Counts mode set stream (Ok summary) = CountsAll mode set stream summary
-Counts mode set stream (Err (refusal.Stream fault written)) = ((messages : List Content) × IsRefused mode set stream messages fault) × (written ≡ 0)
-Counts mode set stream (Err refusal.Memory) = Unit {0}
+Counts mode set stream (Err (Refusal.Stream fault written)) = ((messages : List Content) × IsRefused mode set stream messages fault) × (written ≡ 0)
+Counts mode set stream (Err Refusal.Memory) = Unit {0}
 Counts mode set stream r = ⊥
 
 -- ---- a call
@@ -137,8 +135,8 @@ pub record Prepares (text : List ℕ) (word : ℕ) (stream : List ℕ) (set : Te
 -- The first that is not right is answered: the mode, the size of the stream, the templates.
 abbrev pub RefusesCall : List ℕ → ℕ → List ℕ → Refusal → Type 0
 RefusesCall text word stream r =
-    ((r ≡ refusal.Mode) × (mode_of word ≡ None))
-    ⊎ ((r ≡ refusal.TooLong) × IsSome (mode_of word) × (2 ^ 40 ≤ length stream))
+    ((r ≡ Refusal.Mode) × (mode_of word ≡ None))
+    ⊎ ((r ≡ Refusal.TooLong) × IsSome (mode_of word) × (2 ^ 40 ≤ length stream))
     ⊎ (IsSome (mode_of word) × (length stream < 2 ^ 40) × RefusesText text r)
 
 -- The call is refused before the stream is looked at; or it was looked at with the templates of the text.

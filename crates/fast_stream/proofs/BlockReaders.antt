@@ -1,19 +1,5 @@
 -- The reading function of messages in blocks reads their forms, and stops exactly at their faults.
-use Rattle.std.proofs.Common.{◌≡◌, ◌≢◌, ℕ, zero, suc, ◌+◌, ◌-◌, ◌<◌, ◌≤◌, Bool, true, false, List, [], ◌∷◌, ◌++◌, length, take, drop, Result, Ok, Err, refl, sym, ap, subst, ◌∙◌, arith, append_assoc, length-append, length-take, take-append-drop}
-use Rattle.std.specs.Prelude.{nat_le}
-use Rattle.std.proofs.lemmas.List.{take_all}
-use Rattle.fast_wire.specs.declared.level.Level.{Level}
-use Rattle.fast_wire.specs.Reader.{IsBytes}
-use Rattle.fast_wire.proofs.Readers.{ok_is, bind_ok, at_first, at_second, bind_err}
-use Rattle.fast_template.specs.Resolved.{Resolved}
-use Rattle.fast_dictionary.specs.Dictionary.{Dictionary}
-use Rattle.fast_stream.specs.declared.fault.Cause.{Cause}
-use Rattle.fast_stream.specs.declared.fault.Cause.TheVariants.{D2, D4, D5, D6, D7, D9, D12, BlockEnd, R1, R2, R6, R7, R8, R9, Truncated, Limit, Read, Turns, Memory}
-use Rattle.fast_stream.specs.Nodes.{Content}
-use Rattle.fast_stream.specs.Faults.{MessageStop}
-use Rattle.fast_stream.specs.Reading.{message_at}
-use Rattle.fast_stream.specs.Readers.{further_on, IsMessageReader}
-use Rattle.fast_stream.specs.Blocks.{Stand, Opens, InBlock, block_cause, seen_from, BlockStops, in_size, in_message, opened_at, framed, in_block_at}
+use Rattle.fast_stream.proofs.Common.{◌≡◌, ◌≢◌, ℕ, zero, suc, ◌+◌, ◌-◌, ◌<◌, ◌≤◌, Bool, true, false, List, [], ◌∷◌, ◌++◌, length, take, drop, Result, Ok, Err, refl, sym, ap, subst, ◌∙◌, arith, append_assoc, length-append, length-take, take-append-drop, nat_le, take_all, Level, IsBytes, ok_is, bind_ok, at_first, at_second, bind_err, Resolved, Dictionary, Cause, D2, D4, D5, D6, D7, D9, D12, BlockEnd, R1, R2, R6, R7, R8, R9, Truncated, Limit, Read, Turns, Memory, Content, MessageStop, message_at, further_on, IsMessageReader, Stand, Opens, InBlock, block_cause, seen_from, BlockStops, in_size, in_message, opened_at, framed, in_block_at}
 use Rattle.fast_stream.proofs.BlockSizes.{Opened, opened_again, opened_found, size_stop, opened_refused, opened_stops, size_refused, size_faulty, size_stays}
 
 -- ---- the first bytes of a list

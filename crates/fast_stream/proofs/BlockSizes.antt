@@ -1,21 +1,5 @@
 -- The size of a block: reading it reads its form, and stops exactly at its faults.
-use Rattle.std.proofs.Common.{◌≡◌, ◌≢◌, ℕ, zero, suc, ◌<◌, true, false, List, [], ◌++◌, length, Result, Ok, Err, refl, sym, ap, subst, ◌∙◌, ◌⊎◌, inl, inr, arith, append_assoc}
-use Rattle.std.specs.Prelude.{if◌then◌else◌}
-use Rattle.fast_wire.specs.declared.fault.WireFault.{WireFault}
-use Rattle.fast_wire.specs.declared.level.Level.{Level}
-use Rattle.fast_wire.specs.declared.level.Level.TheVariants.{Usual, Strict}
-use Rattle.fast_wire.specs.Integer.{IsUnsigned, unsigned_of}
-use Rattle.fast_wire.specs.Level.{judge, judged, verdict, overlong_unsigned}
-use Rattle.fast_wire.specs.Reader.{IsBytes, IsReader}
-use Rattle.fast_wire.specs.Reading.{◌>>=◌, EntityFault, entity_at, unsigned_at}
-use Rattle.fast_wire.proofs.FormReaders.{unsigned_forms}
-use Rattle.fast_wire.proofs.Levels.{judged_reader, unsigned_begins}
-use Rattle.fast_wire.proofs.Readers.{ok_is}
-use Rattle.fast_stream.specs.declared.fault.Cause.{Cause}
-use Rattle.fast_stream.specs.declared.fault.Cause.TheVariants.{D12, R6, Truncated}
-use Rattle.fast_stream.specs.Faults.{cause_of_wire, MessageStop}
-use Rattle.fast_stream.specs.Reading.{placed, in_template}
-use Rattle.fast_stream.specs.Blocks.{IsSize, Opens, OverlongSize, SizeFault, sized, size_at, opened_at}
+use Rattle.fast_stream.proofs.Common.{◌≡◌, ◌≢◌, ℕ, zero, suc, ◌<◌, true, false, List, [], ◌++◌, length, Result, Ok, Err, refl, sym, ap, subst, ◌∙◌, ◌⊎◌, inl, inr, arith, append_assoc, if◌then◌else◌, WireFault, Level, Usual, Strict, IsUnsigned, unsigned_of, judge, judged, verdict, overlong_unsigned, IsBytes, IsReader, ◌>>=◌, EntityFault, entity_at, unsigned_at, unsigned_forms, judged_reader, unsigned_begins, ok_is, Cause, D12, R6, Truncated, cause_of_wire, MessageStop, placed, in_template, IsSize, Opens, OverlongSize, SizeFault, sized, size_at, opened_at}
 use Rattle.fast_stream.proofs.Ends.{as_cause, as_cause_ok, as_cause_err}
 use Rattle.fast_stream.proofs.MapFaults.{entity_refused, entity_faulty}
 

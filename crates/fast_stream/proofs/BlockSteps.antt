@@ -1,21 +1,6 @@
 -- How messages that are read in the bytes of a block that have come stand in the stream of blocks.
-use Rattle.std.proofs.Common.{◌≡◌, ◌≢◌, ℕ, zero, suc, ◌+◌, ◌-◌, ◌<◌, ◌≤◌, true, false, List, [], ◌∷◌, ◌++◌, length, take, drop, Result, Err, refl, ap, subst, ◌∙◌, sym, arith, append_assoc, append-nil, length-append, length-take, take-append-drop}
-use Rattle.std.specs.Prelude.{nat_le}
-use Rattle.std.proofs.lemmas.List.{take_all, append_cancel_left}
-use Rattle.fast_wire.specs.declared.level.Level.TheVariants.{Usual, Strict}
-use Rattle.fast_wire.specs.Reading.{map_at, entity_at}
-use Rattle.fast_wire.specs.declared.level.Level.{Level}
-use Rattle.fast_template.specs.Resolved.{Resolved}
-use Rattle.fast_dictionary.specs.Dictionary.{Dictionary}
-use Rattle.fast_stream.specs.declared.fault.Cause.{Cause}
-use Rattle.fast_stream.specs.declared.fault.Cause.TheVariants.{Truncated, BlockEnd}
-use Rattle.fast_stream.specs.Nodes.{Content}
-use Rattle.fast_stream.specs.Faults.{MessageStop}
+use Rattle.fast_stream.proofs.Common.{◌≡◌, ◌≢◌, ℕ, zero, suc, ◌+◌, ◌-◌, ◌<◌, ◌≤◌, true, false, List, [], ◌∷◌, ◌++◌, length, take, drop, Result, Err, refl, ap, subst, ◌∙◌, sym, arith, append_assoc, append-nil, length-append, length-take, take-append-drop, nat_le, take_all, append_cancel_left, Usual, Strict, map_at, entity_at, Level, Resolved, Dictionary, Cause, Truncated, BlockEnd, Content, MessageStop, head_at, message_at, further_on, Stand, Opens, InBlock, seen_from, size_at, framed, in_block_at, in_blocks, CarriesFrom}
 use Rattle.fast_stream.specs.Streams.{MessageForm, CarriesFrom as CarriesPlainlyFrom}
-use Rattle.fast_stream.specs.Reading.{head_at, message_at}
-use Rattle.fast_stream.specs.Readers.{further_on}
-use Rattle.fast_stream.specs.Blocks.{Stand, Opens, InBlock, seen_from, size_at, framed, in_block_at}
-use Rattle.fast_stream.specs.Modes.{in_blocks, CarriesFrom}
 use Rattle.fast_stream.proofs.BlockSizes.{opened_again, opened_stops, size_stop}
 use Rattle.fast_stream.proofs.BlockReaders.{take_front, take_longer, other_cause}
 use Rattle.fast_stream.proofs.ModeReaders.{message_some}

@@ -1,36 +1,7 @@
 -- The reading functions of pieces and bodies read their forms, and stop exactly at their faults.
-use Rattle.std.proofs.Common.{◌≡◌, ℕ, zero, suc, ◌+◌, ℤ, Bool, true, false, List, [], ◌++◌, length, drop, Option, Some, None, Result, Ok, Err, refl, sym, ap, subst, ◌∙◌, ◌⊎◌, inl, inr, arith, append-nil, zero-add, IsTrue}
-use Rattle.fast_wire.specs.declared.level.Level.{Level}
-use Rattle.fast_wire.specs.Reading.{◌>>=◌, map_at}
-use Rattle.fast_wire.specs.declared.fault.WireFault.{WireFault}
-use Rattle.fast_value.specs.declared.kind.Kind.TheVariants as kind
-use Rattle.fast_value.specs.declared.kind.Presence.{Presence}
-use Rattle.fast_value.specs.declared.kind.Presence.TheVariants.{Mandatory}
-use Rattle.fast_value.specs.declared.scalar.Scalar.{Scalar}
-use Rattle.fast_value.specs.declared.scalar.Scalar.TheVariants.{U32, I32, U64, I64, Decimal, Ascii, Unicode, Bytes}
-use Rattle.fast_template.specs.declared.resolved.FieldPart.{FieldPart}
-use Rattle.fast_value.specs.Scalar.{is_of}
-use Rattle.fast_template.specs.Resolved.{Instruction, Instructions, whole_field, field_in_parts, group_of, sequence_of, no_instructions, then_instruction, part_needs_bit, is_optional, has_map}
-use Rattle.fast_template.specs.TemplateSets.{IsTyped, HasTypedParts, HaveTypedParts}
-use Rattle.fast_dictionary.specs.declared.entry.Entry.{Entry}
-use Rattle.fast_dictionary.specs.Dictionary.{Dictionary, entry_at}
-use Rattle.fast_field.specs.declared.fault.FieldFault.TheVariants as field
-use Rattle.fast_field.specs.Fields.{Form}
-use Rattle.fast_field.specs.Parts.{HasDefault}
-use Rattle.fast_field.specs.FieldReading.{field_at}
-use Rattle.fast_field.proofs.FieldForms.{field_forms}
-use Rattle.fast_stream.specs.Nodes.{Item, single, group_items, sequence_elements, Items, no_items, then_item, Elements, no_elements, then_element, element_count, nodes_of, nodes_in, nodes_in_elements}
-use Rattle.fast_stream.specs.Bits.{bit_for, after_bit, takes}
-use Rattle.fast_stream.specs.Bodies.{Mapping, State, Then, Each, SegmentBy, PieceBy, BodyBy, after_part}
-use Rattle.fast_stream.specs.Streams.{MapAt, MapEntity}
-use Rattle.fast_stream.specs.Faults.{cause_of_wire, cause_of_field, MapFault, ClosedStops, Stop, StopsAt, PartStops, SegmentStops, Part, Passed, EachStops, PieceStops, BodyStops}
-use Rattle.fast_stream.specs.Reading.{Cursor, state_of, Reads, placed, node_at, field_part_at, decimal_of, mantissa_at, segment_at, closing, each_at, elements_at, group_at, behind_bit, piece_at, body_at}
-use Rattle.fast_stream.specs.Readers.{cursor, IsPieceReader}
+use Rattle.fast_stream.proofs.Common.{◌≡◌, ℕ, zero, suc, ◌+◌, ℤ, Bool, true, false, List, [], ◌++◌, length, drop, Option, Some, None, Result, Ok, Err, refl, sym, ap, subst, ◌∙◌, ◌⊎◌, inl, inr, arith, append-nil, zero-add, IsTrue, Level, ◌>>=◌, map_at, WireFault, Kind, Presence, Mandatory, Scalar, U32, I32, U64, I64, Decimal, Ascii, Unicode, Bytes, FieldPart, is_of, Instruction, Instructions, whole_field, field_in_parts, group_of, sequence_of, no_instructions, then_instruction, part_needs_bit, is_optional, has_map, IsTyped, HasTypedParts, HaveTypedParts, Entry, Dictionary, entry_at, FieldFault, Form, HasDefault, field_at, field_forms, Item, single, group_items, sequence_elements, Items, no_items, then_item, Elements, no_elements, then_element, element_count, nodes_of, nodes_in, nodes_in_elements, bit_for, after_bit, takes, Mapping, State, Then, Each, SegmentBy, PieceBy, BodyBy, after_part, MapAt, MapEntity, cause_of_wire, cause_of_field, MapFault, ClosedStops, Stop, StopsAt, PartStops, SegmentStops, Part, Passed, EachStops, PieceStops, BodyStops, Cursor, state_of, Reads, placed, node_at, field_part_at, decimal_of, mantissa_at, segment_at, closing, each_at, elements_at, group_at, behind_bit, piece_at, body_at, cursor, IsPieceReader, Cause, R7, Truncated, judge, overlong_map}
 use Rattle.fast_stream.proofs.Leaves.{bits_taken_are}
 use Rattle.fast_stream.proofs.Ends.{Closed, closed_at, entity_of, mapped, inside_of, closed_of, closed_bare, as_cause, map_judged, maps_judged, map_refused_at, map_faulty_at}
-use Rattle.fast_stream.specs.declared.fault.Cause.{Cause}
-use Rattle.fast_stream.specs.declared.fault.Cause.TheVariants.{R7, Truncated}
-use Rattle.fast_wire.specs.Level.{judge, overlong_map}
 use Rattle.fast_stream.proofs.PieceReaders.{restore, restored_reader, chosen_reader, bound_again_is, Forms, Stopping, Bound, BoundStops, Made, Given, NeverStops, CountedStops, placed_reader, counted_reader, bound_reader, made_reader, given_reader, reader_as}
 
 module _ (level : Level) where
@@ -52,7 +23,7 @@ module _ (level : Level) where
   pub part_reader : (p : FieldPart) → IsExact p → IsPieceReader (λ _. 0) (Part level p) (PartStopping p) (field_part_at level p)
   unfolding field_part_at
   part_reader p exact =
-      placed_reader field.NeedMore cause_of_field p.number
+      placed_reader FieldFault.NeedMore cause_of_field p.number
       (λ s. field_at level p (entry_at s.dictionary p.key) (bit_for (part_needs_bit p) s.bits))
       (λ s. Form level p (entry_at s.dictionary p.key) (bit_for (part_needs_bit p) s.bits))
       (after_part p) refl
@@ -74,7 +45,7 @@ module _ (level : Level) where
   IsLength (Some (U32 n)) = Unit {0}
   IsLength (Some v) = ⊥
 
-  of_int32 : (v : Scalar) → IsTrue (is_of kind.Int32 v) → IsExponent (Some v)
+  of_int32 : (v : Scalar) → IsTrue (is_of Kind.Int32 v) → IsExponent (Some v)
   of_int32 (U32 n) h = absurd cc
   of_int32 (I32 z) h = tt
   of_int32 (U64 n) h = absurd cc
@@ -84,7 +55,7 @@ module _ (level : Level) where
   of_int32 (Unicode s) h = absurd cc
   of_int32 (Bytes s) h = absurd cc
 
-  of_int64 : (v : Scalar) → IsTrue (is_of kind.Int64 v) → IsMantissa (Some v)
+  of_int64 : (v : Scalar) → IsTrue (is_of Kind.Int64 v) → IsMantissa (Some v)
   of_int64 (U32 n) h = absurd cc
   of_int64 (I32 z) h = absurd cc
   of_int64 (U64 n) h = absurd cc
@@ -94,7 +65,7 @@ module _ (level : Level) where
   of_int64 (Unicode s) h = absurd cc
   of_int64 (Bytes s) h = absurd cc
 
-  pub of_uint32 : (v : Scalar) → IsTrue (is_of kind.UInt32 v) → IsLength (Some v)
+  pub of_uint32 : (v : Scalar) → IsTrue (is_of Kind.UInt32 v) → IsLength (Some v)
   of_uint32 (U32 n) h = tt
   of_uint32 (I32 z) h = absurd cc
   of_uint32 (U64 n) h = absurd cc
@@ -104,15 +75,15 @@ module _ (level : Level) where
   of_uint32 (Unicode s) h = absurd cc
   of_uint32 (Bytes s) h = absurd cc
 
-  exponent_possible : (p : FieldPart) → IsExact p → p.kind ≡ kind.Int32 → (s : State) (b : List ℕ) (v : Option Scalar) (t : State) → Part level p s b v t → IsExponent v
+  exponent_possible : (p : FieldPart) → IsExact p → p.kind ≡ Kind.Int32 → (s : State) (b : List ℕ) (v : Option Scalar) (t : State) → Part level p s b v t → IsExponent v
   exponent_possible p exact is s b None t h = tt
   exponent_possible p exact is s b (Some v) t h = of_int32 v (rw is at (exact.of_kind _ _ b v h.0))
 
-  mantissa_possible : (p : FieldPart) → IsExact p → p.kind ≡ kind.Int64 → p.presence ≡ Mandatory → (s : State) (b : List ℕ) (v : Option Scalar) (t : State) → Part level p s b v t → IsMantissa v
+  mantissa_possible : (p : FieldPart) → IsExact p → p.kind ≡ Kind.Int64 → p.presence ≡ Mandatory → (s : State) (b : List ℕ) (v : Option Scalar) (t : State) → Part level p s b v t → IsMantissa v
   mantissa_possible p exact is mandatory s b None t h = absurd (exact.there mandatory _ _ b h.0)
   mantissa_possible p exact is mandatory s b (Some v) t h = of_int64 v (rw is at (exact.of_kind _ _ b v h.0))
 
-  length_possible : (p : FieldPart) → IsExact p → p.kind ≡ kind.UInt32 → (s : State) (b : List ℕ) (v : Option Scalar) (t : State) → Part level p s b v t → IsLength v
+  length_possible : (p : FieldPart) → IsExact p → p.kind ≡ Kind.UInt32 → (s : State) (b : List ℕ) (v : Option Scalar) (t : State) → Part level p s b v t → IsLength v
   length_possible p exact is s b None t h = tt
   length_possible p exact is s b (Some v) t h = of_uint32 v (rw is at (exact.of_kind _ _ b v h.0))
 
@@ -152,7 +123,7 @@ module _ (level : Level) where
   MantissaStops p (Some (I32 e)) = BoundStops (λ _. 0) (Part level p) (PartStopping p) (λ v. NeverStops)
   MantissaStops p (Some v) = NeverStops
 
-  mantissa_reader : (p : FieldPart) → IsExact p → p.kind ≡ kind.Int64 → p.presence ≡ Mandatory → (v : Option Scalar) → IsExponent v
+  mantissa_reader : (p : FieldPart) → IsExact p → p.kind ≡ Kind.Int64 → p.presence ≡ Mandatory → (v : Option Scalar) → IsExponent v
       → IsPieceReader nodes_inside (MantissaOf p v) (MantissaStops p v) (λ c. mantissa_at level p (v, c))
   mantissa_reader p exact is mandatory None h = given_reader (single None) nodes_inside refl
   mantissa_reader p exact is mandatory (Some (U32 n)) h = absurd h
@@ -727,7 +698,7 @@ module _ (level : Level) where
         (λ c. refl) (λ s b n t h. refl) (field_to name number presence whole) (field_from name number presence whole) (λ s spare rest stop h. h) (λ s spare rest stop h. h)
         (made_reader single (λ _. 0) nodes_inside (λ v. refl) (Part level whole) (PartStopping whole) (field_part_at level whole) (part_reader whole is))))
 
-    parts_reader : (name : List ℕ) (number : ℕ) (presence : Presence) (exponent mantissa : FieldPart) → IsExact exponent → exponent.kind ≡ kind.Int32 → IsExact mantissa → mantissa.kind ≡ kind.Int64 → mantissa.presence ≡ Mandatory
+    parts_reader : (name : List ℕ) (number : ℕ) (presence : Presence) (exponent mantissa : FieldPart) → IsExact exponent → exponent.kind ≡ Kind.Int32 → IsExact mantissa → mantissa.kind ≡ Kind.Int64 → mantissa.presence ≡ Mandatory
         → PieceReader (field_in_parts name number presence exponent mantissa)
     parts_reader name number presence exponent mantissa is int32 has int64 mandatory =
         reader_as (λ n. 1 + nodes_inside n) nodes_of (Parts name number presence exponent mantissa) (Parts name number presence exponent mantissa) (CountedStops number (PartsStopping name number presence exponent mantissa))
@@ -770,7 +741,7 @@ module _ (level : Level) where
         (λ s spare rest stop h. group_to_stop_of name number presence members s spare rest stop (bit_for (is_optional presence) s.bits) refl h) (λ s spare rest stop h. group_from_stop_of name number presence members s spare rest stop (bit_for (is_optional presence) s.bits) refl h)
         (group_reader (is_optional presence) (Members name number presence members) (MembersStopping name number presence members) (segment_of number members) (members_reader name number presence members inside))))
 
-    sequenced_reader : (name : List ℕ) (number : ℕ) (presence : Presence) (length : FieldPart) (members : Instructions) → IsExact length → length.kind ≡ kind.UInt32 → BodyReader members → PieceReader (sequence_of name number presence length members)
+    sequenced_reader : (name : List ℕ) (number : ℕ) (presence : Presence) (length : FieldPart) (members : Instructions) → IsExact length → length.kind ≡ Kind.UInt32 → BodyReader members → PieceReader (sequence_of name number presence length members)
     sequenced_reader name number presence length members is uint32 inside =
         reader_as (λ n. 1 + nodes_inside n) nodes_of (Sequence name number presence length members) (Sequence name number presence length members) (CountedStops number (SequenceStopping name number presence length members))
         (λ s spare rest stop. PieceStops level (sequence_of name number presence length members) s spare rest stop)

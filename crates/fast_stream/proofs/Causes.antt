@@ -1,54 +1,34 @@
 -- The causes that bytes can have: a stream's fault is no failed read, and no used up reads.
-use Rattle.std.proofs.Common.{ℕ, zero, suc, true, false, Bool, List, [], length, take, sym, subst, inl, inr}
-use Rattle.std.specs.Prelude.{nat_le}
-use Rattle.fast_wire.specs.declared.level.Level.{Level}
-use Rattle.fast_wire.specs.declared.level.Level.TheVariants.{Usual, Strict}
-use Rattle.fast_template.specs.declared.resolved.FieldPart.{FieldPart}
-use Rattle.fast_template.specs.Resolved.{Instruction, Instructions, whole_field, field_in_parts, group_of, sequence_of, no_instructions, then_instruction, has_map, Resolved}
-use Rattle.fast_dictionary.specs.Dictionary.{Dictionary}
-use Rattle.fast_wire.specs.declared.fault.WireFault.{WireFault}
-use Rattle.fast_wire.specs.declared.fault.WireFault.TheVariants as wire
-use Rattle.fast_field.specs.declared.fault.FieldFault.{FieldFault}
-use Rattle.fast_field.specs.declared.fault.FieldFault.TheVariants as field
-use Rattle.fast_stream.specs.declared.fault.Cause.{Cause}
-use Rattle.fast_stream.specs.declared.fault.Cause.TheVariants as cause
-use Rattle.fast_stream.specs.declared.place.Place.{Place}
-use Rattle.fast_stream.specs.Nodes.{Items, nodes_in}
-use Rattle.fast_stream.specs.Bodies.{State}
+use Rattle.fast_stream.proofs.Common.{ℕ, zero, suc, true, false, Bool, List, [], length, take, sym, subst, inl, inr, nat_le, Level, Usual, Strict, FieldPart, Instruction, Instructions, whole_field, field_in_parts, group_of, sequence_of, no_instructions, then_instruction, has_map, Resolved, Dictionary, WireFault, FieldFault, Cause, Place, Items, nodes_in, State, Framing, Mode, Stand, SizeFault, block_cause, in_size, in_message, StopsIn, FirstFault}
 use Rattle.fast_stream.specs.Faults.{cause_of_wire, cause_of_field, Stop, MessageStop, MapFault, ClosedStops, PartFault, NodeStops, SegmentStops, EachStops, PieceStops, BodyStops, IdentifierFault, MessageStops, in_map, in_identifier, in_body, FirstFault as FirstPlainFault}
-use Rattle.fast_stream.specs.declared.mode.Framing.{Framing}
-use Rattle.fast_stream.specs.declared.mode.Framing.TheVariants as framing
-use Rattle.fast_stream.specs.declared.mode.Mode.{Mode}
-use Rattle.fast_stream.specs.Blocks.{Stand, SizeFault, block_cause, in_size, in_message}
-use Rattle.fast_stream.specs.Modes.{StopsIn, FirstFault}
 
 module _ (level : Level) where
   -- a cause that bytes can have
   abbrev pub IsOfBytes : Cause → Type 0
-  IsOfBytes cause.Read = ⊥
-  IsOfBytes cause.Turns = ⊥
+  IsOfBytes Cause.Read = ⊥
+  IsOfBytes Cause.Turns = ⊥
   IsOfBytes c = Unit {0}
 
   of_wire : (f : WireFault) → IsOfBytes (cause_of_wire f)
-  of_wire wire.NeedMore = tt
-  of_wire wire.TooLong = tt
-  of_wire wire.Range = tt
-  of_wire wire.NotUtf8 = tt
-  of_wire wire.Memory = tt
+  of_wire WireFault.NeedMore = tt
+  of_wire WireFault.TooLong = tt
+  of_wire WireFault.Range = tt
+  of_wire WireFault.NotUtf8 = tt
+  of_wire WireFault.Memory = tt
 
   of_field : (f : FieldFault) → IsOfBytes (cause_of_field f)
-  of_field field.D2 = tt
-  of_field field.D4 = tt
-  of_field field.D5 = tt
-  of_field field.D6 = tt
-  of_field field.D7 = tt
-  of_field field.R1 = tt
-  of_field field.R2 = tt
-  of_field field.R6 = tt
-  of_field field.R9 = tt
-  of_field field.Limit = tt
-  of_field field.NeedMore = tt
-  of_field field.Memory = tt
+  of_field FieldFault.D2 = tt
+  of_field FieldFault.D4 = tt
+  of_field FieldFault.D5 = tt
+  of_field FieldFault.D6 = tt
+  of_field FieldFault.D7 = tt
+  of_field FieldFault.R1 = tt
+  of_field FieldFault.R2 = tt
+  of_field FieldFault.R6 = tt
+  of_field FieldFault.R9 = tt
+  of_field FieldFault.Limit = tt
+  of_field FieldFault.NeedMore = tt
+  of_field FieldFault.Memory = tt
 
   of_map_at : (l : Level) (rest : List ℕ) (c : Cause) → MapFault l rest c → IsOfBytes c
   of_map_at Usual rest c h = subst IsOfBytes (sym h.2) (of_wire h.0)
@@ -121,30 +101,30 @@ module _ (level : Level) where
 
   of_block_cause : (t : Bool) (c : Cause) → IsOfBytes c → IsOfBytes (block_cause t c)
   of_block_cause false c h = h
-  of_block_cause true cause.D2 h = tt
-  of_block_cause true cause.D4 h = tt
-  of_block_cause true cause.D5 h = tt
-  of_block_cause true cause.D6 h = tt
-  of_block_cause true cause.D7 h = tt
-  of_block_cause true cause.D9 h = tt
-  of_block_cause true cause.D12 h = tt
-  of_block_cause true cause.BlockEnd h = tt
-  of_block_cause true cause.R1 h = tt
-  of_block_cause true cause.R2 h = tt
-  of_block_cause true cause.R6 h = tt
-  of_block_cause true cause.R7 h = tt
-  of_block_cause true cause.R8 h = tt
-  of_block_cause true cause.R9 h = tt
-  of_block_cause true cause.Truncated h = tt
-  of_block_cause true cause.Limit h = tt
-  of_block_cause true cause.Memory h = tt
-  of_block_cause true cause.Read h = absurd h
-  of_block_cause true cause.Turns h = absurd h
+  of_block_cause true Cause.D2 h = tt
+  of_block_cause true Cause.D4 h = tt
+  of_block_cause true Cause.D5 h = tt
+  of_block_cause true Cause.D6 h = tt
+  of_block_cause true Cause.D7 h = tt
+  of_block_cause true Cause.D9 h = tt
+  of_block_cause true Cause.D12 h = tt
+  of_block_cause true Cause.BlockEnd h = tt
+  of_block_cause true Cause.R1 h = tt
+  of_block_cause true Cause.R2 h = tt
+  of_block_cause true Cause.R6 h = tt
+  of_block_cause true Cause.R7 h = tt
+  of_block_cause true Cause.R8 h = tt
+  of_block_cause true Cause.R9 h = tt
+  of_block_cause true Cause.Truncated h = tt
+  of_block_cause true Cause.Limit h = tt
+  of_block_cause true Cause.Memory h = tt
+  of_block_cause true Cause.Read h = absurd h
+  of_block_cause true Cause.Turns h = absurd h
 
   of_next : (f : Framing) (set : List Resolved) (s : Stand) (rest : List ℕ) (m : MessageStop) → StopsIn f level set s rest m → IsOfBytes m.stop.cause
-  of_next framing.Plain set s rest m h = of_message set s.dictionary rest m h
-  of_next framing.Blocks set s rest m (in_size none t h) = of_size level rest m.stop.cause h.fault
-  of_next framing.Blocks set s rest m (in_message room size back inner parts opens stops seen) =
+  of_next Framing.Plain set s rest m h = of_message set s.dictionary rest m h
+  of_next Framing.Blocks set s rest m (in_size none t h) = of_size level rest m.stop.cause h.fault
+  of_next Framing.Blocks set s rest m (in_message room size back inner parts opens stops seen) =
       subst (λ (y : MessageStop). IsOfBytes y.stop.cause) (sym seen) (of_block_cause (nat_le room (length back)) inner.stop.cause (of_message set s.dictionary (take room back) inner stops))
 
 pub of_mode : (mode : Mode) (set : List Resolved) (bytes : List ℕ) (place : Place) (c : Cause) → FirstFault mode set bytes place c → IsOfBytes mode.level c

@@ -1,24 +1,5 @@
 -- The reading function of a segment with its end.
-use Rattle.std.proofs.Common.{◌≡◌, ℕ, ◌+◌, Bool, true, false, List, [], ◌++◌, length, inl, inr, Result, Ok, Err, refl, sym, ap, subst, ◌∙◌, arith, append-nil, zero-add, length-append}
-use Rattle.std.specs.Prelude.{if◌then◌else◌}
-use Rattle.fast_wire.specs.Reader.{IsBytes}
-use Rattle.fast_wire.proofs.Readers.{ok_is}
-use Rattle.fast_stream.specs.declared.fault.Cause.{Cause}
-use Rattle.fast_stream.specs.declared.fault.Cause.TheVariants.{R7, R8, Truncated}
-use Rattle.fast_stream.specs.Bodies.{State}
-use Rattle.fast_stream.specs.Faults.{cause_of_wire, Stop, EndStops, ClosedStops, MapFault}
-use Rattle.fast_stream.specs.Reading.{Cursor, Reads, stopped, end_at, closing}
-use Rattle.fast_stream.specs.Readers.{cursor, further, Passes, IsPieceReader}
-use Rattle.fast_stream.specs.Streams.{MapEntity, MapAt}
-use Rattle.fast_wire.specs.Level.{some_set, overlong_map, judged, verdict}
-use Rattle.fast_wire.specs.PresenceMap.{IsWholeMap}
-use Rattle.fast_wire.specs.Reading.{◌>>=◌, map_at, entity_at}
-use Rattle.fast_wire.specs.Reader.{IsReader}
-use Rattle.fast_wire.specs.declared.fault.WireFault.{WireFault}
-use Rattle.fast_wire.specs.declared.level.Level.{Level}
-use Rattle.fast_wire.specs.declared.level.Level.TheVariants.{Usual, Strict}
-use Rattle.fast_wire.proofs.FormReaders.{map_forms}
-use Rattle.fast_wire.proofs.Levels.{judged_reader, map_begins}
+use Rattle.fast_stream.proofs.Common.{◌≡◌, ℕ, ◌+◌, Bool, true, false, List, [], ◌++◌, length, inl, inr, Result, Ok, Err, refl, sym, ap, subst, ◌∙◌, arith, append-nil, zero-add, length-append, if◌then◌else◌, IsBytes, ok_is, Cause, R7, R8, Truncated, State, cause_of_wire, Stop, EndStops, ClosedStops, MapFault, Cursor, Reads, stopped, end_at, closing, cursor, further, Passes, IsPieceReader, MapEntity, MapAt, some_set, overlong_map, judged, verdict, IsWholeMap, ◌>>=◌, map_at, entity_at, IsReader, WireFault, Level, Usual, Strict, map_forms, judged_reader, map_begins}
 use Rattle.fast_stream.proofs.MapFaults.{map_refused, map_faulty, entity_refused, entity_faulty}
 use Rattle.fast_stream.proofs.PieceReaders.{Forms, Stopping, Bound, BoundStops, bound_reader, reader_as, stop_is, fails_as}
 

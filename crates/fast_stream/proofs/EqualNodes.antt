@@ -1,23 +1,11 @@
 -- `==` of two nodes, and of two messages, is true exactly if their contents are the same.
 use denote.Hole.Carrier as Carrier
-use Rattle.std.proofs.Common.{◌≡◌, ◌==◌, ℕ, Some, Bool, true, false, List, [], ◌∷◌, map, refl, sym, ap, ap₂, subst, ◌∙◌}
-use Rattle.std.specs.Bool.{Decides}
-use Rattle.std.specs.Cmp.{first_so, second_so, unsigned_Decides}
-use Rattle.std.specs.Cmp.Derive.{both_true}
-use Rattle.std.specs.Cmp.Lexicographic.{pointwise}
+use Rattle.fast_stream.proofs.Common.{◌≡◌, ◌==◌, ℕ, Some, Bool, true, false, List, [], ◌∷◌, map, refl, sym, ap, ap₂, subst, ◌∙◌, Decides, first_so, second_so, unsigned_Decides, both_true, pointwise, Vec, mapped, false≢true, scalar_eq-exact, scalar_eq-same, Message, Node, Absent, Value, Group', Sequence', roll-Node, out-Node, out-roll-Node, map-Node, fold-roll-Node, fold_out-Node, ind-Node, Node-F, Item, Items, Elements, single, group_items, sequence_elements, no_items, no_elements, then_element, items_of, elements_of, node_step, item_of, items_in, content_of}
 use Rattle.std.specs.declared.alloc.Global.{Global}
-use Rattle.std.specs.declared.vec.Vec.{Vec}
-use Rattle.std.specs.formers.vec.Vec.{mapped}
-use Rattle.std.proofs.lemmas.Bool.{false≢true}
-use Rattle.fast_value.specs.Scalar.{scalar_eq-exact, scalar_eq-same}
 use Rattle.fast_value.specs.contracts.scalar.ScalarPartialEq.TheImpl as scalar_eq
-use Rattle.fast_stream.specs.declared.message.Message.{Message}
-use Rattle.fast_stream.specs.declared.message.Node.{Node, Absent, Value, Group', Sequence', roll-Node, out-Node, out-roll-Node, map-Node, fold-roll-Node, fold_out-Node, ind-Node}
-use Rattle.fast_stream.specs.declared.message.Node.TheOpen.{Node-F}
 use Rattle.fast_stream.specs.contracts.message.NodePartialEq.TheImpl as node_eq
 use Rattle.fast_stream.specs.contracts.message.NodePartialEq.TheImpl.Laws as node_eq_laws
 use Rattle.fast_stream.specs.contracts.message.MessagePartialEq.TheImpl as message_eq
-use Rattle.fast_stream.specs.Nodes.{Item, Items, Elements, single, group_items, sequence_elements, no_items, no_elements, then_element, items_of, elements_of, node_step, item_of, items_in, content_of}
 use Rattle.fast_stream.proofs.SameNodes.{alike, items_same}
 
 -- ---- one level

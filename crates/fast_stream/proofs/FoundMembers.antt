@@ -1,10 +1,5 @@
 -- What holds of the members of each template of a set holds of those found under an identifier.
-use Rattle.std.proofs.Common.{◌≡◌, ℕ, Bool, true, false, List, [], ◌∷◌, Some, subst}
-use Rattle.std.specs.Prelude.{find, option_map, if◌then◌else◌}
-use Rattle.std.specs.List.{AllByRecursion}
-use Rattle.fast_template.specs.Resolved.{Instructions, Resolved}
-use Rattle.fast_template.specs.TemplateSets.{has_id}
-use Rattle.fast_stream.specs.Streams.{members_of}
+use Rattle.fast_stream.proofs.Common.{◌≡◌, ℕ, Bool, true, false, List, [], ◌∷◌, Some, subst, find, option_map, if◌then◌else◌, AllByRecursion, Instructions, Resolved, has_id, members_of}
 
 module _ (P : Instructions → Type 0) where
   found_has : (t : Resolved) (ts : List Resolved) → P t.members → (id : ℕ) (members : Instructions) (b : Bool) → (members_of ts id ≡ Some members → P members)

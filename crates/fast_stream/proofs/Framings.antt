@@ -1,23 +1,11 @@
 -- What is carried in plain framing and in blocks.
-use Rattle.std.proofs.Common.{◌≡◌, ℕ, zero, suc, ◌<◌, ◌≤◌, List, [], ◌∷◌, ◌++◌, ◌⊎◌, inl, inr, length, refl, ap, subst, ◌∙◌, sym, arith, length-append}
-use Rattle.fast_wire.specs.declared.level.Level.{Level}
-use Rattle.fast_template.specs.Resolved.{Resolved}
-use Rattle.fast_dictionary.specs.Dictionary.{Dictionary}
-use Rattle.fast_stream.specs.Nodes.{Content}
+use Rattle.fast_stream.proofs.Common.{◌≡◌, ℕ, zero, suc, ◌<◌, ◌≤◌, List, [], ◌∷◌, ◌++◌, ◌⊎◌, inl, inr, length, refl, ap, subst, ◌∙◌, sym, arith, length-append, Level, Resolved, Dictionary, Content, Cause, Place, Stand, outside, at_start, IsSize, Opens, Framing, Plain, Blocks, Mode, Usual, flat_map}
 use Rattle.fast_stream.specs.Streams.{Carries as CarriesPlainly, CarriesFrom as CarriesPlainlyFrom}
 use Rattle.fast_stream.specs.Faults.{FirstFault as FirstPlainFault}
-use Rattle.fast_stream.specs.declared.fault.Cause.{Cause}
-use Rattle.fast_stream.specs.declared.place.Place.{Place}
 use Rattle.std.specs.FinMap as map
-use Rattle.fast_stream.specs.Blocks.{Stand, outside, at_start, IsSize, Opens}
 use Rattle.fast_stream.specs.Modes.{plainly, in_blocks, Carries, CarriesFrom, GoesOn, FirstFault, IsWithoutSizes}
-use Rattle.fast_stream.specs.declared.mode.Framing.{Framing}
-use Rattle.fast_stream.specs.declared.mode.Framing.TheVariants.{Plain, Blocks}
-use Rattle.fast_stream.specs.declared.mode.Mode.{Mode}
 use Rattle.fast_stream.proofs.Leaves.{same_dictionary}
 use Rattle.fast_stream.proofs.Levels.{usually, from_usually}
-use Rattle.fast_wire.specs.declared.level.Level.TheVariants.{Usual}
-use Rattle.std.specs.List.{flat_map}
 
 module _ (level : Level) (set : List Resolved) where
   -- ---- plain framing

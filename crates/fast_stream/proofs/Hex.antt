@@ -1,7 +1,5 @@
 -- Bytes as the tables of FAST write them.
-use Rattle.std.proofs.Common.{ℕ, ◌+◌, ◌-◌, ◌*◌, List, [], ◌∷◌}
-use Rattle.std.specs.Prelude.{codes, nat_lt, if◌then◌else◌}
-use Prim.Native.String.{String}
+use Rattle.fast_stream.proofs.Common.{ℕ, ◌+◌, ◌-◌, ◌*◌, List, [], ◌∷◌, codes, nat_lt, if◌then◌else◌, String}
 
 -- the value of a digit, in upper case
 abbrev digit : ℕ → ℕ

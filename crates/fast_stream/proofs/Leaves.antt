@@ -1,13 +1,5 @@
 -- What a message leaves behind it, in the dictionary and of its map, follows from its items alone.
-use Rattle.std.proofs.Common.{◌≡◌, ℕ, Bool, true, false, List, [], ◌∷◌, drop, Option, Some, None, refl, sym, ap, ◌∙◌, drop-drop, ◌||◌}
-use Rattle.fast_wire.specs.declared.level.Level.{Level}
-use Rattle.fast_value.specs.declared.scalar.Scalar.TheVariants.{U32, I32, I64, Decimal}
-use Rattle.fast_template.specs.Resolved.{Instruction, Instructions, whole_field, field_in_parts, group_of, sequence_of, no_instructions, then_instruction, part_needs_bit, is_optional, has_map, Resolved, takes_bit}
-use Rattle.fast_dictionary.specs.Dictionary.{Dictionary}
-use Rattle.fast_field.specs.Fields.{Form}
-use Rattle.fast_stream.specs.Nodes.{Item, single, group_items, sequence_elements, Items, no_items, then_item, Elements, no_elements, then_element, element_count, Content}
-use Rattle.fast_stream.specs.Bits.{after_bit, bits_taken, takes_one, takes}
-use Rattle.fast_stream.specs.Bodies.{Spelling, Mapping, State, Each, written, SegmentBy, PieceBy, BodyBy}
+use Rattle.fast_stream.proofs.Common.{◌≡◌, ℕ, Bool, true, false, List, [], ◌∷◌, drop, Option, Some, None, refl, sym, ap, ◌∙◌, drop-drop, ◌||◌, Level, U32, I32, I64, Decimal, Instruction, Instructions, whole_field, field_in_parts, group_of, sequence_of, no_instructions, then_instruction, part_needs_bit, is_optional, has_map, Resolved, takes_bit, Dictionary, Form, Item, single, group_items, sequence_elements, Items, no_items, then_item, Elements, no_elements, then_element, element_count, Content, after_bit, bits_taken, takes_one, takes, Spelling, Mapping, State, Each, written, SegmentBy, PieceBy, BodyBy}
 use Rattle.fast_stream.specs.Streams.{members_of, identifier, MapAt, Body, BodyOfBy, MessageFormBy, CarriesBy, CarriesFrom}
 
 -- ---- the dictionary

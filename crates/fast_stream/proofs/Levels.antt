@@ -1,17 +1,5 @@
 -- What is carried at a level is carried at the usual one.
-use Rattle.std.proofs.Common.{ℕ, zero, suc, Bool, List, [], ◌∷◌}
-use Rattle.fast_wire.specs.declared.level.Level.{Level}
-use Rattle.fast_wire.specs.declared.level.Level.TheVariants.{Usual, Strict}
-use Rattle.fast_template.specs.Resolved.{Resolved}
-use Rattle.fast_field.specs.Fields.{Form}
-use Rattle.fast_field.proofs.StrictForms.{form_usually}
-use Rattle.fast_stream.specs.Nodes.{Content}
-use Rattle.fast_dictionary.specs.Dictionary.{Dictionary}
-use Rattle.fast_stream.specs.declared.mode.Framing.{Framing}
-use Rattle.fast_stream.specs.declared.mode.Framing.TheVariants.{Plain, Blocks}
-use Rattle.fast_stream.specs.declared.mode.Mode.{Mode}
-use Rattle.fast_stream.specs.Streams.{MapAt, MessageForm}
-use Rattle.fast_stream.specs.Blocks.{Stand, outside, at_start, IsSize, Opens}
+use Rattle.fast_stream.proofs.Common.{ℕ, zero, suc, Bool, List, [], ◌∷◌, Level, Usual, Strict, Resolved, Form, form_usually, Content, Dictionary, Framing, Plain, Blocks, Mode, MapAt, MessageForm, Stand, outside, at_start, IsSize, Opens}
 use Rattle.fast_stream.specs.Modes.{FormIn, Carries, CarriesFrom}
 use Rattle.fast_stream.proofs.Weaker.{message_weaker}
 

@@ -1,3 +1,4 @@
+mod Common
 pub mod ShortPieces
 pub mod Causes
 pub mod Hex

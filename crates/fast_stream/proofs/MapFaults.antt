@@ -1,12 +1,5 @@
 -- The faults of a presence map, as reading answers them.
-use Rattle.std.proofs.Common.{◌≡◌, ℕ, zero, suc, ◌<◌, Bool, true, false, List, [], ◌∷◌, take, Result, Ok, Err, refl, subst, arith}
-use Rattle.std.specs.Prelude.{nat_le, if◌then◌else◌}
-use Rattle.fast_wire.specs.Entity.{HasNoStop, groups}
-use Rattle.fast_wire.specs.PresenceMap.{bits_of}
-use Rattle.fast_wire.specs.Reading.{◌>>=◌, EntityFault, entity_at, map_at}
-use Rattle.fast_wire.specs.declared.fault.WireFault.{WireFault}
-use Rattle.fast_wire.specs.declared.fault.WireFault.TheVariants as wire
-use Rattle.fast_wire.proofs.FormReaders.{fault_given}
+use Rattle.fast_stream.proofs.Common.{◌≡◌, ℕ, zero, suc, ◌<◌, Bool, true, false, List, [], ◌∷◌, take, Result, Ok, Err, refl, subst, arith, nat_le, if◌then◌else◌, HasNoStop, groups, bits_of, ◌>>=◌, EntityFault, entity_at, map_at, WireFault, fault_given}
 
 abbrev Entity : Type 0
 Entity = List ℕ × List ℕ
@@ -22,11 +15,11 @@ one_more bytes b low h zero inside = low
 one_more bytes b low h (suc k) inside = h k (omega arith)
 
 longer : (limit b : ℕ) (bs : List ℕ) (f : WireFault) → b < 128 → EntityFault limit bs 0 f → EntityFault (suc limit) (b ∷ bs) 0 f
-longer limit b bs wire.NeedMore low h = (let short = h.0 in omega arith, one_more bs b low h.1)
-longer limit b bs wire.TooLong low h = (let long = h.0 in omega arith, one_more (take limit bs) b low h.1)
-longer limit b bs wire.Range low h = h
-longer limit b bs wire.NotUtf8 low h = h
-longer limit b bs wire.Memory low h = h
+longer limit b bs WireFault.NeedMore low h = (let short = h.0 in omega arith, one_more bs b low h.1)
+longer limit b bs WireFault.TooLong low h = (let long = h.0 in omega arith, one_more (take limit bs) b low h.1)
+longer limit b bs WireFault.Range low h = h
+longer limit b bs WireFault.NotUtf8 low h = h
+longer limit b bs WireFault.Memory low h = h
 
 -- what follows the first byte was refused so
 abbrev Later : ℕ → List ℕ → Type 0
@@ -48,10 +41,10 @@ at_byte limit b bs f later false h e =
 pub entity_refused : (limit : ℕ) (bytes : List ℕ) (f : WireFault) → entity_at limit bytes ≡ Err f → EntityFault limit bytes 0 f
 unfolding entity_at
 entity_refused zero bytes f e =
-    let same : wire.TooLong ≡ f = cc in
+    let same : WireFault.TooLong ≡ f = cc in
     subst (λ (y : WireFault). EntityFault zero bytes 0 y) same (omega arith, λ k inside. absurd (omega arith))
 entity_refused (suc limit) [] f e =
-    let same : wire.NeedMore ≡ f = cc in
+    let same : WireFault.NeedMore ≡ f = cc in
     subst (λ (y : WireFault). EntityFault (suc limit) [] 0 y) same (omega arith, λ k inside. absurd (omega arith))
 entity_refused (suc limit) (b ∷ bs) f e = at_byte limit b bs f (entity_refused limit bs) (nat_le 128 b) refl e
 

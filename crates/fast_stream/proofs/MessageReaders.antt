@@ -1,31 +1,8 @@
 -- The reading function of messages reads their forms, and stops exactly at their faults.
-use Rattle.std.proofs.Common.{◌≡◌, ◌≢◌, ℕ, ◌+◌, ◌-◌, ◌≤◌, Bool, List, [], ◌++◌, length, Option, Some, None, Result, Ok, Err, refl, sym, ap, subst, ◌∙◌, inl, inr, arith, append_assoc, zero-add, length-append}
-use Rattle.std.specs.List.{AllByRecursion}
-use Rattle.fast_wire.specs.declared.level.Level.{Level}
-use Rattle.fast_wire.specs.Reader.{IsBytes}
-use Rattle.fast_wire.specs.Reading.{◌>>=◌, map_at}
-use Rattle.fast_wire.specs.declared.fault.WireFault.{WireFault}
-use Rattle.fast_wire.proofs.Readers.{ok_is, bind_ok, at_first, at_second, bind_err}
-use Rattle.fast_value.specs.declared.scalar.Scalar.{Scalar}
-use Rattle.fast_value.specs.declared.scalar.Scalar.TheVariants.{U32, I32, U64, I64, Decimal, Ascii, Unicode, Bytes}
-use Rattle.fast_template.specs.declared.resolved.FieldPart.{FieldPart}
-use Rattle.fast_template.specs.Resolved.{Instructions, Resolved}
-use Rattle.fast_template.specs.TemplateSets.{IsTyped, HaveTypedParts}
-use Rattle.fast_dictionary.specs.Dictionary.{Dictionary}
-use Rattle.fast_field.proofs.FieldsWithin.{value_kind, value_there}
-use Rattle.fast_stream.specs.declared.fault.Cause.TheVariants.{D9, R7, Truncated}
-use Rattle.fast_stream.specs.Nodes.{Items, Content, nodes_in, node_limit}
-use Rattle.fast_stream.specs.Bodies.{State}
-use Rattle.fast_stream.specs.Streams.{members_of, identifier, Body, MessageForm, MapEntity}
-use Rattle.fast_stream.specs.Faults.{cause_of_wire, MapFault, ClosedStops, Stop, MessageStop, StopsAt, Part, BodyStops, IdentifierFault, InBody, MessageStops, in_map, in_identifier, in_body}
-use Rattle.fast_stream.specs.Reading.{closing, Cursor, state_of, Reads, placed, field_part_at, body_at, Named, known, named_at, head_at, in_template, message_at}
-use Rattle.fast_stream.specs.Readers.{cursor, further, further_on, Passes, IsPieceReader, MessagePasses, IsMessageReader}
+use Rattle.fast_stream.proofs.Common.{◌≡◌, ◌≢◌, ℕ, ◌+◌, ◌-◌, ◌≤◌, Bool, List, [], ◌++◌, length, Option, Some, None, Result, Ok, Err, refl, sym, ap, subst, ◌∙◌, inl, inr, arith, append_assoc, zero-add, length-append, AllByRecursion, Level, IsBytes, ◌>>=◌, map_at, WireFault, ok_is, bind_ok, at_first, at_second, bind_err, Scalar, U32, I32, U64, I64, Decimal, Ascii, Unicode, Bytes, FieldPart, Instructions, Resolved, IsTyped, HaveTypedParts, Dictionary, value_kind, value_there, D9, R7, Truncated, Items, Content, nodes_in, node_limit, State, members_of, identifier, Body, MessageForm, MapEntity, cause_of_wire, MapFault, ClosedStops, Stop, MessageStop, StopsAt, Part, BodyStops, IdentifierFault, InBody, MessageStops, in_map, in_identifier, in_body, closing, Cursor, state_of, Reads, placed, field_part_at, body_at, Named, known, named_at, head_at, in_template, message_at, cursor, further, further_on, Passes, IsPieceReader, MessagePasses, IsMessageReader, form_usually, Cause, judge, overlong_map}
 use Rattle.fast_stream.proofs.FoundMembers.{members_have}
 use Rattle.fast_stream.proofs.PieceReaders.{Forms, Stopping, Bound, BoundStops, placed_reader, bound_reader, stop_is, fails_as}
 use Rattle.fast_stream.proofs.Ends.{Closed, closed_at, entity_of, mapped, inside_of, closed_of, as_cause, map_judged, maps_judged, map_refused_at, map_faulty_at}
-use Rattle.fast_field.proofs.StrictForms.{form_usually}
-use Rattle.fast_stream.specs.declared.fault.Cause.{Cause}
-use Rattle.fast_wire.specs.Level.{judge, overlong_map}
 use Rattle.fast_stream.proofs.BodyReaders.{IsExact, PartStopping, part_reader, of_uint32, IsLength, body_reader}
 
 module _ (level : Level) where

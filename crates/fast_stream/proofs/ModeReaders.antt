@@ -1,22 +1,6 @@
 -- The reading function of the next message, in each mode: what is read is its form, each form is read, and reading stops
 -- exactly at its faults.
-use Rattle.std.proofs.Common.{◌≡◌, ℕ, ◌<◌, List, [], ◌∷◌, length, Result, Ok, Err, refl, sym, ap, subst, ◌∙◌, arith, length-append}
-use Rattle.fast_wire.specs.declared.level.Level.{Level}
-use Rattle.fast_wire.specs.Entity.{IsEntity}
-use Rattle.fast_wire.specs.Reader.{IsBytes}
-use Rattle.fast_wire.proofs.Readers.{ok_is}
-use Rattle.fast_template.specs.Resolved.{Resolved}
-use Rattle.fast_dictionary.specs.Dictionary.{Dictionary}
-use Rattle.fast_stream.specs.declared.mode.Framing.{Framing}
-use Rattle.fast_stream.specs.declared.mode.Framing.TheVariants.{Plain, Blocks}
-use Rattle.fast_stream.specs.declared.mode.Mode.{Mode}
-use Rattle.fast_stream.specs.Nodes.{Content}
-use Rattle.fast_stream.specs.Streams.{MessageForm}
-use Rattle.fast_stream.specs.Faults.{MessageStop}
-use Rattle.fast_stream.specs.Reading.{message_at}
-use Rattle.fast_stream.specs.Readers.{IsMessageReader, NextPasses, IsNextReader}
-use Rattle.fast_stream.specs.Blocks.{Stand, outside}
-use Rattle.fast_stream.specs.Modes.{plainly, in_blocks, FormIn, NextForm, bare}
+use Rattle.fast_stream.proofs.Common.{◌≡◌, ℕ, ◌<◌, List, [], ◌∷◌, length, Result, Ok, Err, refl, sym, ap, subst, ◌∙◌, arith, length-append, Level, IsEntity, IsBytes, ok_is, Resolved, Dictionary, Framing, Plain, Blocks, Mode, Content, MessageForm, MessageStop, message_at, IsMessageReader, NextPasses, IsNextReader, Stand, outside, plainly, in_blocks, FormIn, NextForm, bare}
 use Rattle.fast_stream.proofs.Ends.{map_of}
 use Rattle.fast_stream.proofs.BlockReaders.{block_again, block_found, block_stops, block_stopped, block_stays}
 

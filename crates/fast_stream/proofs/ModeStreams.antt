@@ -1,18 +1,6 @@
 -- The reading function of streams, in each mode: what is read is carried, what is carried is read, and a stop is the first
 -- fault.
-use Rattle.std.proofs.Common.{◌≡◌, ◌≢◌, ℕ, zero, suc, ◌+◌, ◌-◌, ◌<◌, ◌≤◌, true, false, List, [], ◌∷◌, ◌++◌, length, Option, Some, None, Result, Ok, Err, refl, sym, ap, subst, ◌∙◌, ◌⊎◌, inl, inr, arith, append_assoc, append-nil, length-append}
-use Rattle.std.specs.Prelude.{if◌then◌else◌, option_map}
-use Rattle.fast_wire.specs.Reader.{IsBytes}
-use Rattle.fast_template.specs.Resolved.{Resolved}
-use Rattle.fast_stream.specs.declared.fault.Cause.{Cause}
-use Rattle.fast_stream.specs.declared.fault.Cause.TheVariants.{Truncated}
-use Rattle.fast_stream.specs.declared.fault.Fault.{Fault}
-use Rattle.fast_stream.specs.declared.mode.Mode.{Mode}
-use Rattle.fast_stream.specs.declared.place.Place.{Place}
-use Rattle.fast_stream.specs.Nodes.{Content}
-use Rattle.fast_stream.specs.Faults.{MessageStop, place_of}
-use Rattle.fast_stream.specs.Readers.{further_on, NextPasses, IsNextReader}
-use Rattle.fast_stream.specs.Blocks.{Stand, outside, at_start}
+use Rattle.fast_stream.proofs.Common.{◌≡◌, ◌≢◌, ℕ, zero, suc, ◌+◌, ◌-◌, ◌<◌, ◌≤◌, true, false, List, [], ◌∷◌, ◌++◌, length, Option, Some, None, Result, Ok, Err, refl, sym, ap, subst, ◌∙◌, ◌⊎◌, inl, inr, arith, append_assoc, append-nil, length-append, if◌then◌else◌, option_map, IsBytes, Resolved, Cause, Truncated, Fault, Mode, Place, Content, MessageStop, place_of, further_on, NextPasses, IsNextReader, Stand, outside, at_start}
 use Rattle.fast_stream.specs.Modes.{NextForm, Carries, CarriesFrom, NextStops, GoesOn, FirstFault, StreamReading, and_then, may_end, next_at, messages_at, stream_at, fault_in}
 use Rattle.fast_stream.proofs.ModeReaders.{next_some}
 

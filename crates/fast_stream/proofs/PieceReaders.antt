@@ -1,15 +1,5 @@
 -- How readers of pieces are put together.
-use Rattle.std.proofs.Common.{◌≡◌, ◌≢◌, ℕ, zero, suc, ◌+◌, Bool, List, [], ◌++◌, length, Result, Ok, Err, refl, sym, ap, subst, ◌∙◌, ◌⊎◌, inl, inr, arith, append_assoc, zero-add, length-append}
-use Rattle.fast_wire.specs.Reader.{IsBytes, IsReader}
-use Rattle.fast_wire.specs.Reading.{◌>>=◌}
-use Rattle.fast_wire.proofs.Readers.{ok_is, bind_ok, at_first, at_second, bind_err}
-use Rattle.fast_stream.specs.declared.fault.Cause.{Cause}
-use Rattle.fast_stream.specs.declared.fault.Cause.TheVariants.{Limit, Truncated}
-use Rattle.fast_dictionary.specs.Dictionary.{Dictionary}
-use Rattle.fast_stream.specs.Bodies.{State, Then}
-use Rattle.fast_stream.specs.Faults.{Stop, StopsAt, NodeStops, Passed}
-use Rattle.fast_stream.specs.Reading.{Cursor, state_of, Reads, placed, node_at}
-use Rattle.fast_stream.specs.Readers.{cursor, further, Passes, IsPieceReader}
+use Rattle.fast_stream.proofs.Common.{◌≡◌, ◌≢◌, ℕ, zero, suc, ◌+◌, Bool, List, [], ◌++◌, length, Result, Ok, Err, refl, sym, ap, subst, ◌∙◌, ◌⊎◌, inl, inr, arith, append_assoc, zero-add, length-append, IsBytes, IsReader, ◌>>=◌, ok_is, bind_ok, at_first, at_second, bind_err, Cause, Limit, Truncated, Dictionary, State, Then, Stop, StopsAt, NodeStops, Passed, Cursor, state_of, Reads, placed, node_at, cursor, further, Passes, IsPieceReader}
 
 abbrev pub Forms : Type 0 → Type 1
 Forms A = State → List ℕ → A → State → Type 0

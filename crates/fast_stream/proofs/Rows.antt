@@ -1,30 +1,8 @@
 -- The worked rows, computed: what each stream is read as. A refusal is a cause with the message, the offset, the
 -- template and the instruction of the piece.
-use Rattle.std.proofs.Common.{Bool, true, false, ◌≡◌, ap, ◌∙◌, ℕ, suc, ℤ, pos, negsuc, List, [], ◌∷◌, map, Option, Some, None, Ok, Err, refl}
-use Rattle.std.specs.Prelude.{codes, replicate, cond}
+use Rattle.fast_stream.proofs.Common.{Bool, true, false, ◌≡◌, ap, ◌∙◌, ℕ, suc, ℤ, pos, negsuc, List, [], ◌∷◌, map, Option, Some, None, Ok, Err, refl, codes, replicate, cond, eq_by_cmp, Usual, Strict, key_cmp, key_cmp-total, Key, Scalar, U32, I64, Decimal, Ascii, Unicode, Bytes, Dictionary, entity_at, unsigned_at, signed_at, unsigned_nullable_at, signed_nullable_at, ascii_at, ascii_nullable_at, bytes_at, vector_at, behind_length, vector_nullable_at, map_at, integer_at, part_at, units_at, integer_value, decimal_value, unit_value, integer_spelled_at, mantissa_behind, decimal_spelled_at, units_spelled_at, spelled_at, integer_delta_at, mantissa_delta_behind, decimal_delta_at, new_part_behind, unit_delta_at, delta_at, limited_value, integer_sum, ended_value, tail_at, whole_at, predicted_at, row_at, part_checked, field_at, Cause, D2, D4, D5, D6, D7, D9, D12, BlockEnd, R1, R2, R6, R7, R8, R9, Truncated, Limit, Fault, Item, single, group_items, sequence_elements, items_of, elements_of, Content, node_limit, MessageStop, Cursor, field_part_at, body_at, head_at, message_at, Stand, outside, at_start, in_block_at, plainly, in_blocks, StreamReading, messages_at, stream_at, fault_in, is_utf8, chars, identifier_key, Global, Whole, Mantissa}
 use Rattle.std.specs.FinMap as finite
-use Rattle.std.specs.Ordering.{eq_by_cmp}
-use Rattle.fast_wire.specs.declared.level.Level.TheVariants.{Usual, Strict}
-use Rattle.fast_value.specs.Key.{key_cmp, key_cmp-total}
-use Rattle.fast_value.specs.declared.key.Key.{Key}
-use Rattle.fast_value.specs.declared.scalar.Scalar.{Scalar}
-use Rattle.fast_value.specs.declared.scalar.Scalar.TheVariants.{U32, I64, Decimal, Ascii, Unicode, Bytes}
-use Rattle.fast_dictionary.specs.Dictionary.{Dictionary}
-use Rattle.fast_wire.specs.Reading.{entity_at, unsigned_at, signed_at, unsigned_nullable_at, signed_nullable_at, ascii_at, ascii_nullable_at, bytes_at, vector_at, behind_length, vector_nullable_at, map_at}
-use Rattle.fast_field.specs.FieldReading.{integer_at, part_at, units_at, integer_value, decimal_value, unit_value, integer_spelled_at, mantissa_behind, decimal_spelled_at, units_spelled_at, spelled_at, integer_delta_at, mantissa_delta_behind, decimal_delta_at, new_part_behind, unit_delta_at, delta_at, limited_value, integer_sum, ended_value, tail_at, whole_at, predicted_at, row_at, part_checked, field_at}
-use Rattle.fast_stream.specs.declared.fault.Cause.{Cause}
-use Rattle.fast_stream.specs.declared.fault.Cause.TheVariants.{D2, D4, D5, D6, D7, D9, D12, BlockEnd, R1, R2, R6, R7, R8, R9, Truncated, Limit}
-use Rattle.fast_stream.specs.declared.fault.Fault.{Fault}
-use Rattle.fast_stream.specs.Nodes.{Item, single, group_items, sequence_elements, items_of, elements_of, Content, node_limit}
-use Rattle.fast_stream.specs.Faults.{MessageStop}
-use Rattle.fast_stream.specs.Reading.{Cursor, field_part_at, body_at, head_at, message_at}
-use Rattle.fast_stream.specs.Blocks.{Stand, outside, at_start, in_block_at}
-use Rattle.fast_stream.specs.Modes.{plainly, in_blocks, StreamReading, messages_at, stream_at, fault_in}
-use Rattle.std.specs.Str.{is_utf8, chars}
-use Rattle.fast_template.specs.TemplateSets.{identifier_key}
-use Rattle.fast_value.specs.declared.key.Scope.TheVariants.{Global}
 use Rattle.fast_value.specs.declared.kind.Part.{Part}
-use Rattle.fast_value.specs.declared.kind.Part.TheVariants.{Whole, Mantissa}
 use Rattle.fast_template.proofs.WorkedSet.{opt, legs, bare, grp, slot_of, worked_set}
 
 -- ---- how a row is written

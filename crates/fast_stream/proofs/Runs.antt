@@ -1,10 +1,5 @@
 -- Messages one after the other, in each mode.
-use Rattle.std.proofs.Common.{List, ℕ, [], ◌∷◌, ◌++◌, refl, sym, ap, subst, ◌∙◌, append_assoc, append-nil}
-use Rattle.fast_template.specs.Resolved.{Resolved}
-use Rattle.fast_stream.specs.declared.mode.Mode.{Mode}
-use Rattle.fast_stream.specs.Nodes.{Content}
-use Rattle.fast_stream.specs.Blocks.{Stand}
-use Rattle.fast_stream.specs.Modes.{NextForm, CarriesFrom}
+use Rattle.fast_stream.proofs.Common.{List, ℕ, [], ◌∷◌, ◌++◌, refl, sym, ap, subst, ◌∙◌, append_assoc, append-nil, Resolved, Mode, Content, Stand, NextForm, CarriesFrom}
 
 module _ (mode : Mode) (set : List Resolved) where
   -- messages, and more messages behind them

@@ -1,7 +1,5 @@
 -- What a contract sees of a message is faithful: what is seen as the same is the same but for where it lies in memory.
-use Rattle.std.proofs.Common.{◌≡◌, List, [], ◌∷◌, map, refl}
-use Rattle.fast_stream.specs.declared.message.Node.TheOpen.{Node-F}
-use Rattle.fast_stream.specs.Nodes.{Item, items_of, elements_of, node_step, AreAlike}
+use Rattle.fast_stream.proofs.Common.{◌≡◌, List, [], ◌∷◌, map, refl, Node-F, Item, items_of, elements_of, node_step, AreAlike}
 
 pub items_same : (ns ms : List Item) → items_of ns ≡ items_of ms → ns ≡ ms
 items_same [] [] e = refl

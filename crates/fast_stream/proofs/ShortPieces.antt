@@ -1,40 +1,7 @@
 -- A piece that waits for more bytes has few of them before it.
-use Rattle.std.proofs.Common.{◌≡◌, ◌≤◌, ◌<◌, ◌+◌, take, inl, inr, ℕ, zero, suc, ℤ, Bool, true, false, List, [], length, Option, Some, None, Result, Ok, Err, refl, sym, ap, subst, ◌∙◌, arith}
-use Rattle.fast_wire.specs.declared.level.Level.{Level}
-use Rattle.fast_wire.specs.declared.level.Level.TheVariants.{Usual, Strict}
-use Rattle.fast_value.specs.declared.scalar.Scalar.{Scalar}
-use Rattle.fast_value.specs.declared.scalar.Scalar.TheVariants.{U32, I32, U64, I64, Decimal, Ascii, Unicode, Bytes}
-use Rattle.fast_template.specs.declared.resolved.FieldPart.{FieldPart}
-use Rattle.fast_template.specs.Resolved.{Instruction, Instructions, whole_field, field_in_parts, group_of, sequence_of, no_instructions, then_instruction, part_needs_bit, is_optional, has_map, Resolved}
-use Rattle.fast_dictionary.specs.Dictionary.{Dictionary, entry_at}
-use Rattle.fast_wire.specs.Reading.{◌>>=◌, map_at}
-use Rattle.fast_wire.specs.declared.fault.WireFault.{WireFault}
-use Rattle.fast_wire.specs.declared.fault.WireFault.TheVariants as wire
-use Rattle.fast_wire.proofs.FormReaders.{err_is}
-use Rattle.fast_field.specs.declared.fault.FieldFault.{FieldFault}
-use Rattle.fast_field.specs.declared.fault.FieldFault.TheVariants as field
-use Rattle.fast_field.specs.FieldReading.{field_at}
-use Rattle.fast_field.proofs.FieldsBehave.{field_waits}
-use Rattle.fast_stream.specs.declared.fault.Cause.{Cause}
-use Rattle.fast_stream.specs.declared.fault.Cause.TheVariants.{R7, R8, Truncated, Limit, Memory, D9}
-use Rattle.fast_stream.specs.declared.place.Place.{Place}
-use Rattle.fast_stream.specs.Nodes.{Items, node_limit}
-use Rattle.fast_stream.specs.Bits.{bit_for}
-use Rattle.fast_stream.specs.Streams.{members_of, identifier}
-use Rattle.fast_stream.specs.Faults.{cause_of_wire, cause_of_field, Stop, MessageStop}
-use Rattle.fast_stream.specs.Reading.{Cursor, Reads, stopped, placed, counted, node_at, field_part_at, never, decimal_of, mantissa_at, own_map_at, end_at, closing, segment_at, each_at, elements_at, group_at, behind_bit, piece_at, body_at, known, named_at, head_at, in_template, message_at}
+use Rattle.fast_stream.proofs.Common.{◌≡◌, ◌≤◌, ◌<◌, ◌+◌, take, inl, inr, ℕ, zero, suc, ℤ, Bool, true, false, List, [], length, Option, Some, None, Result, Ok, Err, refl, sym, ap, subst, ◌∙◌, arith, Level, Usual, Strict, Scalar, U32, I32, U64, I64, Decimal, Ascii, Unicode, Bytes, FieldPart, Instruction, Instructions, whole_field, field_in_parts, group_of, sequence_of, no_instructions, then_instruction, part_needs_bit, is_optional, has_map, Resolved, Dictionary, entry_at, ◌>>=◌, map_at, WireFault, err_is, FieldFault, field_at, field_waits, Cause, R7, R8, Truncated, Limit, Memory, D9, Place, Items, node_limit, bit_for, members_of, identifier, cause_of_wire, cause_of_field, Stop, MessageStop, Cursor, Reads, stopped, placed, counted, node_at, field_part_at, never, decimal_of, mantissa_at, own_map_at, end_at, closing, segment_at, each_at, elements_at, group_at, behind_bit, piece_at, body_at, known, named_at, head_at, in_template, message_at, judge, verdict, overlong_map, some_set, entity_at, EntityFault, Framing, Plain, Blocks, Mode, Stand, OverlongSize, SizeFault, in_size, in_message, StopsIn, FirstFault, IsMessageReader, if◌then◌else◌, nat_le}
 use Rattle.fast_stream.proofs.MapFaults.{map_refused, entity_refused}
-use Rattle.fast_wire.specs.Level.{judge, verdict, overlong_map, some_set}
-use Rattle.fast_wire.specs.Reading.{entity_at}
-use Rattle.fast_wire.specs.Reading.{EntityFault}
-use Rattle.fast_stream.specs.declared.mode.Framing.{Framing}
-use Rattle.fast_stream.specs.declared.mode.Framing.TheVariants.{Plain, Blocks}
-use Rattle.fast_stream.specs.declared.mode.Mode.{Mode}
-use Rattle.fast_stream.specs.Blocks.{Stand, OverlongSize, SizeFault, in_size, in_message}
-use Rattle.fast_stream.specs.Modes.{StopsIn, FirstFault}
-use Rattle.fast_stream.specs.Readers.{IsMessageReader}
 use Rattle.fast_stream.proofs.BlockReaders.{wants_more}
-use Rattle.std.specs.Prelude.{if◌then◌else◌, nat_le}
 
 module _ (level : Level) where
   -- ---- steps
@@ -60,31 +27,31 @@ module _ (level : Level) where
 
   -- ---- pieces
 
-  wire_waits : (f : WireFault) → cause_of_wire f ≡ Truncated → f ≡ wire.NeedMore
-  wire_waits wire.NeedMore e = refl
-  wire_waits wire.TooLong e = absurd cc
-  wire_waits wire.Range e = absurd cc
-  wire_waits wire.NotUtf8 e = absurd cc
-  wire_waits wire.Memory e = absurd cc
+  wire_waits : (f : WireFault) → cause_of_wire f ≡ Truncated → f ≡ WireFault.NeedMore
+  wire_waits WireFault.NeedMore e = refl
+  wire_waits WireFault.TooLong e = absurd cc
+  wire_waits WireFault.Range e = absurd cc
+  wire_waits WireFault.NotUtf8 e = absurd cc
+  wire_waits WireFault.Memory e = absurd cc
 
-  part_waits : (f : FieldFault) → cause_of_field f ≡ Truncated → f ≡ field.NeedMore
-  part_waits field.NeedMore e = refl
-  part_waits field.R6 e = absurd cc
-  part_waits field.R9 e = absurd cc
-  part_waits field.D2 e = absurd cc
-  part_waits field.D4 e = absurd cc
-  part_waits field.D5 e = absurd cc
-  part_waits field.D6 e = absurd cc
-  part_waits field.D7 e = absurd cc
-  part_waits field.R1 e = absurd cc
-  part_waits field.R2 e = absurd cc
-  part_waits field.Limit e = absurd cc
-  part_waits field.Memory e = absurd cc
+  part_waits : (f : FieldFault) → cause_of_field f ≡ Truncated → f ≡ FieldFault.NeedMore
+  part_waits FieldFault.NeedMore e = refl
+  part_waits FieldFault.R6 e = absurd cc
+  part_waits FieldFault.R9 e = absurd cc
+  part_waits FieldFault.D2 e = absurd cc
+  part_waits FieldFault.D4 e = absurd cc
+  part_waits FieldFault.D5 e = absurd cc
+  part_waits FieldFault.D6 e = absurd cc
+  part_waits FieldFault.D7 e = absurd cc
+  part_waits FieldFault.R1 e = absurd cc
+  part_waits FieldFault.R2 e = absurd cc
+  part_waits FieldFault.Limit e = absurd cc
+  part_waits FieldFault.Memory e = absurd cc
 
   -- a map that waits has at most 255 bytes
   map_few : (bytes : List ℕ) (f : WireFault) → map_at bytes ≡ Err f → cause_of_wire f ≡ Truncated → length bytes ≤ 65554
   map_few bytes f e t =
-      let few = (map_refused bytes wire.NeedMore (e ∙ ap (λ (g : WireFault). Err g) (wire_waits f t))).0 in
+      let few = (map_refused bytes WireFault.NeedMore (e ∙ ap (λ (g : WireFault). Err g) (wire_waits f t))).0 in
       omega (arith, few)
 
   part_few : (p : FieldPart) (d : Dictionary) (bits : List Bool) (bytes : List ℕ) (f : FieldFault) → field_at level p (entry_at d p.key) (bit_for (part_needs_bit p) bits) bytes ≡ Err f → cause_of_field f ≡ Truncated → length bytes ≤ 65554
@@ -129,7 +96,7 @@ module _ (level : Level) where
   verdict_few : (bytes : List ℕ) (f : Cause) (r : Result (List ℕ × List ℕ) WireFault) → entity_at 256 bytes ≡ r → verdict overlong_map cause_of_wire R7 r ≡ Err f → f ≡ Truncated → length bytes ≤ 65554
   verdict_few bytes f (Err w) h e t =
       let is : cause_of_wire w ≡ f = cc in
-      let few = (entity_refused 256 bytes wire.NeedMore (h ∙ ap (λ (g : WireFault). Err g) (wire_waits w (is ∙ t)))).0 in
+      let few = (entity_refused 256 bytes WireFault.NeedMore (h ∙ ap (λ (g : WireFault). Err g) (wire_waits w (is ∙ t)))).0 in
       omega (arith, few)
   verdict_few bytes f (Ok x) h e t = elim (overlong_map x.0) as (λ o. (if o then Err R7 else Ok (tt {0})) ≡ Err f → length bytes ≤ 65554) [
     | true ↦ λ e. let is : R7 ≡ f = cc in absurd (let no : R7 ≡ Truncated = is ∙ t in cc)

@@ -1,18 +1,6 @@
 -- Laws of streams in plain framing: those of every mode, at this one.
-use Rattle.std.proofs.Common.{◌≡◌, ◌≢◌, ℕ, List, ◌++◌, ◌⊎◌, inl, inr}
-use Rattle.std.specs.List.{AllByRecursion}
-use Rattle.fast_wire.specs.declared.level.Level.{Level}
-use Rattle.fast_wire.specs.Reader.{IsBytes}
-use Rattle.fast_template.specs.Resolved.{Resolved}
-use Rattle.fast_template.specs.TemplateSets.{HaveTypedParts}
-use Rattle.fast_stream.specs.declared.fault.Cause.{Cause}
-use Rattle.fast_stream.specs.declared.fault.Cause.TheVariants.{Truncated}
-use Rattle.fast_stream.specs.declared.place.Place.{Place}
-use Rattle.fast_stream.specs.Nodes.{Content}
-use Rattle.fast_stream.specs.Streams.{Carries}
+use Rattle.fast_stream.proofs.Common.{◌≡◌, ◌≢◌, ℕ, List, ◌++◌, ◌⊎◌, inl, inr, AllByRecursion, Level, IsBytes, Resolved, HaveTypedParts, Cause, Truncated, Place, Content, Carries, IsNextReader, plainly}
 use Rattle.fast_stream.specs.Faults.{FirstFault}
-use Rattle.fast_stream.specs.Readers.{IsNextReader}
-use Rattle.fast_stream.specs.Modes.{plainly}
 use Rattle.fast_stream.proofs.Framings.{in_mode, from_mode, fault_in_mode, fault_from_mode}
 use Rattle.fast_stream.proofs.MessageReaders.{message_reader}
 use Rattle.fast_stream.proofs.ModeReaders.{next_reader}

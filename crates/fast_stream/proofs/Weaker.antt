@@ -1,13 +1,5 @@
 -- What is spelled in one way is spelled in each way that allows it.
-use Rattle.std.proofs.Common.{◌≡◌, ℕ, Bool, true, false, List, [], ◌∷◌, Option, Some, None}
-use Rattle.fast_value.specs.declared.scalar.Scalar.{Scalar}
-use Rattle.fast_value.specs.declared.scalar.Scalar.TheVariants.{U32, I32, I64, Decimal}
-use Rattle.fast_template.specs.declared.resolved.FieldPart.{FieldPart}
-use Rattle.fast_template.specs.Resolved.{Instruction, Instructions, whole_field, field_in_parts, group_of, sequence_of, no_instructions, then_instruction, has_map, Resolved}
-use Rattle.fast_dictionary.specs.Dictionary.{Dictionary}
-use Rattle.fast_stream.specs.Nodes.{Item, single, group_items, sequence_elements, Items, no_items, then_item, Elements, no_elements, then_element, element_count, Content}
-use Rattle.fast_stream.specs.Bodies.{Spelling, Mapping, IsSpelling, IsMapping, State, Then, Each, WithMap, PartBy, SegmentBy, PieceBy, BodyBy}
-use Rattle.fast_stream.specs.Streams.{members_of, identifier, BodyOfBy, MessageFormBy, CarriesBy}
+use Rattle.fast_stream.proofs.Common.{◌≡◌, ℕ, Bool, true, false, List, [], ◌∷◌, Option, Some, None, Scalar, U32, I32, I64, Decimal, FieldPart, Instruction, Instructions, whole_field, field_in_parts, group_of, sequence_of, no_instructions, then_instruction, has_map, Resolved, Dictionary, Item, single, group_items, sequence_elements, Items, no_items, then_item, Elements, no_elements, then_element, element_count, Content, Spelling, Mapping, IsSpelling, IsMapping, State, Then, Each, WithMap, PartBy, SegmentBy, PieceBy, BodyBy, members_of, identifier, BodyOfBy, MessageFormBy, CarriesBy}
 
 then_weaker : {A : Type 0} (P R : List ℕ → A → Type 0) (Q S : A → List ℕ → Type 0) → ((x : List ℕ) (a : A) → P x a → R x a) → ((a : A) (y : List ℕ) → Q a y → S a y)
     → (b : List ℕ) → Then P Q b → Then R S b

@@ -1,47 +1,14 @@
 -- Streams of the worked templates as the relations see them. Two are shown part by part; the others stand on what reading
 -- computes of them, by the laws that join reading and the relations.
-use Rattle.std.proofs.Common.{◌+◌, ◌≡◌, ℕ, List, [], ◌∷◌, Option, Some, None, pos, refl, ap, lit<, lit≤, inl, ◌∙◌, ◌&&◌, Bool, true, false, true≢false, sym, length, arith}
-use Rattle.std.specs.Prelude.{codes, nat_lt, option_map, replicate}
-use Rattle.std.specs.List.{list_all}
-use Rattle.fast_wire.specs.declared.level.Level.TheVariants.{Usual}
-use Rattle.fast_wire.specs.Reader.{IsBytes}
+use Rattle.fast_stream.proofs.Common.{◌+◌, ◌≡◌, ℕ, List, [], ◌∷◌, Option, Some, None, pos, refl, ap, lit<, lit≤, inl, ◌∙◌, ◌&&◌, Bool, true, false, true≢false, sym, length, arith, codes, nat_lt, option_map, replicate, list_all, Usual, IsBytes, key_cmp, Key, Global, UInt32, Mandatory, Operator, Whole, Scalar, U32, FieldPart, entry_from, groups, IsUnsigned, bits_of, FieldFault, uncut, predicted_at, row_at, field_at, Cause, D2, D4, D5, D9, D12, BlockEnd, R1, Truncated, Limit, Fault, single, items_of, Content, State, after_part, identifier, Carries, in_identifier, MessageStop, place_of, Place, at_start, plainly, in_blocks, FirstFault, EndsBetween, StreamReading, stream_at, fault_in, IsNextReader, worked_set, worked_set_is_sound}
 use Rattle.std.specs.FinMap as finite
-use Rattle.fast_value.specs.Key.{key_cmp}
-use Rattle.fast_value.specs.declared.key.Key.{Key}
-use Rattle.fast_value.specs.declared.key.Scope.TheVariants.{Global}
-use Rattle.fast_value.specs.declared.kind.Kind.TheVariants.{UInt32}
-use Rattle.fast_value.specs.declared.kind.Presence.TheVariants.{Mandatory}
-use Rattle.fast_value.specs.declared.kind.Operator.{Operator}
 use Rattle.fast_value.specs.declared.kind.Operator.TheVariants.{Plain, Copy}
-use Rattle.fast_value.specs.declared.kind.Part.TheVariants.{Whole}
-use Rattle.fast_value.specs.declared.scalar.Scalar.{Scalar}
-use Rattle.fast_value.specs.declared.scalar.Scalar.TheVariants.{U32}
-use Rattle.fast_template.specs.declared.resolved.FieldPart.{FieldPart}
-use Rattle.fast_dictionary.specs.Dictionary.{entry_from}
-use Rattle.fast_wire.specs.Entity.{groups}
-use Rattle.fast_wire.specs.Integer.{IsUnsigned}
-use Rattle.fast_wire.specs.PresenceMap.{bits_of}
-use Rattle.fast_field.specs.declared.fault.FieldFault.TheVariants as field
-use Rattle.fast_field.specs.Deltas.{uncut}
-use Rattle.fast_field.specs.FieldReading.{predicted_at, row_at, field_at}
 use Rattle.fast_stream.proofs.Hex.{hex}
-use Rattle.fast_stream.specs.declared.fault.Cause.{Cause}
-use Rattle.fast_stream.specs.declared.fault.Cause.TheVariants.{D2, D4, D5, D9, D12, BlockEnd, R1, Truncated, Limit}
-use Rattle.fast_stream.specs.declared.fault.Fault.{Fault}
-use Rattle.fast_stream.specs.Nodes.{single, items_of, Content}
-use Rattle.fast_stream.specs.Bodies.{State, after_part}
-use Rattle.fast_stream.specs.Streams.{identifier, Carries}
-use Rattle.fast_stream.specs.Faults.{in_identifier, MessageStop, place_of}
-use Rattle.fast_stream.specs.declared.place.Place.{Place}
-use Rattle.fast_stream.specs.Blocks.{at_start}
-use Rattle.fast_stream.specs.Modes.{plainly, in_blocks, FirstFault, EndsBetween, StreamReading, stream_at, fault_in}
-use Rattle.fast_stream.specs.Readers.{IsNextReader}
 use Rattle.fast_stream.proofs.Framings.{in_mode, from_mode}
 use Rattle.fast_stream.proofs.MessageReaders.{message_reader}
 use Rattle.fast_stream.proofs.ModeReaders.{next_reader}
 use Rattle.fast_stream.proofs.ModeStreams.{read_is_carried, answered_is_fault}
 use Rattle.fast_stream.proofs.Rows.{u32, decimal, text, absent, group, sequence, message, quote, read, groups_there, lengths, maps_of_elements, mantissa_takes_a_bit, left_out, overlong_integer, overlong_map, unasked_bit, map_too_long, unknown_identifier, identifier_too_large, no_map_of_group, no_value_in_group, no_map_of_second_element, mantissa_too_large, another_type, read_blocks, empty_second_block, block_too_short, unended_block}
-use Rattle.fast_template.proofs.WorkedSet.{worked_set, worked_set_is_sound}
 
 abbrev uint32 : ℕ → ℕ → List ℕ → Operator → FieldPart
 uint32 number slot name operator = record { number = number; part = Whole; kind = UInt32; presence = Mandatory; operator = operator; initial = None; key = record { slot = slot; scope = Global; name = name; part = Whole } }
@@ -144,7 +111,7 @@ no_identifier = record {
     back = [];
     parts = refl;
     first = record { entity = (lit≤ tt, lit< tt); short = lit≤ tt; value = refl };
-    second = record { instruction_is = refl; left_is = refl; fault = inl (field.D5, rw (absent_there identifier.key) refl, refl) };
+    second = record { instruction_is = refl; left_is = refl; fault = inl (FieldFault.D5, rw (absent_there identifier.key) refl, refl) };
   });
   cause_is = refl;
   place_is = refl;

@@ -1,8 +1,7 @@
 -- The bits that instructions take of the presence map around them.
 -- FAST 1.1, Transfer Encoding, Presence Map.
 use Rattle.std.specs.Prelude.{ℕ, ◌+◌, Bool, true, false, List, None}
-use Rattle.fast_template.specs.Resolved.{Instruction, Instructions, whole_field, field_in_parts, group_of, sequence_of, no_instructions, then_instruction, part_needs_bit, is_optional}
-use Rattle.fast_wire.specs.PresenceMap.{next_bit, later_bits}
+use Rattle.fast_stream.specs.Prelude.{Instruction, Instructions, whole_field, field_in_parts, group_of, sequence_of, no_instructions, then_instruction, part_needs_bit, is_optional, next_bit, later_bits}
 use Rattle.fast_stream.specs.Nodes.{Item, single, Items, no_items, then_item}
 
 -- the bit of a piece that takes one, or takes none: the next bit of the map, or 1

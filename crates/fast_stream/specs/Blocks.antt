@@ -4,14 +4,7 @@
 -- project's own.
 use Rattle.std.specs.Prelude.{◌≡◌, ◌<◌, ℕ, zero, suc, ◌+◌, ◌-◌, Bool, true, nat_le, List, [], ◌++◌, length, take, drop, Result, Ok, Err, ◌⊎◌}
 use Rattle.std.specs.FinMap as map
-use Rattle.fast_wire.specs.declared.fault.WireFault.{WireFault}
-use Rattle.fast_wire.specs.declared.level.Level.{Level}
-use Rattle.fast_wire.specs.declared.level.Level.TheVariants.{Usual, Strict}
-use Rattle.fast_wire.specs.Integer.{IsUnsigned}
-use Rattle.fast_wire.specs.Level.{AtLevel, judged, overlong_unsigned}
-use Rattle.fast_wire.specs.Reading.{◌>>=◌, EntityFault, entity_at, unsigned_at}
-use Rattle.fast_template.specs.Resolved.{Resolved}
-use Rattle.fast_dictionary.specs.Dictionary.{Dictionary}
+use Rattle.fast_stream.specs.Prelude.{WireFault, Level, Usual, Strict, IsUnsigned, AtLevel, judged, overlong_unsigned, ◌>>=◌, EntityFault, entity_at, unsigned_at, Resolved, Dictionary}
 use Rattle.fast_stream.specs.declared.fault.Cause.{Cause}
 use Rattle.fast_stream.specs.declared.fault.Cause.TheVariants.{D12, R6, Truncated, BlockEnd}
 use Rattle.fast_stream.specs.Nodes.{Content}

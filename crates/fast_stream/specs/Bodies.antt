@@ -2,15 +2,7 @@
 -- FAST 1.1, Transfer Encoding, Segments and Presence Map, and Templates, Group and Sequence Field Instructions.
 use Rattle.std.specs.Prelude.{◌≡◌, Bool, true, false, List, [], ◌++◌, ℕ, Option, Some, None}
 use Rattle.std.specs.FinMap as map
-use Rattle.fast_value.specs.declared.key.Key.{Key}
-use Rattle.fast_value.specs.declared.scalar.Scalar.{Scalar}
-use Rattle.fast_value.specs.declared.scalar.Scalar.TheVariants.{U32, I32, I64, Decimal}
-use Rattle.fast_template.specs.declared.resolved.FieldPart.{FieldPart}
-use Rattle.fast_template.specs.Resolved.{Instruction, Instructions, whole_field, field_in_parts, group_of, sequence_of, no_instructions, then_instruction, part_needs_bit, is_optional, has_map}
-use Rattle.fast_dictionary.specs.declared.entry.Entry.{Entry}
-use Rattle.fast_dictionary.specs.declared.entry.Entry.TheVariants.{Undefined}
-use Rattle.fast_dictionary.specs.Dictionary.{Dictionary, entry_at, value_in}
-use Rattle.fast_field.specs.Bases.{next}
+use Rattle.fast_stream.specs.Prelude.{Key, Scalar, U32, I32, I64, Decimal, FieldPart, Instruction, Instructions, whole_field, field_in_parts, group_of, sequence_of, no_instructions, then_instruction, part_needs_bit, is_optional, has_map, Entry, Undefined, Dictionary, entry_at, value_in, next}
 use Rattle.fast_stream.specs.Nodes.{Item, single, group_items, sequence_elements, Items, no_items, then_item, Elements, no_elements, then_element, element_count}
 use Rattle.fast_stream.specs.Bits.{bit_for, after_bit}
 

@@ -2,21 +2,7 @@
 -- FAST 1.1, Error Handling. Which check comes first, the places and the limits are this project's own.
 use Rattle.std.specs.Prelude.{◌≡◌, ◌<◌, Ok, ℕ, zero, suc, ◌+◌, ◌-◌, ℤ, Bool, true, false, List, [], ◌++◌, length, Option, Some, None, ◌⊎◌}
 use Rattle.std.specs.FinMap as map
-use Rattle.fast_wire.specs.Level.{overlong_map, some_set}
-use Rattle.fast_wire.specs.declared.level.Level.{Level}
-use Rattle.fast_wire.specs.declared.level.Level.TheVariants.{Usual, Strict}
-use Rattle.fast_value.specs.declared.scalar.Scalar.{Scalar}
-use Rattle.fast_value.specs.declared.scalar.Scalar.TheVariants.{U32, I32}
-use Rattle.fast_template.specs.declared.resolved.FieldPart.{FieldPart}
-use Rattle.fast_template.specs.Resolved.{Instruction, Instructions, whole_field, field_in_parts, group_of, sequence_of, no_instructions, then_instruction, part_needs_bit, is_optional, has_map, Resolved}
-use Rattle.fast_dictionary.specs.Dictionary.{Dictionary, entry_at}
-use Rattle.fast_wire.specs.declared.fault.WireFault.{WireFault}
-use Rattle.fast_wire.specs.declared.fault.WireFault.TheVariants as wire
-use Rattle.fast_wire.specs.Reading.{EntityFault, entity_at}
-use Rattle.fast_field.specs.declared.fault.FieldFault.{FieldFault}
-use Rattle.fast_field.specs.declared.fault.FieldFault.TheVariants as field
-use Rattle.fast_field.specs.Fields.{Form}
-use Rattle.fast_field.specs.FieldReading.{IsFieldFault}
+use Rattle.fast_stream.specs.Prelude.{overlong_map, some_set, Level, Usual, Strict, Scalar, U32, I32, FieldPart, Instruction, Instructions, whole_field, field_in_parts, group_of, sequence_of, no_instructions, then_instruction, part_needs_bit, is_optional, has_map, Resolved, Dictionary, entry_at, WireFault, EntityFault, entity_at, FieldFault, Form, IsFieldFault}
 use Rattle.fast_stream.specs.declared.fault.Cause.{Cause}
 use Rattle.fast_stream.specs.declared.fault.Cause.TheVariants.{D2, D4, D5, D6, D7, D9, R1, R2, R6, R7, R8, R9, Truncated, Limit, Memory}
 use Rattle.fast_stream.specs.declared.place.Place.{Place}
@@ -27,26 +13,26 @@ use Rattle.fast_stream.specs.Streams.{members_of, identifier, MapAt, MapEntity, 
 
 -- the cause that a fault of a byte form is in a stream; the last three come of no bytes
 abbrev pub cause_of_wire : WireFault → Cause
-cause_of_wire wire.NeedMore = Truncated
-cause_of_wire wire.TooLong = Limit
-cause_of_wire wire.Range = Memory
-cause_of_wire wire.NotUtf8 = Memory
-cause_of_wire wire.Memory = Memory
+cause_of_wire WireFault.NeedMore = Truncated
+cause_of_wire WireFault.TooLong = Limit
+cause_of_wire WireFault.Range = Memory
+cause_of_wire WireFault.NotUtf8 = Memory
+cause_of_wire WireFault.Memory = Memory
 
 -- and a fault of a field
 abbrev pub cause_of_field : FieldFault → Cause
-cause_of_field field.D2 = D2
-cause_of_field field.D4 = D4
-cause_of_field field.D5 = D5
-cause_of_field field.D6 = D6
-cause_of_field field.D7 = D7
-cause_of_field field.R1 = R1
-cause_of_field field.R2 = R2
-cause_of_field field.R6 = R6
-cause_of_field field.R9 = R9
-cause_of_field field.Limit = Limit
-cause_of_field field.NeedMore = Truncated
-cause_of_field field.Memory = Memory
+cause_of_field FieldFault.D2 = D2
+cause_of_field FieldFault.D4 = D4
+cause_of_field FieldFault.D5 = D5
+cause_of_field FieldFault.D6 = D6
+cause_of_field FieldFault.D7 = D7
+cause_of_field FieldFault.R1 = R1
+cause_of_field FieldFault.R2 = R2
+cause_of_field FieldFault.R6 = R6
+cause_of_field FieldFault.R9 = R9
+cause_of_field FieldFault.Limit = Limit
+cause_of_field FieldFault.NeedMore = Truncated
+cause_of_field FieldFault.Memory = Memory
 
 -- a fault of a piece: its cause, the number of its instruction, and how many bytes are left from the piece on
 pub record Stop : Type 0 where

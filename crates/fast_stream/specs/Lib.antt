@@ -1,3 +1,4 @@
+mod Prelude
 pub mod Nodes
 pub mod Bits
 pub mod Bodies

@@ -2,9 +2,7 @@
 -- FAST 1.1, Transfer Encoding, Streams, Blocks and Messages, and Error Handling. The places are this project's own.
 use Rattle.std.specs.Prelude.{◌≡◌, ◌<◌, ℕ, zero, suc, Bool, false, nat_eq, if◌then◌else◌, List, [], ◌∷◌, ◌++◌, length, Option, Some, None, option_map, Result, Ok, Err, ◌⊎◌}
 use Rattle.std.specs.List.{AllByRecursion, flat_map}
-use Rattle.fast_wire.specs.declared.level.Level.{Level}
-use Rattle.fast_template.specs.Resolved.{Resolved}
-use Rattle.fast_dictionary.specs.Dictionary.{Dictionary}
+use Rattle.fast_stream.specs.Prelude.{Level, Resolved, Dictionary}
 use Rattle.fast_stream.specs.declared.fault.Cause.{Cause}
 use Rattle.fast_stream.specs.declared.fault.Fault.{Fault}
 use Rattle.fast_stream.specs.declared.mode.Framing.{Framing}

@@ -1,10 +1,7 @@
 -- What ties the function that reads a piece of a message to the piece's forms and faults.
 use Rattle.std.specs.Prelude.{◌≡◌, ◌≢◌, ℕ, ◌+◌, List, ◌++◌, length, Ok, Err}
-use Rattle.fast_wire.specs.declared.level.Level.{Level}
-use Rattle.fast_wire.specs.Reader.{IsBytes}
+use Rattle.fast_stream.specs.Prelude.{Level, IsBytes, Resolved, Dictionary}
 use Rattle.fast_stream.specs.declared.fault.Cause.TheVariants.{Truncated}
-use Rattle.fast_template.specs.Resolved.{Resolved}
-use Rattle.fast_dictionary.specs.Dictionary.{Dictionary}
 use Rattle.fast_stream.specs.Nodes.{Content}
 use Rattle.fast_stream.specs.Bodies.{State}
 use Rattle.fast_stream.specs.Streams.{MessageForm}

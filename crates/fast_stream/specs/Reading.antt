@@ -1,16 +1,7 @@
 -- Reading a message from left to right: its pieces, and the first fault that is met.
 -- FAST 1.1, Transfer Encoding. Which check comes first is this project's own.
 use Rattle.std.specs.Prelude.{if◌then◌else◌, ℕ, zero, suc, ℤ, Bool, true, false, List, [], length, Option, Some, None, Result, Ok, Err}
-use Rattle.fast_wire.specs.Level.{judge, overlong_map, some_set}
-use Rattle.fast_wire.specs.declared.level.Level.{Level}
-use Rattle.fast_wire.specs.declared.level.Level.TheVariants.{Usual, Strict}
-use Rattle.fast_value.specs.declared.scalar.Scalar.{Scalar}
-use Rattle.fast_value.specs.declared.scalar.Scalar.TheVariants.{U32, I32, I64, Decimal}
-use Rattle.fast_template.specs.declared.resolved.FieldPart.{FieldPart}
-use Rattle.fast_template.specs.Resolved.{Instruction, Instructions, whole_field, field_in_parts, group_of, sequence_of, no_instructions, then_instruction, part_needs_bit, is_optional, has_map, Resolved}
-use Rattle.fast_dictionary.specs.Dictionary.{Dictionary, entry_at}
-use Rattle.fast_wire.specs.Reading.{◌>>=◌, map_at}
-use Rattle.fast_field.specs.FieldReading.{field_at}
+use Rattle.fast_stream.specs.Prelude.{judge, overlong_map, some_set, Level, Usual, Strict, Scalar, U32, I32, I64, Decimal, FieldPart, Instruction, Instructions, whole_field, field_in_parts, group_of, sequence_of, no_instructions, then_instruction, part_needs_bit, is_optional, has_map, Resolved, Dictionary, entry_at, ◌>>=◌, map_at, field_at}
 use Rattle.fast_stream.specs.declared.fault.Cause.{Cause}
 use Rattle.fast_stream.specs.declared.fault.Cause.TheVariants.{D9, R7, R8, Limit, Memory}
 use Rattle.fast_stream.specs.Nodes.{Item, single, group_items, sequence_elements, Items, no_items, then_item, Elements, no_elements, then_element, Content, node_limit}

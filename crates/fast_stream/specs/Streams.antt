@@ -2,20 +2,7 @@
 -- FAST 1.1, Transfer Encoding, Streams and Messages, and Template Identifier.
 use Rattle.std.specs.Prelude.{◌≡◌, ◌≤◌, ℕ, Bool, false, List, [], ◌∷◌, find, Option, Some, None, option_map}
 use Rattle.std.specs.FinMap as map
-use Rattle.fast_wire.specs.Level.{AtLevel, overlong_map, some_set}
-use Rattle.fast_wire.specs.declared.level.Level.{Level}
-use Rattle.fast_wire.specs.declared.level.Level.TheVariants.{Usual, Strict}
-use Rattle.fast_value.specs.declared.kind.Kind.TheVariants.{UInt32}
-use Rattle.fast_value.specs.declared.kind.Presence.TheVariants.{Mandatory}
-use Rattle.fast_value.specs.declared.kind.Operator.TheVariants.{Copy}
-use Rattle.fast_value.specs.declared.kind.Part.TheVariants.{Whole}
-use Rattle.fast_value.specs.declared.scalar.Scalar.TheVariants.{U32}
-use Rattle.fast_template.specs.declared.resolved.FieldPart.{FieldPart}
-use Rattle.fast_template.specs.Resolved.{Instructions, Resolved}
-use Rattle.fast_template.specs.TemplateSets.{has_id, identifier_key}
-use Rattle.fast_dictionary.specs.Dictionary.{Dictionary}
-use Rattle.fast_wire.specs.PresenceMap.{IsWholeMap}
-use Rattle.fast_field.specs.Fields.{Form}
+use Rattle.fast_stream.specs.Prelude.{AtLevel, overlong_map, some_set, Level, Usual, Strict, UInt32, Mandatory, Copy, Whole, U32, FieldPart, Instructions, Resolved, has_id, identifier_key, Dictionary, IsWholeMap, Form}
 use Rattle.fast_stream.specs.Nodes.{Items, Content, nodes_in, node_limit}
 use Rattle.fast_stream.specs.Bodies.{Spelling, Mapping, State, Then, WithMap, PartBy, BodyBy}
 

@@ -1,3 +1,4 @@
+mod Common
 pub mod Maps
 pub mod Variants
 pub mod SlotLaws

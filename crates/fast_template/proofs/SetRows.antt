@@ -1,62 +1,47 @@
 -- Resolved templates and what is true of every set: rows.
-use Rattle.std.proofs.Common.{◌≡◌, ◌≤◌, ◌<◌, ℕ, zero, suc, List, [], ◌∷◌, length, map, None, Bool, true, false, pos, negsuc, refl, lit<, arith}
-use Rattle.std.specs.Prelude.{codes, Contains}
-use Rattle.std.specs.List.{AllByRecursion}
-use Rattle.fast_value.specs.declared.kind.Kind.{Kind}
-use Rattle.fast_value.specs.declared.kind.Kind.TheVariants as kind
-use Rattle.fast_value.specs.declared.kind.Presence.{Presence}
-use Rattle.fast_value.specs.declared.kind.Presence.TheVariants.{Mandatory, Optional}
-use Rattle.fast_value.specs.declared.kind.Operator.{Operator}
-use Rattle.fast_value.specs.declared.kind.Operator.TheVariants as operator
-use Rattle.fast_value.specs.declared.kind.Part.TheVariants as part
-use Rattle.fast_value.specs.declared.scalar.Scalar.TheVariants as value
-use Rattle.fast_value.specs.declared.key.Scope.TheVariants.{Global}
-use Rattle.fast_value.specs.declared.key.Key.{Key}
-use Rattle.fast_template.specs.declared.resolved.FieldPart.{FieldPart}
-use Rattle.fast_template.specs.Resolved.{Instruction, Instructions, whole_field, field_in_parts, group_of, sequence_of, instructions_of, no_instructions, Resolved, takes_bit, size_of, depth_of, keys_of, numbered, with_keys}
-use Rattle.fast_template.specs.TemplateSets.{applies, is_in_part, HasSlots, identifier_key, keys_of_all, size_of_all, AreSound}
+use Rattle.fast_template.proofs.Common.{◌≡◌, ◌≤◌, ◌<◌, ℕ, zero, suc, List, [], ◌∷◌, length, map, None, Bool, true, false, pos, negsuc, refl, lit<, arith, codes, Contains, AllByRecursion, Kind, Presence, Mandatory, Optional, Operator, Part, Scalar, Global, Key, FieldPart, Instruction, Instructions, whole_field, field_in_parts, group_of, sequence_of, instructions_of, no_instructions, Resolved, takes_bit, size_of, depth_of, keys_of, numbered, with_keys, applies, is_in_part, HasSlots, identifier_key, keys_of_all, size_of_all, AreSound}
 
 -- ---- the types that operators apply to
 
 abbrev kinds : List Kind
-kinds = kind.UInt32 ∷ kind.Int32 ∷ kind.UInt64 ∷ kind.Int64 ∷ kind.Decimal ∷ kind.Ascii ∷ kind.Unicode ∷ kind.Bytes ∷ []
+kinds = Kind.UInt32 ∷ Kind.Int32 ∷ Kind.UInt64 ∷ Kind.Int64 ∷ Kind.Decimal ∷ Kind.Ascii ∷ Kind.Unicode ∷ Kind.Bytes ∷ []
 
 abbrev all_types : List Bool
 all_types = true ∷ true ∷ true ∷ true ∷ true ∷ true ∷ true ∷ true ∷ []
 
-increment_is_for : map (applies operator.Increment) kinds ≡ true ∷ true ∷ true ∷ true ∷ false ∷ false ∷ false ∷ false ∷ []
+increment_is_for : map (applies Operator.Increment) kinds ≡ true ∷ true ∷ true ∷ true ∷ false ∷ false ∷ false ∷ false ∷ []
 increment_is_for = refl
 
-tail_is_for : map (applies operator.Tail) kinds ≡ false ∷ false ∷ false ∷ false ∷ false ∷ true ∷ true ∷ true ∷ []
+tail_is_for : map (applies Operator.Tail) kinds ≡ false ∷ false ∷ false ∷ false ∷ false ∷ true ∷ true ∷ true ∷ []
 tail_is_for = refl
 
-others_are_for_all : map (λ o. map (applies o) kinds) (operator.Plain ∷ operator.Constant ∷ operator.Default ∷ operator.Copy ∷ operator.Delta ∷ []) ≡ all_types ∷ all_types ∷ all_types ∷ all_types ∷ all_types ∷ []
+others_are_for_all : map (λ o. map (applies o) kinds) (Operator.Plain ∷ Operator.Constant ∷ Operator.Default ∷ Operator.Copy ∷ Operator.Delta ∷ []) ≡ all_types ∷ all_types ∷ all_types ∷ all_types ∷ all_types ∷ []
 others_are_for_all = refl
 
 -- Only an exponent's value is bounded further.
-in_exponent : map (is_in_part part.Exponent) (value.I32 (pos 63) ∷ value.I32 (pos 64) ∷ value.I32 (negsuc 62) ∷ value.I32 (negsuc 63) ∷ value.U32 64 ∷ []) ≡ true ∷ false ∷ true ∷ false ∷ true ∷ []
+in_exponent : map (is_in_part Part.Exponent) (Scalar.I32 (pos 63) ∷ Scalar.I32 (pos 64) ∷ Scalar.I32 (negsuc 62) ∷ Scalar.I32 (negsuc 63) ∷ Scalar.U32 64 ∷ []) ≡ true ∷ false ∷ true ∷ false ∷ true ∷ []
 in_exponent = refl
 
-in_others : map (λ p. is_in_part p (value.I32 (pos 64))) (part.Whole ∷ part.Mantissa ∷ part.Length ∷ []) ≡ true ∷ true ∷ true ∷ []
+in_others : map (λ p. is_in_part p (Scalar.I32 (pos 64))) (Part.Whole ∷ Part.Mantissa ∷ Part.Length ∷ []) ≡ true ∷ true ∷ true ∷ []
 in_others = refl
 
 -- ---- instructions of every kind
 
 abbrev key : ℕ → Key
-key slot = record { slot = slot; scope = Global; name = codes "K"; part = part.Whole }
+key slot = record { slot = slot; scope = Global; name = codes "K"; part = Part.Whole }
 
 abbrev part_of_key : ℕ → ℕ → Presence → Operator → FieldPart
-part_of_key number slot presence o = record { number = number; part = part.Whole; kind = kind.UInt32; presence = presence; operator = o; initial = None; key = key slot }
+part_of_key number slot presence o = record { number = number; part = Part.Whole; kind = Kind.UInt32; presence = presence; operator = o; initial = None; key = key slot }
 
 abbrev inner : ℕ → Instruction
-inner number = whole_field (codes "F") number Mandatory (part_of_key number 5 Mandatory operator.Plain)
+inner number = whole_field (codes "F") number Mandatory (part_of_key number 5 Mandatory Operator.Plain)
 
 -- a field, a decimal in parts, a sequence of a group of a field, and an empty group, numbered as f says
 abbrev every_kind : (ℕ → ℕ) → Instructions
 every_kind f = instructions_of (
-    whole_field (codes "A") (f 1) Mandatory (part_of_key (f 1) 1 Mandatory operator.Copy)
-    ∷ field_in_parts (codes "B") (f 2) Mandatory (part_of_key (f 2) 2 Mandatory operator.Delta) (part_of_key (f 2) 3 Mandatory operator.Copy)
-    ∷ sequence_of (codes "C") (f 3) Mandatory (part_of_key (f 3) 4 Mandatory operator.Plain) (instructions_of (
+    whole_field (codes "A") (f 1) Mandatory (part_of_key (f 1) 1 Mandatory Operator.Copy)
+    ∷ field_in_parts (codes "B") (f 2) Mandatory (part_of_key (f 2) 2 Mandatory Operator.Delta) (part_of_key (f 2) 3 Mandatory Operator.Copy)
+    ∷ sequence_of (codes "C") (f 3) Mandatory (part_of_key (f 3) 4 Mandatory Operator.Plain) (instructions_of (
     group_of (codes "D") (f 4) Optional (instructions_of (inner (f 5) ∷ []))
     ∷ []))
     ∷ group_of (codes "E") (f 6) Mandatory no_instructions
@@ -71,7 +56,7 @@ size_is = refl
 depth_is : depth_of (every_kind (λ n. n)) ≡ 2
 depth_is = refl
 
-flat_depth_is : depth_of (instructions_of (inner 1 ∷ field_in_parts (codes "B") 2 Mandatory (part_of_key 2 2 Mandatory operator.Delta) (part_of_key 2 3 Mandatory operator.Copy) ∷ [])) ≡ 0
+flat_depth_is : depth_of (instructions_of (inner 1 ∷ field_in_parts (codes "B") 2 Mandatory (part_of_key 2 2 Mandatory Operator.Delta) (part_of_key 2 3 Mandatory Operator.Copy) ∷ [])) ≡ 0
 flat_depth_is = refl
 
 keys_are : keys_of (every_kind (λ n. n)) ≡ key 1 ∷ key 2 ∷ key 3 ∷ key 4 ∷ key 5 ∷ []
@@ -86,13 +71,13 @@ size_of_all_is = refl
 -- What takes a bit of the map around it: a mantissa, an optional group, a length.
 bits_are : map takes_bit (
     inner 1
-    ∷ field_in_parts (codes "B") 1 Mandatory (part_of_key 1 2 Mandatory operator.Delta) (part_of_key 1 3 Mandatory operator.Copy)
-    ∷ field_in_parts (codes "B") 1 Mandatory (part_of_key 1 2 Mandatory operator.Copy) (part_of_key 1 3 Mandatory operator.Delta)
-    ∷ field_in_parts (codes "B") 1 Mandatory (part_of_key 1 2 Mandatory operator.Delta) (part_of_key 1 3 Mandatory operator.Delta)
+    ∷ field_in_parts (codes "B") 1 Mandatory (part_of_key 1 2 Mandatory Operator.Delta) (part_of_key 1 3 Mandatory Operator.Copy)
+    ∷ field_in_parts (codes "B") 1 Mandatory (part_of_key 1 2 Mandatory Operator.Copy) (part_of_key 1 3 Mandatory Operator.Delta)
+    ∷ field_in_parts (codes "B") 1 Mandatory (part_of_key 1 2 Mandatory Operator.Delta) (part_of_key 1 3 Mandatory Operator.Delta)
     ∷ group_of (codes "D") 1 Optional no_instructions
-    ∷ group_of (codes "D") 1 Mandatory (instructions_of (whole_field (codes "A") 2 Mandatory (part_of_key 2 1 Mandatory operator.Copy) ∷ []))
-    ∷ sequence_of (codes "C") 1 Mandatory (part_of_key 1 4 Mandatory operator.Copy) no_instructions
-    ∷ sequence_of (codes "C") 1 Optional (part_of_key 1 4 Optional operator.Plain) no_instructions
+    ∷ group_of (codes "D") 1 Mandatory (instructions_of (whole_field (codes "A") 2 Mandatory (part_of_key 2 1 Mandatory Operator.Copy) ∷ []))
+    ∷ sequence_of (codes "C") 1 Mandatory (part_of_key 1 4 Mandatory Operator.Copy) no_instructions
+    ∷ sequence_of (codes "C") 1 Optional (part_of_key 1 4 Optional Operator.Plain) no_instructions
     ∷ [])
     ≡ false ∷ true ∷ true ∷ false ∷ true ∷ false ∷ true ∷ false ∷ []
 bits_are = refl
@@ -100,11 +85,11 @@ bits_are = refl
 -- ---- slots
 
 -- The identifier's key is global, with no name, and has the first slot.
-identifier_is : identifier_key ≡ record { slot = 0; scope = Global; name = []; part = part.Whole }
+identifier_is : identifier_key ≡ record { slot = 0; scope = Global; name = []; part = Part.Whole }
 identifier_is = refl
 
 abbrev called : ℕ → List ℕ → Key
-called slot name = record { slot = slot; scope = Global; name = name; part = part.Whole }
+called slot name = record { slot = slot; scope = Global; name = name; part = Part.Whole }
 
 -- two names with one slot, one name with two, a slot past the number, and one that no key has
 shared_slot : ¬ (HasSlots (called 0 (codes "A") ∷ called 0 (codes "Bee") ∷ []) 1)

@@ -1,8 +1,5 @@
 -- Keys of a set and their slots.
-use Rattle.std.proofs.Common.{◌≡◌}
-use Rattle.std.specs.Prelude.{Contains}
-use Rattle.fast_value.specs.declared.key.Key.{Key}
-use Rattle.fast_template.specs.TemplateSets.{IsSound, TemplateList, NamesSame, keys_in}
+use Rattle.fast_template.proofs.Common.{◌≡◌, Contains, Key, IsSound, TemplateList, NamesSame, keys_in}
 
 pub same_slot_same_key : (set : TemplateList) (k l : Key) → IsSound set → Contains (keys_in set) k → Contains (keys_in set) l → k.slot ≡ l.slot → k ≡ l
 same_slot_same_key set k l sound found there slots =

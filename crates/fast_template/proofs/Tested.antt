@@ -1,18 +1,5 @@
 -- What a test of each element of a list says, and what tests of keys and of templates decide.
-use Rattle.std.proofs.Common.{◌≡◌, ◌<◌, ℕ, List, [], ◌∷◌, ◌&&◌, nat_eq, nat_lt, map, Bool, true, false, not, Option, Some, None, refl, sym, ap, ◌∙◌, zero, suc, arith, true≢false}
-use Rattle.std.specs.Prelude.{Contains, AllPairs, slice_index_or}
-use Rattle.std.specs.List.{list_all, list_any}
-use Rattle.std.specs.Ordering.{is_eq}
-use Rattle.std.specs.Cmp.{tied_itself, Equal-is, unsigned_Decides}
-use Rattle.std.specs.Cmp.Lexicographic.{pointwise, nat_list_eq_equiv}
-use Rattle.std.proofs.lemmas.List.Sums.{AllPass-from_list_all}
-use Rattle.std.proofs.lemmas.Bool.{ltb-true}
-use Rattle.std.proofs.lemmas.List.Kept.{AllPairs-cons}
-use Rattle.std.proofs.lemmas.Map.Views.{Contains-from_any}
-use Rattle.fast_value.specs.declared.key.Key.{Key}
-use Rattle.fast_value.specs.Key.{key_cmp, key_cmp-total, key_cmp-exact}
-use Rattle.fast_template.specs.Resolved.{Resolved}
-use Rattle.fast_template.specs.TemplateSets.{NamesSame, HasSlots, Differ}
+use Rattle.fast_template.proofs.Common.{◌≡◌, ◌<◌, ℕ, List, [], ◌∷◌, ◌&&◌, nat_eq, nat_lt, map, Bool, true, false, not, Option, Some, None, refl, sym, ap, ◌∙◌, zero, suc, arith, true≢false, Contains, AllPairs, slice_index_or, list_all, list_any, is_eq, tied_itself, Equal-is, unsigned_Decides, pointwise, nat_list_eq_equiv, AllPass-from_list_all, ltb-true, AllPairs-cons, Contains-from_any, Key, key_cmp, key_cmp-total, key_cmp-exact, Resolved, NamesSame, HasSlots, Differ}
 
 both_left : (a b : Bool) → (a && b) ≡ true → a ≡ true
 both_left true b e = refl

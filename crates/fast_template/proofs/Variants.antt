@@ -1,14 +1,8 @@
 -- What the fold of an instruction as it lies in memory gives, for each variant.
-use Rattle.std.proofs.Common.{◌≡◌, ℕ, List, Vec, sym, ap, ◌∙◌}
+use Rattle.fast_template.proofs.Common.{◌≡◌, ℕ, List, Vec, sym, ap, ◌∙◌, Presence, FieldPart, Flat, Flat-F, fold-roll-Flat, whole_field, field_in_parts, group_of, sequence_of, list_of, instruction_of, flat_step}
 use Rattle.std.specs.declared.alloc.Global.{Global}
-use Rattle.fast_value.specs.declared.kind.Presence.{Presence}
-use Rattle.fast_template.specs.declared.resolved.FieldPart.{FieldPart}
-use Rattle.fast_template.specs.declared.resolved.Flat.{Flat}
 use Rattle.fast_template.specs.declared.resolved.Flat.TheVariants as flat
-use Rattle.fast_template.specs.declared.resolved.Flat.TheOpen.{Flat-F}
-use Rattle.fast_template.specs.declared.resolved.Flat.TheFolds.{fold-roll-Flat}
 use Rattle.fast_template.specs.Resolved as resolved
-use Rattle.fast_template.specs.Resolved.{whole_field, field_in_parts, group_of, sequence_of, list_of, instruction_of, flat_step}
 
 pub field_is : (name : List ℕ) (number : ℕ) (presence : Presence) (whole : FieldPart) → instruction_of (flat.Field name number presence whole) ≡ whole_field name number presence whole
 field_is name number presence whole = ap instruction_of (sym (flat.rolls-Field name number presence whole)) ∙ fold-roll-Flat resolved.Instruction flat_step (Flat-F.Field name number presence whole)

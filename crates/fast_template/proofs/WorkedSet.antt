@@ -1,22 +1,6 @@
 -- The templates of the worked rows, resolved, are a sound set. Each stands here as it is; that the written ones are resolved to
 -- these is shown in fast_load.
-use Rattle.std.proofs.Common.{◌≡◌, ◌+◌, ℕ, List, [], ◌∷◌, if◌then◌else◌, Option, Some, None, Bool, true, false, pos, negsuc, refl, sym, ap, subst, ◌∙◌, lit≤, lit<}
-use Rattle.std.specs.Prelude.{codes, IsSome, IfSome}
-use Rattle.fast_value.specs.declared.kind.Kind.{Kind}
-use Rattle.fast_value.specs.declared.kind.Kind.TheVariants.{Int32, UInt32, Int64, Decimal, Ascii, Unicode, Bytes}
-use Rattle.fast_value.specs.declared.kind.Presence.{Presence}
-use Rattle.fast_value.specs.declared.kind.Presence.TheVariants.{Mandatory, Optional}
-use Rattle.fast_value.specs.declared.kind.Operator.{Operator}
-use Rattle.fast_value.specs.declared.kind.Operator.TheVariants.{Plain, Constant, Default, Copy, Increment, Delta, Tail}
-use Rattle.fast_value.specs.declared.kind.Part.{Part}
-use Rattle.fast_value.specs.declared.kind.Part.TheVariants.{Whole, Exponent, Mantissa, Length}
-use Rattle.fast_value.specs.declared.scalar.Scalar.{Scalar}
-use Rattle.fast_value.specs.declared.scalar.Scalar.TheVariants as value
-use Rattle.fast_value.specs.declared.key.Scope.TheVariants.{Global}
-use Rattle.fast_value.specs.declared.key.Key.{Key}
-use Rattle.fast_template.specs.declared.resolved.FieldPart.{FieldPart}
-use Rattle.fast_template.specs.Resolved.{Instruction, whole_field, field_in_parts, group_of, sequence_of, instructions_of, Resolved}
-use Rattle.fast_template.specs.TemplateSets.{applies, IsInitial, IsPartOf, HaveTypedParts, AreSound, identifier_key, keys_of_all}
+use Rattle.fast_template.proofs.Common.{◌≡◌, ◌+◌, ℕ, List, [], ◌∷◌, if◌then◌else◌, Option, Some, None, Bool, true, false, pos, negsuc, refl, sym, ap, subst, ◌∙◌, lit≤, lit<, codes, IsSome, IfSome, Kind, Int32, UInt32, Int64, Decimal, Ascii, Unicode, Bytes, Presence, Mandatory, Optional, Operator, Plain, Constant, Default, Copy, Increment, Delta, Tail, Part, Whole, Exponent, Mantissa, Length, Scalar, Global, Key, FieldPart, Instruction, whole_field, field_in_parts, group_of, sequence_of, instructions_of, Resolved, applies, IsInitial, IsPartOf, HaveTypedParts, AreSound, identifier_key, keys_of_all}
 use Rattle.fast_template.proofs.Tested.{names_tie, slotted_by, all_differ}
 
 -- The keys, in the order in which they first stand; the place of each is its slot.
@@ -77,7 +61,7 @@ abbrev pub wrap : Resolved
 wrap = template (Some 2) (codes "Wrap") (field 1 (codes "A") UInt32 Mandatory Increment None 5 ∷ field 2 (codes "B") UInt32 Mandatory Delta None 6 ∷ [])
 
 abbrev pub opt : Resolved
-opt = template (Some 3) (codes "Opt") (parts 1 (codes "Px") Optional Default (Some (value.I32 (pos 2))) 7 Copy 8 ∷ field 2 (codes "Flag") UInt32 Mandatory Copy None 9 ∷ [])
+opt = template (Some 3) (codes "Opt") (parts 1 (codes "Px") Optional Default (Some (Scalar.I32 (pos 2))) 7 Copy 8 ∷ field 2 (codes "Flag") UInt32 Mandatory Copy None 9 ∷ [])
 
 abbrev pub legs : Resolved
 legs = template (Some 4) (codes "Legs") (sequence 1 (codes "L") Optional 10 (field 2 (codes "P") UInt32 Mandatory Plain None 11 ∷ []) ∷ [])
@@ -95,7 +79,7 @@ abbrev pub tail : Resolved
 tail = template (Some 8) (codes "Tail") (field 1 (codes "S") Ascii Optional Tail None 14 ∷ [])
 
 abbrev pub init : Resolved
-init = template (Some 9) (codes "Init") (field 1 (codes "S") Ascii Optional Tail (Some (value.Ascii (codes "ab"))) 14 ∷ [])
+init = template (Some 9) (codes "Init") (field 1 (codes "S") Ascii Optional Tail (Some (Scalar.Ascii (codes "ab"))) 14 ∷ [])
 
 abbrev pub delta : Resolved
 delta = template (Some 10) (codes "Delta") (field 1 (codes "S") Ascii Mandatory Delta None 14 ∷ [])
@@ -117,13 +101,13 @@ empty = template (Some 13) (codes "Empty") (field_under 1 (codes "A") UInt32 Opt
 
 abbrev pub const : Resolved
 const = template (Some 14) (codes "Const") (
-    field 1 (codes "K") UInt32 Mandatory Constant (Some (value.U32 7)) 13
-    ∷ field 2 (codes "O") UInt32 Optional Constant (Some (value.U32 9)) 15
-    ∷ field 3 (codes "D") UInt32 Mandatory Default (Some (value.U32 3)) 16
+    field 1 (codes "K") UInt32 Mandatory Constant (Some (Scalar.U32 7)) 13
+    ∷ field 2 (codes "O") UInt32 Optional Constant (Some (Scalar.U32 9)) 15
+    ∷ field 3 (codes "D") UInt32 Mandatory Default (Some (Scalar.U32 3)) 16
     ∷ [])
 
 abbrev pub fixed : Resolved
-fixed = template (Some 15) (codes "Fixed") (parts 1 (codes "Px") Mandatory Constant (Some (value.I32 (negsuc 1))) 7 Delta 8 ∷ field 2 (codes "Raw") Bytes Optional Copy None 17 ∷ [])
+fixed = template (Some 15) (codes "Fixed") (parts 1 (codes "Px") Mandatory Constant (Some (Scalar.I32 (negsuc 1))) 7 Delta 8 ∷ field 2 (codes "Raw") Bytes Optional Copy None 17 ∷ [])
 
 abbrev pub first : Resolved
 first = template (Some 16) (codes "First") (field 1 (codes "A") UInt32 Mandatory Plain None 5 ∷ field 2 (codes "B") UInt32 Mandatory Copy None 6 ∷ [])
@@ -183,7 +167,7 @@ typed_2 : HaveTypedParts wrap.members
 typed_2 = (bare_part _ refl refl refl refl refl refl, (bare_part _ refl refl refl refl refl refl, tt))
 
 typed_3 : HaveTypedParts opt.members
-typed_3 = ((part_with _ (value.I32 (pos 2)) refl refl refl refl refl (refl, refl, refl), bare_part _ refl refl refl refl refl refl), (bare_part _ refl refl refl refl refl refl, tt))
+typed_3 = ((part_with _ (Scalar.I32 (pos 2)) refl refl refl refl refl (refl, refl, refl), bare_part _ refl refl refl refl refl refl), (bare_part _ refl refl refl refl refl refl, tt))
 
 typed_4 : HaveTypedParts legs.members
 typed_4 = ((bare_part _ refl refl refl refl refl refl, (bare_part _ refl refl refl refl refl refl, tt)), tt)
@@ -201,7 +185,7 @@ typed_8 : HaveTypedParts tail.members
 typed_8 = (bare_part _ refl refl refl refl refl refl, tt)
 
 typed_9 : HaveTypedParts init.members
-typed_9 = (part_with _ (value.Ascii (codes "ab")) refl refl refl refl refl (refl, refl, (lit≤ tt, (lit< tt, (lit< tt, tt)))), tt)
+typed_9 = (part_with _ (Scalar.Ascii (codes "ab")) refl refl refl refl refl (refl, refl, (lit≤ tt, (lit< tt, (lit< tt, tt)))), tt)
 
 typed_10 : HaveTypedParts delta.members
 typed_10 = (bare_part _ refl refl refl refl refl refl, tt)
@@ -219,10 +203,10 @@ typed_14 : HaveTypedParts empty.members
 typed_14 = (bare_part _ refl refl refl refl refl refl, (bare_part _ refl refl refl refl refl refl, tt))
 
 typed_15 : HaveTypedParts const.members
-typed_15 = (part_with _ (value.U32 7) refl refl refl refl refl (refl, refl, lit< tt), (part_with _ (value.U32 9) refl refl refl refl refl (refl, refl, lit< tt), (part_with _ (value.U32 3) refl refl refl refl refl (refl, refl, lit< tt), tt)))
+typed_15 = (part_with _ (Scalar.U32 7) refl refl refl refl refl (refl, refl, lit< tt), (part_with _ (Scalar.U32 9) refl refl refl refl refl (refl, refl, lit< tt), (part_with _ (Scalar.U32 3) refl refl refl refl refl (refl, refl, lit< tt), tt)))
 
 typed_16 : HaveTypedParts fixed.members
-typed_16 = ((part_with _ (value.I32 (negsuc 1)) refl refl refl refl refl (refl, refl, refl), bare_part _ refl refl refl refl refl refl), (bare_part _ refl refl refl refl refl refl, tt))
+typed_16 = ((part_with _ (Scalar.I32 (negsuc 1)) refl refl refl refl refl (refl, refl, refl), bare_part _ refl refl refl refl refl refl), (bare_part _ refl refl refl refl refl refl, tt))
 
 typed_17 : HaveTypedParts first.members
 typed_17 = (bare_part _ refl refl refl refl refl refl, (bare_part _ refl refl refl refl refl refl, tt))

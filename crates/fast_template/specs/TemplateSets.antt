@@ -3,13 +3,10 @@
 use Rattle.std.specs.Prelude.{◌≡◌, ◌≢◌, ◌≤◌, ◌<◌, ◌+◌, ◌∷◌, ◌++◌, ◌==◌, ℕ, List, [], map, find, Option, Some, None, IfSome, IsSome, IsTrue, Bool, true, false, Contains, AllPairs, length}
 use Rattle.std.specs.List.{AllByRecursion}
 use Rattle.fast_value.specs.declared.kind.Kind.{Kind}
-use Rattle.fast_value.specs.declared.kind.Kind.TheVariants as kind
 use Rattle.fast_value.specs.declared.kind.Presence.{Presence}
 use Rattle.fast_value.specs.declared.kind.Presence.TheVariants.{Mandatory}
 use Rattle.fast_value.specs.declared.kind.Operator.{Operator}
-use Rattle.fast_value.specs.declared.kind.Operator.TheVariants as operator
 use Rattle.fast_value.specs.declared.kind.Part.{Part}
-use Rattle.fast_value.specs.declared.kind.Part.TheVariants as part
 use Rattle.fast_value.specs.declared.scalar.Scalar.{Scalar}
 use Rattle.fast_value.specs.declared.scalar.Scalar.TheVariants.{I32}
 use Rattle.fast_value.specs.declared.key.Scope.TheVariants.{Global}
@@ -40,16 +37,16 @@ template_of id set = find (λ t. has_id id t.id) set.templates
 
 -- the types that an operator applies to
 abbrev pub applies : Operator → Kind → Bool
-applies operator.Increment k = is_integer k
-applies operator.Tail kind.Ascii = true
-applies operator.Tail kind.Unicode = true
-applies operator.Tail kind.Bytes = true
-applies operator.Tail k = false
+applies Operator.Increment k = is_integer k
+applies Operator.Tail Kind.Ascii = true
+applies Operator.Tail Kind.Unicode = true
+applies Operator.Tail Kind.Bytes = true
+applies Operator.Tail k = false
 applies o k = true
 
 -- what an initial value may be in a part: an exponent's lies in -63..63
 abbrev pub is_in_part : Part → Scalar → Bool
-is_in_part part.Exponent (I32 z) = exponent_in_range z
+is_in_part Part.Exponent (I32 z) = exponent_in_range z
 is_in_part p v = true
 
 abbrev pub IsInitial : FieldPart → Scalar → Type 0
@@ -59,8 +56,8 @@ IsInitial p v = IsTrue (is_of p.kind v) × IsTrue (is_in_part p.part v) × IsSca
 pub record IsTyped (p : FieldPart) : Type 0 where
   pub operator_applies : IsTrue (applies p.operator p.kind)
   pub initial_fits : IfSome p.initial (IsInitial p)
-  pub constant_has_value : p.operator ≡ operator.Constant → IsSome p.initial
-  pub default_has_value : p.operator ≡ operator.Default → p.presence ≡ Mandatory → IsSome p.initial
+  pub constant_has_value : p.operator ≡ Operator.Constant → IsSome p.initial
+  pub default_has_value : p.operator ≡ Operator.Default → p.presence ≡ Mandatory → IsSome p.initial
 
 -- such a part of an instruction
 pub record IsPartOf (part : Part) (kind : Kind) (presence : Presence) (p : FieldPart) : Type 0 where
@@ -72,10 +69,10 @@ pub record IsPartOf (part : Part) (kind : Kind) (presence : Presence) (p : Field
 -- The parts of each instruction are what they are to be: an exponent is an int32, a mantissa a mandatory int64, a length a uInt32.
 abbrev mutual
   pub HasTypedParts : Instruction → Type 0
-  HasTypedParts (whole_field name number presence whole) = IsPartOf part.Whole whole.kind presence whole
-  HasTypedParts (field_in_parts name number presence exponent mantissa) = IsPartOf part.Exponent kind.Int32 presence exponent × IsPartOf part.Mantissa kind.Int64 Mandatory mantissa
+  HasTypedParts (whole_field name number presence whole) = IsPartOf Part.Whole whole.kind presence whole
+  HasTypedParts (field_in_parts name number presence exponent mantissa) = IsPartOf Part.Exponent Kind.Int32 presence exponent × IsPartOf Part.Mantissa Kind.Int64 Mandatory mantissa
   HasTypedParts (group_of name number presence members) = HaveTypedParts members
-  HasTypedParts (sequence_of name number presence length members) = IsPartOf part.Length kind.UInt32 presence length × HaveTypedParts members
+  HasTypedParts (sequence_of name number presence length members) = IsPartOf Part.Length Kind.UInt32 presence length × HaveTypedParts members
 
   pub HaveTypedParts : Instructions → Type 0
   HaveTypedParts no_instructions = Unit {0}
@@ -89,7 +86,7 @@ IsNumbered members = numbered 1 members ≡ members
 
 -- the key of the template identifier
 abbrev pub identifier_key : Key
-identifier_key = record { slot = 0; scope = Global; name = []; part = part.Whole }
+identifier_key = record { slot = 0; scope = Global; name = []; part = Part.Whole }
 
 abbrev pub keys_of_all : List Resolved → List Key
 keys_of_all [] = []

@@ -1,3 +1,4 @@
+mod Common
 pub mod SameLines
 mod Telling
 pub mod ToldFields

@@ -1,13 +1,5 @@
 -- Lines told of a resolved set are the lines of the set.
-use Rattle.std.proofs.Common.{◌≡◌, ℕ, Bool, true, false, List, [], ◌∷◌, Option, Some, None, option_map, refl, sym, ap, ap₂, ◌∙◌}
-use Rattle.std.specs.Prelude.{find, map, if◌then◌else◌}
-use Rattle.fast_template.specs.declared.resolved.FlatTemplate.{FlatTemplate}
-use Rattle.fast_template.specs.Resolved.{Resolved, resolved_of}
-use Rattle.fast_template.specs.TemplateSets.{TemplateList, has_id, template_of, templates_in}
-use Rattle.fast_stream.specs.Nodes.{Content}
-use Rattle.fast_lines.specs.declared.form.Form.{Form}
-use Rattle.fast_lines.specs.Lines.{joined, line_if, line_in, lines_in}
-use Rattle.fast_told.specs.Told.{line_as, line_of_set, lines_of_set, name_if}
+use Rattle.fast_told.proofs.Common.{◌≡◌, ℕ, Bool, true, false, List, [], ◌∷◌, Option, Some, None, option_map, refl, sym, ap, ap₂, ◌∙◌, find, map, if◌then◌else◌, FlatTemplate, Resolved, resolved_of, TemplateList, has_id, template_of, templates_in, Content, Form, joined, line_if, line_in, lines_in, line_as, line_of_set, lines_of_set, name_if}
 
 found_if : (b : Bool) (t : FlatTemplate) (o : Option FlatTemplate) (p : Option Resolved) → p ≡ option_map resolved_of o
     → (if b then Some (resolved_of t) else p) ≡ option_map resolved_of (if b then Some t else o)

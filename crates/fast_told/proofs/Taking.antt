@@ -1,21 +1,5 @@
 -- Fields that are taken one after the other.
-use Rattle.std.proofs.Common.{◌≡◌, ◌-◌, ◌+◌, ℕ, Bool, List, Option, drop, refl, sym, ◌∙◌, arith}
-use Rattle.fast_value.specs.declared.kind.Presence.{Presence}
-use Rattle.fast_value.specs.declared.scalar.Scalar.{Scalar}
-use Rattle.fast_template.specs.declared.resolved.FieldPart.{FieldPart}
-use Rattle.fast_template.specs.Resolved.{Instructions, whole_field, then_instruction, list_of, part_needs_bit}
-use Rattle.fast_dictionary.specs.Dictionary.{Dictionary}
-use Rattle.fast_wire.specs.declared.level.Level.{Level}
-use Rattle.fast_stream.specs.Bits.{bit_for, after_bit}
-use Rattle.fast_stream.specs.Nodes.{single}
-use Rattle.fast_walk.specs.declared.receiver.Fields.{Fields}
-use Rattle.fast_walk.specs.Received.{Received, Took}
-use Rattle.fast_walk.proofs.Passings.{passes_field, passes_on, passes_one}
-use Rattle.fast_walk.proofs.Walking.{is_instruction}
-use Rattle.fast_lines.specs.declared.form.Form.{Form}
-use Rattle.fast_lines.specs.Lines.{field_text}
-use Rattle.fast_told.specs.Taking.{TakesFields, TellsFields}
-use Rattle.fast_told.specs.Told.{HasTold, Said, line_now}
+use Rattle.fast_told.proofs.Common.{◌≡◌, ◌-◌, ◌+◌, ℕ, Bool, List, Option, drop, refl, sym, ◌∙◌, arith, Presence, Scalar, FieldPart, Instructions, whole_field, then_instruction, list_of, part_needs_bit, Dictionary, Level, bit_for, after_bit, single, Fields, Received, Took, passes_field, passes_on, passes_one, is_instruction, Form, field_text, TakesFields, TellsFields, HasTold, Said, line_now}
 use Rattle.fast_told.specs.declared.line.Line.{Line as LineNow}
 use Rattle.fast_told.proofs.Writing.{has_said}
 

@@ -1,15 +1,5 @@
 -- What is told stays so, piece by piece.
-use Rattle.std.proofs.Common.{◌≡◌, ℕ, Bool, true, false, List, [], ◌∷◌, ◌++◌, Option, Some, None, option_map, refl, sym, ap, subst, ◌∙◌, append_assoc, append-nil}
-use Rattle.std.specs.Prelude.{codes}
-use Rattle.fast_value.specs.declared.kind.Presence.{Presence}
-use Rattle.fast_template.specs.Resolved.{Instruction, Instructions, group_of, no_instructions, then_instruction}
-use Rattle.fast_stream.specs.Nodes.{Item, group_items, sequence_elements, no_items, then_item, items_of, then_element}
-use Rattle.fast_walk.specs.OpenSegments.{items_before, Body, Sequel, in_group, in_sequence, Waiting, fewer}
-use Rattle.fast_walk.proofs.Steps.{items_before-more, items_before-end, elements_before-more}
-use Rattle.fast_lines.specs.declared.form.Form.{Form}
-use Rattle.fast_lines.specs.Signs.{between, label_text, lead}
-use Rattle.fast_lines.specs.Lines.{braced, bracketed, elements_text, joined, label, labelled, members_text, node_text}
-use Rattle.fast_told.specs.Told.{Line, behind_text, Opening, whole_text, Tells, TellsElements, IsBehind, behind_brace, Waits, Within}
+use Rattle.fast_told.proofs.Common.{◌≡◌, ℕ, Bool, true, false, List, [], ◌∷◌, ◌++◌, Option, Some, None, option_map, refl, sym, ap, subst, ◌∙◌, append_assoc, append-nil, codes, Presence, Instruction, Instructions, group_of, no_instructions, then_instruction, Item, group_items, sequence_elements, no_items, then_item, items_of, then_element, items_before, Body, Sequel, in_group, in_sequence, Waiting, fewer, items_before-more, items_before-end, elements_before-more, Form, between, label_text, lead, braced, bracketed, elements_text, joined, label, labelled, members_text, node_text, Line, behind_text, Opening, whole_text, Tells, TellsElements, IsBehind, behind_brace, Waits, Within}
 
 -- ---- texts
 

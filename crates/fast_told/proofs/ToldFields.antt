@@ -1,28 +1,6 @@
 -- What was read of a field of a set is told: a value of its type, or that it is left out where it may be.
-use Rattle.std.proofs.Common.{◌≡◌, ◌<◌, ◌≤◌, ℕ, Bool, List, Option, Some, None, Ok, refl, length, drop, get_or, arith, Fits, w8}
-use Rattle.fast_wire.specs.declared.level.Level.{Level}
-use Rattle.fast_value.specs.declared.kind.Presence.{Presence}
-use Rattle.fast_value.specs.declared.kind.Presence.TheVariants.{Mandatory, Optional}
-use Rattle.fast_value.specs.declared.scalar.Scalar.{Scalar}
-use Rattle.fast_template.specs.declared.resolved.FieldPart.{FieldPart}
-use Rattle.fast_dictionary.specs.declared.entry.Entry.{Entry}
-use Rattle.fast_field.specs.Parts.{IsBitOf, IsKindOfPart}
-use Rattle.fast_field.specs.Within.{IsOfField}
-use Rattle.fast_field.proofs.FieldsWithin.{values_within}
-use Rattle.fast_field.proofs.Refused.{characters_there}
-use Rattle.fast_field.proofs.ReadFields.{bytes_from}
-use Rattle.fast_stream.specs.Nodes.{single}
-use Rattle.fast_walk.specs.Received.{TookFrom, Took}
-use Rattle.fast_walk.proofs.Telling.{form_taken, told_there}
-use Rattle.fast_lines.specs.declared.form.Form.{Form}
-use Rattle.fast_lines.specs.Lines.{field_text, said_text, absent_text}
-use Rattle.fast_told.specs.Taking.{CanTake, TellsNext}
-use Rattle.fast_told.specs.Told.{Says, Line, Said}
+use Rattle.fast_told.proofs.Common.{◌≡◌, ◌<◌, ◌≤◌, ℕ, Bool, List, Option, Some, None, Ok, refl, length, drop, get_or, arith, Fits, w8, Level, Presence, Mandatory, Optional, Scalar, FieldPart, Entry, IsBitOf, IsKindOfPart, IsOfField, values_within, characters_there, bytes_from, single, TookFrom, Took, form_taken, told_there, Form, field_text, said_text, absent_text, CanTake, TellsNext, Says, Line, Said, Dictionary, IsTold, Kind, Part}
 use Rattle.fast_told.specs.declared.line.Line.{Line as LineNow}
-use Rattle.fast_dictionary.specs.Dictionary.{Dictionary}
-use Rattle.fast_walk.specs.Told.{IsTold}
-use Rattle.fast_value.specs.declared.kind.Kind.{Kind}
-use Rattle.fast_value.specs.declared.kind.Part.{Part}
 
 told : (form : Form) (p : FieldPart) (v : Option Scalar) → IsOfField p v → field_text form p.kind p.presence (single v) ≡ Some (said_text form v)
 told form p None of_field = rw (of_field) refl

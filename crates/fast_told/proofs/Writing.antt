@@ -1,22 +1,7 @@
 -- What has been received of a message is told, call by call.
-use Rattle.std.proofs.Common.{◌≡◌, ℕ, Bool, true, false, List, [], ◌∷◌, ◌++◌, Option, Some, None, option_map, refl, sym, ap, ap₂, subst, ◌∙◌, append_assoc, append-nil}
-use Rattle.std.specs.Prelude.{ℤ, codes, find}
-use Rattle.fast_value.specs.declared.scalar.Scalar.TheVariants.{I32, Decimal}
-use Rattle.fast_value.specs.declared.kind.Presence.{Presence}
-use Rattle.fast_value.specs.declared.kind.Presence.TheVariants.{Optional}
-use Rattle.fast_template.specs.declared.resolved.FieldPart.{FieldPart}
-use Rattle.fast_template.specs.Resolved.{Instructions, Resolved, field_in_parts, group_of, sequence_of, no_instructions, then_instruction, is_optional, Instruction}
-use Rattle.fast_template.specs.TemplateSets.{has_id}
-use Rattle.fast_stream.specs.Nodes.{single, Items, items_of, Content, Item, elements_of, no_elements, sequence_elements, then_item}
-use Rattle.fast_stream.specs.Streams.{members_of}
-use Rattle.fast_walk.specs.OpenSegments.{fewer, Sequel, Inside, in_group, in_sequence, Waiting, Next, at_instruction, at_mantissa, at_element, Body, items_before, with_item}
-use Rattle.fast_walk.specs.Received.{Received, passed, entered, after_exponent, after_length, in_element, after_sequence, ended_in, content_received, bytes_in, moved}
-use Rattle.fast_lines.specs.declared.form.Form.{Form}
-use Rattle.fast_lines.specs.Signs.{ending, head_text, is_led, label_text, lead, between}
-use Rattle.fast_lines.specs.Lines.{absent_text, decimal_text, joined, members_text, elements_text, label, node_text}
+use Rattle.fast_told.proofs.Common.{◌≡◌, ℕ, Bool, true, false, List, [], ◌∷◌, ◌++◌, Option, Some, None, option_map, refl, sym, ap, ap₂, subst, ◌∙◌, append_assoc, append-nil, ℤ, codes, find, I32, Decimal, Presence, Optional, FieldPart, Instructions, Resolved, field_in_parts, group_of, sequence_of, no_instructions, then_instruction, is_optional, Instruction, has_id, single, Items, items_of, Content, Item, elements_of, no_elements, sequence_elements, then_item, members_of, fewer, Sequel, Inside, in_group, in_sequence, Waiting, Next, at_instruction, at_mantissa, at_element, Body, items_before, with_item, Received, passed, entered, after_exponent, after_length, in_element, after_sequence, ended_in, content_received, bytes_in, moved, Form, ending, head_text, is_led, label_text, lead, between, absent_text, decimal_text, joined, members_text, elements_text, label, node_text, elements_before-end, items_before-more}
 use Rattle.fast_told.specs.Told.{Waits, IsTold, line_as, line_of_set, lines_of_set, Line, Opening, Tells, IsTop, IsBehind, Within, IsOpened, head_in, message_opening, name_if, Puts, Said, behind_text, whole_text}
 use Rattle.fast_told.proofs.Telling.{body_is, bracket_behind, item_told, joined_behind, within_on, within_push, Inner, begun, element_waits, ended, group_waits, new_segment, segment_left}
-use Rattle.fast_walk.proofs.Steps.{elements_before-end, items_before-more}
 
 abbrev message_of : Form → Received → Opening
 message_of form o = message_opening form o.set o.template o.members

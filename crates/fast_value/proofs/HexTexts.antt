@@ -1,17 +1,5 @@
 -- Hexadecimal texts, as the library reads them.
-use Rattle.std.proofs.Common.{◌≡◌, ◌≤◌, ◌+◌, ◌-◌, ◌*◌, ◌%◌, ◌==◌, ◌&&◌, ◌||◌, suc, ℕ, List, [], ◌∷◌, length, nat_le, if◌then◌else◌, Option, Some, None, Result, Ok, Err, Bool, true, false, refl, sym, ap, ◌∙◌, arith, true≢false, ◌<◌}
-use Rattle.std.specs.Prelude.{is_some, option_map, option_and_then}
-use Rattle.std.specs.Char.{is_ascii_hexdigit}
-use Rattle.std.specs.List.{list_all}
-use Rattle.std.specs.Option.{option_map_or}
-use Rattle.std.specs.Cmp.{unsigned_Decides}
-use Rattle.std.proofs.Math.Nat.{mul-add-mod_self_left}
-use Rattle.std.proofs.lemmas.Bool.{leb-true, le-leb}
-use Rattle.hex.specs.Hex.{hex_digit_value, digit_or_error, decode_pairs, decode_of, ◌>>=◌}
-use Rattle.hex.specs.declared.error.FromHexError.{FromHexError}
-use Rattle.fast_value.specs.InitialValues.{is_digit, hex_digit_of, hex_bytes_of, is_short, where_so}
-use Rattle.fast_value.specs.declared.scalar.Scalar.{Scalar}
-use Rattle.fast_value.specs.declared.scalar.Scalar.TheVariants.{Bytes}
+use Rattle.fast_value.proofs.Common.{◌≡◌, ◌≤◌, ◌+◌, ◌-◌, ◌*◌, ◌%◌, ◌==◌, ◌&&◌, ◌||◌, suc, ℕ, List, [], ◌∷◌, length, nat_le, if◌then◌else◌, Option, Some, None, Result, Ok, Err, Bool, true, false, refl, sym, ap, ◌∙◌, arith, true≢false, ◌<◌, is_some, option_map, option_and_then, is_ascii_hexdigit, list_all, option_map_or, unsigned_Decides, mul-add-mod_self_left, leb-true, le-leb, hex_digit_value, digit_or_error, decode_pairs, decode_of, ◌>>=◌, FromHexError, is_digit, hex_digit_of, hex_bytes_of, is_short, where_so, Scalar, Bytes}
 
 abbrev pub good : {A : Type 0} → Result A FromHexError → Option A
 good (Ok x) = Some x

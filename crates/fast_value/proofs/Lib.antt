@@ -1,3 +1,4 @@
+mod Common
 pub mod HexTexts
 pub mod NumberLaws
 pub mod ScalarRows

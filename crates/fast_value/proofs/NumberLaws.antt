@@ -1,15 +1,5 @@
 -- Numbers of texts as a program has them.
-use Rattle.std.proofs.Common.{◌≡◌, ◌<◌, ◌≤◌, ◌+◌, ◌-◌, ◌*◌, ◌^◌, ◌&&◌, suc, ℕ, ℤ, List, [], ◌∷◌, fold, min, nat_lt, nat_le, Option, Some, None, Bool, true, false, pos, negsuc, refl, sym, ap, ◌∙◌, arith, lit<, true≢false}
-use Rattle.std.specs.Prelude.{nat_abs, option_and_then}
-use Rattle.std.proofs.lemmas.Bool.{leb-true, le-leb, lt-ltb}
-use Rattle.fast_value.specs.declared.kind.Kind.{Kind}
-use Rattle.fast_value.specs.declared.kind.Kind.TheVariants as kind
-use Rattle.fast_value.specs.declared.kind.Part.{Part}
-use Rattle.fast_value.specs.declared.kind.Part.TheVariants as part
-use Rattle.fast_value.specs.declared.scalar.Scalar.TheVariants.{Decimal}
-use Rattle.fast_value.specs.Scalar.{in_range, exponent_in_range, of_integer}
-use Rattle.fast_value.specs.InitialValues.{where_so, in_range_of, integer_of, integer_value, decimal_value}
-use Rattle.fast_value.specs.Numbers.{small_integer}
+use Rattle.fast_value.proofs.Common.{◌≡◌, ◌<◌, ◌≤◌, ◌+◌, ◌-◌, ◌*◌, ◌^◌, ◌&&◌, suc, ℕ, ℤ, List, [], ◌∷◌, fold, min, nat_lt, nat_le, Option, Some, None, Bool, true, false, pos, negsuc, refl, sym, ap, ◌∙◌, arith, lit<, true≢false, nat_abs, option_and_then, leb-true, le-leb, lt-ltb, Kind, Part, Decimal, in_range, exponent_in_range, of_integer, where_so, in_range_of, integer_of, integer_value, decimal_value, small_integer}
 
 abbrev step : ℕ → ℕ → ℕ
 step n d = 10 * n + (d - 48)
@@ -52,32 +42,32 @@ below_two_64 : (g n : ℕ) → g < 2 ^ 64 → nat_le n g ≡ true → nat_lt n (
 below_two_64 g n less le = let under : n ≤ g = leb-true n g le in lt-ltb n (2 ^ 64) (omega (arith, less, under))
 
 in_kind : (k : Kind) (z : ℤ) → in_range k z ≡ true → nat_lt (nat_abs z) (2 ^ 64) ≡ true
-in_kind kind.UInt32 (pos n) e = below_two_64 4294967295 n (lit< tt) (second_of _ _ e)
-in_kind kind.UInt32 (negsuc n) e = absurd (true≢false (sym e))
-in_kind kind.UInt64 (pos n) e = below_two_64 18446744073709551615 n (lit< tt) (second_of _ _ e)
-in_kind kind.UInt64 (negsuc n) e = absurd (true≢false (sym e))
-in_kind kind.Int32 (pos n) e = below_two_64 2147483647 n (lit< tt) e
-in_kind kind.Int32 (negsuc n) e = let under : n ≤ 2147483647 = leb-true n 2147483647 (first_of _ _ e) in lt-ltb (suc n) (2 ^ 64) (omega (arith, under))
-in_kind kind.Int64 (pos n) e = below_two_64 9223372036854775807 n (lit< tt) e
-in_kind kind.Int64 (negsuc n) e = let under : n ≤ 9223372036854775807 = leb-true n 9223372036854775807 (first_of _ _ e) in lt-ltb (suc n) (2 ^ 64) (omega (arith, under))
-in_kind kind.Decimal (pos n) e = below_two_64 0 n (lit< tt) (second_of _ _ e)
-in_kind kind.Decimal (negsuc n) e = absurd (true≢false (sym e))
-in_kind kind.Ascii (pos n) e = below_two_64 0 n (lit< tt) (second_of _ _ e)
-in_kind kind.Ascii (negsuc n) e = absurd (true≢false (sym e))
-in_kind kind.Unicode (pos n) e = below_two_64 0 n (lit< tt) (second_of _ _ e)
-in_kind kind.Unicode (negsuc n) e = absurd (true≢false (sym e))
-in_kind kind.Bytes (pos n) e = below_two_64 0 n (lit< tt) (second_of _ _ e)
-in_kind kind.Bytes (negsuc n) e = absurd (true≢false (sym e))
+in_kind Kind.UInt32 (pos n) e = below_two_64 4294967295 n (lit< tt) (second_of _ _ e)
+in_kind Kind.UInt32 (negsuc n) e = absurd (true≢false (sym e))
+in_kind Kind.UInt64 (pos n) e = below_two_64 18446744073709551615 n (lit< tt) (second_of _ _ e)
+in_kind Kind.UInt64 (negsuc n) e = absurd (true≢false (sym e))
+in_kind Kind.Int32 (pos n) e = below_two_64 2147483647 n (lit< tt) e
+in_kind Kind.Int32 (negsuc n) e = let under : n ≤ 2147483647 = leb-true n 2147483647 (first_of _ _ e) in lt-ltb (suc n) (2 ^ 64) (omega (arith, under))
+in_kind Kind.Int64 (pos n) e = below_two_64 9223372036854775807 n (lit< tt) e
+in_kind Kind.Int64 (negsuc n) e = let under : n ≤ 9223372036854775807 = leb-true n 9223372036854775807 (first_of _ _ e) in lt-ltb (suc n) (2 ^ 64) (omega (arith, under))
+in_kind Kind.Decimal (pos n) e = below_two_64 0 n (lit< tt) (second_of _ _ e)
+in_kind Kind.Decimal (negsuc n) e = absurd (true≢false (sym e))
+in_kind Kind.Ascii (pos n) e = below_two_64 0 n (lit< tt) (second_of _ _ e)
+in_kind Kind.Ascii (negsuc n) e = absurd (true≢false (sym e))
+in_kind Kind.Unicode (pos n) e = below_two_64 0 n (lit< tt) (second_of _ _ e)
+in_kind Kind.Unicode (negsuc n) e = absurd (true≢false (sym e))
+in_kind Kind.Bytes (pos n) e = below_two_64 0 n (lit< tt) (second_of _ _ e)
+in_kind Kind.Bytes (negsuc n) e = absurd (true≢false (sym e))
 
 in_exponents : (z : ℤ) → exponent_in_range z ≡ true → nat_lt (nat_abs z) (2 ^ 64) ≡ true
 in_exponents (pos n) e = below_two_64 63 n (lit< tt) e
 in_exponents (negsuc n) e = let under : n ≤ 62 = leb-true n 62 (first_of _ _ e) in lt-ltb (suc n) (2 ^ 64) (omega (arith, under))
 
 in_part : (p : Part) (k : Kind) (z : ℤ) → in_range_of p k z ≡ true → nat_lt (nat_abs z) (2 ^ 64) ≡ true
-in_part part.Exponent k z e = in_exponents z e
-in_part part.Whole k z e = in_kind k z e
-in_part part.Mantissa k z e = in_kind k z e
-in_part part.Length k z e = in_kind k z e
+in_part Part.Exponent k z e = in_exponents z e
+in_part Part.Whole k z e = in_kind k z e
+in_part Part.Mantissa k z e = in_kind k z e
+in_part Part.Length k z e = in_kind k z e
 
 outside : (b c : Bool) {A : Type 0} (z : ℤ) (x : A) → (c ≡ true → b ≡ true) → None ≡ where_so b z → where_so c x ≡ None
 outside true c z x within e = absurd (cc e)
@@ -96,24 +86,24 @@ pub integer_value_none : (p : Part) (k : Kind) (text : List ℕ) → None ≡ sm
 integer_value_none p k text e = small_none p k (integer_of text) e
 
 -- an exponent's range lies within that of its type
-pub in_type : (p : Part) (k : Kind) (z : ℤ) → (p ≡ part.Exponent → k ≡ kind.Int32) → in_range_of p k z ≡ true → in_range k z ≡ true
-in_type part.Exponent k (pos n) of e = ap (λ j. in_range j (pos n)) (of refl) ∙ (let under : n ≤ 63 = leb-true n 63 e in le-leb n 2147483647 (omega (arith, under)))
-in_type part.Exponent k (negsuc n) of e = ap (λ j. in_range j (negsuc n)) (of refl) ∙ (let under : n ≤ 62 = leb-true n 62 (first_of _ _ e) in ap (λ b. b && true) (le-leb n 2147483647 (omega (arith, under))))
-in_type part.Whole k z of e = e
-in_type part.Mantissa k z of e = e
-in_type part.Length k z of e = e
+pub in_type : (p : Part) (k : Kind) (z : ℤ) → (p ≡ Part.Exponent → k ≡ Kind.Int32) → in_range_of p k z ≡ true → in_range k z ≡ true
+in_type Part.Exponent k (pos n) of e = ap (λ j. in_range j (pos n)) (of refl) ∙ (let under : n ≤ 63 = leb-true n 63 e in le-leb n 2147483647 (omega (arith, under)))
+in_type Part.Exponent k (negsuc n) of e = ap (λ j. in_range j (negsuc n)) (of refl) ∙ (let under : n ≤ 62 = leb-true n 62 (first_of _ _ e) in ap (λ b. b && true) (le-leb n 2147483647 (omega (arith, under))))
+in_type Part.Whole k z of e = e
+in_type Part.Mantissa k z of e = e
+in_type Part.Length k z of e = e
 
 -- ---- decimals
 
 pub decimal_none_mantissa : (o q : Option ℤ) → None ≡ option_and_then small o → decimal_value o q ≡ None
 decimal_none_mantissa None q e = refl
 decimal_none_mantissa (Some y) None e = refl
-decimal_none_mantissa (Some y) (Some x) e = outside (nat_lt (nat_abs y) (2 ^ 64)) (in_range kind.Int64 y && exponent_in_range x) y (Decimal x y) (λ both. in_kind kind.Int64 y (first_of _ (exponent_in_range x) both)) e
+decimal_none_mantissa (Some y) (Some x) e = outside (nat_lt (nat_abs y) (2 ^ 64)) (in_range Kind.Int64 y && exponent_in_range x) y (Decimal x y) (λ both. in_kind Kind.Int64 y (first_of _ (exponent_in_range x) both)) e
 
 pub decimal_none_exponent : (o q : Option ℤ) → None ≡ option_and_then small q → decimal_value o q ≡ None
 decimal_none_exponent None q e = refl
 decimal_none_exponent (Some y) None e = refl
-decimal_none_exponent (Some y) (Some x) e = outside (nat_lt (nat_abs x) (2 ^ 64)) (in_range kind.Int64 y && exponent_in_range x) x (Decimal x y) (λ both. in_exponents x (second_of (in_range kind.Int64 y) (exponent_in_range x) both)) e
+decimal_none_exponent (Some y) (Some x) e = outside (nat_lt (nat_abs x) (2 ^ 64)) (in_range Kind.Int64 y && exponent_in_range x) x (Decimal x y) (λ both. in_exponents x (second_of (in_range Kind.Int64 y) (exponent_in_range x) both)) e
 
-pub decimal_some : (o q : Option ℤ) (m x : ℤ) → Some m ≡ option_and_then small o → Some x ≡ option_and_then small q → decimal_value o q ≡ where_so (in_range kind.Int64 m && exponent_in_range x) (Decimal x m)
+pub decimal_some : (o q : Option ℤ) (m x : ℤ) → Some m ≡ option_and_then small o → Some x ≡ option_and_then small q → decimal_value o q ≡ where_so (in_range Kind.Int64 m && exponent_in_range x) (Decimal x m)
 decimal_some o q m x e f = λ i. decimal_value (small_some o m e i) (small_some q x f i)

@@ -1,26 +1,10 @@
 -- Values, texts of initial values and keys at their limits.
-use Rattle.std.proofs.Common.{◌≡◌, ◌<◌, ◌≤◌, ℕ, ℤ, List, [], ◌∷◌, length, map, nat_le, Option, Some, None, true, false, IsUtf8, pos, negsuc, refl}
-use Rattle.std.specs.Prelude.{codes}
-use Rattle.std.specs.List.{AllByRecursion}
-use Rattle.std.specs.declared.cmp.Ordering.{Ordering}
-use Rattle.std.specs.declared.cmp.Ordering.TheVariants.{Less, Equal}
-use Rattle.fast_value.specs.declared.kind.Kind.{Kind}
-use Rattle.fast_value.specs.declared.kind.Kind.TheVariants as kind
-use Rattle.fast_value.specs.declared.kind.Part.{Part}
-use Rattle.fast_value.specs.declared.kind.Part.TheVariants.{Whole, Exponent, Mantissa, Length}
-use Rattle.fast_value.specs.declared.scalar.Scalar.{Scalar}
-use Rattle.fast_value.specs.declared.scalar.Scalar.TheVariants.{U32, I32, U64, I64, Decimal, Ascii, Unicode, Bytes}
-use Rattle.fast_value.specs.declared.key.Scope.{Scope}
-use Rattle.fast_value.specs.declared.key.Scope.TheVariants.{Global, Template, Typed, User}
-use Rattle.fast_value.specs.declared.key.Key.{Key}
-use Rattle.fast_value.specs.Scalar.{kind_of, is_of, is_integer, least_of, greatest_of, in_range, exponent_in_range, of_integer, IsScalar}
-use Rattle.fast_value.specs.InitialValues.{is_digit, hex_digit_of, is_short, value_of_text}
-use Rattle.fast_value.specs.Key.{part_number, scope_numbers, key_cmp}
+use Rattle.fast_value.proofs.Common.{◌≡◌, ◌<◌, ◌≤◌, ℕ, ℤ, List, [], ◌∷◌, length, map, nat_le, Option, Some, None, true, false, IsUtf8, pos, negsuc, refl, codes, AllByRecursion, Ordering, Less, Equal, Kind, Part, Whole, Exponent, Mantissa, Length, Scalar, U32, I32, U64, I64, Decimal, Ascii, Unicode, Bytes, Scope, Global, Template, Typed, User, Key, kind_of, is_of, is_integer, least_of, greatest_of, in_range, exponent_in_range, of_integer, IsScalar, is_digit, hex_digit_of, is_short, value_of_text, part_number, scope_numbers, key_cmp}
 
 -- ---- types
 
 abbrev kinds : List Kind
-kinds = kind.UInt32 ∷ kind.Int32 ∷ kind.UInt64 ∷ kind.Int64 ∷ kind.Decimal ∷ kind.Ascii ∷ kind.Unicode ∷ kind.Bytes ∷ []
+kinds = Kind.UInt32 ∷ Kind.Int32 ∷ Kind.UInt64 ∷ Kind.Int64 ∷ Kind.Decimal ∷ Kind.Ascii ∷ Kind.Unicode ∷ Kind.Bytes ∷ []
 
 -- A value is of its own type and of no other.
 own_type : (v : Scalar) → is_of (kind_of v) v ≡ true
@@ -70,10 +54,10 @@ of_integers_are : map (λ k. of_integer k (pos 7)) kinds ≡ U32 7 ∷ I32 (pos 
 of_integers_are = refl
 
 -- the limits of a range are in it, and what is one further is not
-int32_range : map (in_range kind.Int32) (negsuc 2147483648 ∷ negsuc 2147483647 ∷ pos 2147483647 ∷ pos 2147483648 ∷ []) ≡ false ∷ true ∷ true ∷ false ∷ []
+int32_range : map (in_range Kind.Int32) (negsuc 2147483648 ∷ negsuc 2147483647 ∷ pos 2147483647 ∷ pos 2147483648 ∷ []) ≡ false ∷ true ∷ true ∷ false ∷ []
 int32_range = refl
 
-uint32_range : map (in_range kind.UInt32) (negsuc 0 ∷ pos 0 ∷ pos 4294967295 ∷ pos 4294967296 ∷ []) ≡ false ∷ true ∷ true ∷ false ∷ []
+uint32_range : map (in_range Kind.UInt32) (negsuc 0 ∷ pos 0 ∷ pos 4294967295 ∷ pos 4294967296 ∷ []) ≡ false ∷ true ∷ true ∷ false ∷ []
 uint32_range = refl
 
 exponent_range : map exponent_in_range (negsuc 63 ∷ negsuc 62 ∷ pos 63 ∷ pos 64 ∷ []) ≡ false ∷ true ∷ true ∷ false ∷ []
@@ -86,13 +70,13 @@ u32_is n h = h
 u64_is : (n : ℕ) → n < 18446744073709551616 → IsScalar (U64 n)
 u64_is n h = h
 
-i32_is : (z : ℤ) → in_range kind.Int32 z ≡ true → IsScalar (I32 z)
+i32_is : (z : ℤ) → in_range Kind.Int32 z ≡ true → IsScalar (I32 z)
 i32_is z h = h
 
-i64_is : (z : ℤ) → in_range kind.Int64 z ≡ true → IsScalar (I64 z)
+i64_is : (z : ℤ) → in_range Kind.Int64 z ≡ true → IsScalar (I64 z)
 i64_is z h = h
 
-decimal_is : (e m : ℤ) → exponent_in_range e ≡ true → in_range kind.Int64 m ≡ true → IsScalar (Decimal e m)
+decimal_is : (e m : ℤ) → exponent_in_range e ≡ true → in_range Kind.Int64 m ≡ true → IsScalar (Decimal e m)
 decimal_is e m h i = (h, i)
 
 ascii_is : (s : List ℕ) → length s ≤ 65535 → AllByRecursion (λ c. c < 128) s → IsScalar (Ascii s)
@@ -119,31 +103,31 @@ short_is s = refl
 abbrev texts : Part → Kind → List (List ℕ) → List (Option Scalar)
 texts p k = map (value_of_text p k)
 
-int32_texts : texts Whole kind.Int32 (codes "-2147483649" ∷ codes "-2147483648" ∷ codes "2147483647" ∷ codes "2147483648" ∷ []) ≡ None ∷ Some (I32 (negsuc 2147483647)) ∷ Some (I32 (pos 2147483647)) ∷ None ∷ []
+int32_texts : texts Whole Kind.Int32 (codes "-2147483649" ∷ codes "-2147483648" ∷ codes "2147483647" ∷ codes "2147483648" ∷ []) ≡ None ∷ Some (I32 (negsuc 2147483647)) ∷ Some (I32 (pos 2147483647)) ∷ None ∷ []
 int32_texts = refl
 
-int64_texts : texts Whole kind.Int64 (codes "-9223372036854775809" ∷ codes "-9223372036854775808" ∷ codes "9223372036854775807" ∷ codes "9223372036854775808" ∷ [])
+int64_texts : texts Whole Kind.Int64 (codes "-9223372036854775809" ∷ codes "-9223372036854775808" ∷ codes "9223372036854775807" ∷ codes "9223372036854775808" ∷ [])
     ≡ None ∷ Some (I64 (negsuc 9223372036854775807)) ∷ Some (I64 (pos 9223372036854775807)) ∷ None ∷ []
 int64_texts = refl
 
-uint64_texts : texts Whole kind.UInt64 (codes "18446744073709551615" ∷ codes "18446744073709551616" ∷ []) ≡ Some (U64 18446744073709551615) ∷ None ∷ []
+uint64_texts : texts Whole Kind.UInt64 (codes "18446744073709551615" ∷ codes "18446744073709551616" ∷ []) ≡ Some (U64 18446744073709551615) ∷ None ∷ []
 uint64_texts = refl
 
-exponent_texts : texts Exponent kind.Int32 (codes "-64" ∷ codes "-63" ∷ []) ≡ None ∷ Some (I32 (negsuc 62)) ∷ []
+exponent_texts : texts Exponent Kind.Int32 (codes "-64" ∷ codes "-63" ∷ []) ≡ None ∷ Some (I32 (negsuc 62)) ∷ []
 exponent_texts = refl
 
 -- A mantissa is an int64, and only an exponent's range is narrower.
-mantissa_texts : texts Mantissa kind.Int64 (codes "64" ∷ codes "9223372036854775808" ∷ []) ≡ Some (I64 (pos 64)) ∷ None ∷ []
+mantissa_texts : texts Mantissa Kind.Int64 (codes "64" ∷ codes "9223372036854775808" ∷ []) ≡ Some (I64 (pos 64)) ∷ None ∷ []
 mantissa_texts = refl
 
-decimal_texts : texts Whole kind.Decimal (codes "9223372036854775807e63" ∷ codes "9223372036854775808e0" ∷ codes "1e-63" ∷ codes "1e-64" ∷ codes "e1" ∷ codes "1e" ∷ codes "1e1e1" ∷ [])
+decimal_texts : texts Whole Kind.Decimal (codes "9223372036854775807e63" ∷ codes "9223372036854775808e0" ∷ codes "1e-63" ∷ codes "1e-64" ∷ codes "e1" ∷ codes "1e" ∷ codes "1e1e1" ∷ [])
     ≡ Some (Decimal (pos 63) (pos 9223372036854775807)) ∷ None ∷ Some (Decimal (negsuc 62) (pos 1)) ∷ None ∷ None ∷ None ∷ None ∷ []
 decimal_texts = refl
 
-ascii_texts : texts Whole kind.Ascii ([] ∷ (127 ∷ []) ∷ (128 ∷ []) ∷ []) ≡ Some (Ascii []) ∷ Some (Ascii (127 ∷ [])) ∷ None ∷ []
+ascii_texts : texts Whole Kind.Ascii ([] ∷ (127 ∷ []) ∷ (128 ∷ []) ∷ []) ≡ Some (Ascii []) ∷ Some (Ascii (127 ∷ [])) ∷ None ∷ []
 ascii_texts = refl
 
-hex_texts : texts Whole kind.Bytes (codes "F0" ∷ codes "g0" ∷ codes "0g" ∷ codes "0a1" ∷ []) ≡ Some (Bytes (240 ∷ [])) ∷ None ∷ None ∷ None ∷ []
+hex_texts : texts Whole Kind.Bytes (codes "F0" ∷ codes "g0" ∷ codes "0g" ∷ codes "0a1" ∷ []) ≡ Some (Bytes (240 ∷ [])) ∷ None ∷ None ∷ None ∷ []
 hex_texts = refl
 
 -- ---- the order of keys

@@ -5,9 +5,7 @@ use Rattle.std.specs.List.{list_all, before_first, after_first}
 use Rattle.fast_value.specs.declared.scalar.Scalar.{Scalar}
 use Rattle.fast_value.specs.declared.scalar.Scalar.TheVariants.{Decimal, Ascii, Unicode, Bytes}
 use Rattle.fast_value.specs.declared.kind.Kind.{Kind}
-use Rattle.fast_value.specs.declared.kind.Kind.TheVariants as kind
 use Rattle.fast_value.specs.declared.kind.Part.{Part}
-use Rattle.fast_value.specs.declared.kind.Part.TheVariants as part
 use Rattle.fast_value.specs.Scalar.{in_range, exponent_in_range, of_integer}
 
 -- the value, where it passes a test
@@ -29,7 +27,7 @@ integer_of (c ∷ cs) = if c == 45 then option_map (λ n. neg_ℤ (pos n)) (digi
 
 -- the range of an integer, which for an exponent is that of exponents
 abbrev pub in_range_of : Part → Kind → ℤ → Bool
-in_range_of part.Exponent k z = exponent_in_range z
+in_range_of Part.Exponent k z = exponent_in_range z
 in_range_of p k z = in_range k z
 
 abbrev pub integer_value : Part → Kind → List ℕ → Option Scalar
@@ -37,7 +35,7 @@ integer_value p k text = option_and_then (λ z. where_so (in_range_of p k z) (of
 
 -- a decimal: mantissa and exponent, joined by 'e'
 abbrev pub decimal_value : Option ℤ → Option ℤ → Option Scalar
-decimal_value mantissa exponent = option_and_then (λ m. option_and_then (λ e. where_so (in_range kind.Int64 m && exponent_in_range e) (Decimal e m)) exponent) mantissa
+decimal_value mantissa exponent = option_and_then (λ m. option_and_then (λ e. where_so (in_range Kind.Int64 m && exponent_in_range e) (Decimal e m)) exponent) mantissa
 
 -- hexadecimal digits of either case
 abbrev pub hex_digit_of : ℕ → Option ℕ
@@ -59,11 +57,11 @@ is_short units = nat_le (length units) 65535
 
 -- the value that a text spells for a part and type, if it spells one
 abbrev pub value_of_text : Part → Kind → List ℕ → Option Scalar
-value_of_text p kind.Decimal text = decimal_value (integer_of (before_first (λ c. c == 101) text)) (integer_of (after_first (λ c. c == 101) text))
-value_of_text p kind.Ascii text = where_so (list_all (λ c. nat_lt c 128) text && is_short text) (Ascii text)
-value_of_text p kind.Unicode text = where_so (is_short text) (Unicode text)
-value_of_text p kind.Bytes text = option_and_then (λ bytes. where_so (is_short bytes) (Bytes bytes)) (hex_bytes_of text)
-value_of_text p kind.Int32 text = integer_value p kind.Int32 text
-value_of_text p kind.UInt32 text = integer_value p kind.UInt32 text
-value_of_text p kind.Int64 text = integer_value p kind.Int64 text
-value_of_text p kind.UInt64 text = integer_value p kind.UInt64 text
+value_of_text p Kind.Decimal text = decimal_value (integer_of (before_first (λ c. c == 101) text)) (integer_of (after_first (λ c. c == 101) text))
+value_of_text p Kind.Ascii text = where_so (list_all (λ c. nat_lt c 128) text && is_short text) (Ascii text)
+value_of_text p Kind.Unicode text = where_so (is_short text) (Unicode text)
+value_of_text p Kind.Bytes text = option_and_then (λ bytes. where_so (is_short bytes) (Bytes bytes)) (hex_bytes_of text)
+value_of_text p Kind.Int32 text = integer_value p Kind.Int32 text
+value_of_text p Kind.UInt32 text = integer_value p Kind.UInt32 text
+value_of_text p Kind.Int64 text = integer_value p Kind.Int64 text
+value_of_text p Kind.UInt64 text = integer_value p Kind.UInt64 text

@@ -11,56 +11,55 @@ use Rattle.fast_value.specs.declared.scalar.Scalar.TheVariants.{U32, I32, U64, I
 use Rattle.fast_value.specs.contracts.scalar.ScalarPartialEq.TheImpl as scalar_eq
 use Rattle.fast_value.specs.contracts.scalar.ScalarEq.TheImpl.Laws as scalar_eq_laws
 use Rattle.fast_value.specs.declared.kind.Kind.{Kind}
-use Rattle.fast_value.specs.declared.kind.Kind.TheVariants as kind
 
 -- the type of a value
 abbrev pub kind_of : Scalar → Kind
-kind_of (U32 n) = kind.UInt32
-kind_of (I32 z) = kind.Int32
-kind_of (U64 n) = kind.UInt64
-kind_of (I64 z) = kind.Int64
-kind_of (Decimal exponent mantissa) = kind.Decimal
-kind_of (Ascii s) = kind.Ascii
-kind_of (Unicode s) = kind.Unicode
-kind_of (Bytes s) = kind.Bytes
+kind_of (U32 n) = Kind.UInt32
+kind_of (I32 z) = Kind.Int32
+kind_of (U64 n) = Kind.UInt64
+kind_of (I64 z) = Kind.Int64
+kind_of (Decimal exponent mantissa) = Kind.Decimal
+kind_of (Ascii s) = Kind.Ascii
+kind_of (Unicode s) = Kind.Unicode
+kind_of (Bytes s) = Kind.Bytes
 
 -- the value is of the type
 abbrev pub is_of : Kind → Scalar → Bool
-is_of kind.UInt32 (U32 n) = true
-is_of kind.Int32 (I32 z) = true
-is_of kind.UInt64 (U64 n) = true
-is_of kind.Int64 (I64 z) = true
-is_of kind.Decimal (Decimal exponent mantissa) = true
-is_of kind.Ascii (Ascii s) = true
-is_of kind.Unicode (Unicode s) = true
-is_of kind.Bytes (Bytes s) = true
+is_of Kind.UInt32 (U32 n) = true
+is_of Kind.Int32 (I32 z) = true
+is_of Kind.UInt64 (U64 n) = true
+is_of Kind.Int64 (I64 z) = true
+is_of Kind.Decimal (Decimal exponent mantissa) = true
+is_of Kind.Ascii (Ascii s) = true
+is_of Kind.Unicode (Unicode s) = true
+is_of Kind.Bytes (Bytes s) = true
 is_of k v = false
 
 -- the types of values that are kept in memory of their own
 abbrev pub has_units : Kind → Bool
-has_units kind.Ascii = true
-has_units kind.Unicode = true
-has_units kind.Bytes = true
+has_units Kind.Ascii = true
+has_units Kind.Unicode = true
+has_units Kind.Bytes = true
 has_units k = false
 
 -- the types of integers, and their ranges
 abbrev pub is_integer : Kind → Bool
-is_integer kind.UInt32 = true
-is_integer kind.Int32 = true
-is_integer kind.UInt64 = true
-is_integer kind.Int64 = true
+is_integer Kind.UInt32 = true
+is_integer Kind.Int32 = true
+is_integer Kind.UInt64 = true
+is_integer Kind.Int64 = true
 is_integer k = false
 
 abbrev pub least_of : Kind → ℤ
-least_of kind.Int32 = negsuc (2 ^ 31 - 1)
-least_of kind.Int64 = negsuc (2 ^ 63 - 1)
+least_of Kind.Int32 = negsuc (2 ^ 31 - 1)
+least_of Kind.Int64 = negsuc (2 ^ 63 - 1)
 least_of k = pos 0
 
 abbrev pub greatest_of : Kind → ℤ
-greatest_of kind.UInt32 = pos (2 ^ 32 - 1)
-greatest_of kind.Int32 = pos (2 ^ 31 - 1)
-greatest_of kind.UInt64 = pos (2 ^ 64 - 1)
-greatest_of kind.Int64 = pos (2 ^ 63 - 1)
+greatest_of Kind.UInt32 = pos (2 ^ 32 - 1)
+greatest_of Kind.Int32 = pos (2 ^ 31 - 1)
+greatest_of Kind.UInt64 = pos (2 ^ 64 - 1)
+greatest_of Kind.Int64 = pos (2 ^ 63 - 1)
 greatest_of k = pos 0
 
 abbrev pub in_range : Kind → ℤ → Bool
@@ -72,18 +71,18 @@ exponent_in_range z = int_le (negsuc 62) z && int_le z (pos 63)
 
 -- the value of an integer type with this number
 abbrev pub of_integer : Kind → ℤ → Scalar
-of_integer kind.UInt32 z = U32 (nat_abs z)
-of_integer kind.UInt64 z = U64 (nat_abs z)
-of_integer kind.Int32 z = I32 z
+of_integer Kind.UInt32 z = U32 (nat_abs z)
+of_integer Kind.UInt64 z = U64 (nat_abs z)
+of_integer Kind.Int32 z = I32 z
 of_integer k z = I64 z
 
 -- a value within its type: its number in range, its units within theirs and at most 65,535
 abbrev pub IsScalar : Scalar → Type 0
 IsScalar (U32 n) = n < 2 ^ 32
-IsScalar (I32 z) = IsTrue (in_range kind.Int32 z)
+IsScalar (I32 z) = IsTrue (in_range Kind.Int32 z)
 IsScalar (U64 n) = n < 2 ^ 64
-IsScalar (I64 z) = IsTrue (in_range kind.Int64 z)
-IsScalar (Decimal exponent mantissa) = IsTrue (exponent_in_range exponent) × IsTrue (in_range kind.Int64 mantissa)
+IsScalar (I64 z) = IsTrue (in_range Kind.Int64 z)
+IsScalar (Decimal exponent mantissa) = IsTrue (exponent_in_range exponent) × IsTrue (in_range Kind.Int64 mantissa)
 IsScalar (Ascii s) = (length s ≤ 65535) × AllByRecursion (λ c. c < 128) s
 IsScalar (Unicode s) = (length s ≤ 65535) × AllByRecursion (λ c. c < 256) s × IsUtf8 s
 IsScalar (Bytes s) = (length s ≤ 65535) × AllByRecursion (λ c. c < 256) s

@@ -1,23 +1,5 @@
 -- How reading goes on from a message's map and identifier to its body.
-use Rattle.std.proofs.Common.{◌≡◌, ℕ, Bool, true, List, [], ◌++◌, length, Option, Some, Result, Ok, Err, refl, sym, ap, ◌∙◌}
-use Rattle.fast_value.specs.declared.scalar.Scalar.{Scalar}
-use Rattle.fast_value.specs.declared.scalar.Scalar.TheVariants.{U32}
-use Rattle.fast_template.specs.Resolved.{Instructions, Resolved, part_needs_bit}
-use Rattle.fast_dictionary.specs.Dictionary.{Dictionary}
-use Rattle.fast_wire.specs.Reading.{◌>>=◌}
-use Rattle.fast_wire.specs.Level.{IsLeftClear, some_set}
-use Rattle.fast_wire.specs.declared.level.Level.{Level}
-use Rattle.fast_wire.specs.declared.level.Level.TheVariants.{Strict}
-use Rattle.fast_field.specs.declared.fault.FieldFault.{FieldFault}
-use Rattle.fast_stream.specs.declared.fault.Cause.TheVariants.{R8}
-use Rattle.fast_stream.specs.Nodes.{Items, node_limit}
-use Rattle.fast_stream.specs.Bits.{bit_for, after_bit}
-use Rattle.fast_stream.specs.Streams.{members_of, identifier}
-use Rattle.fast_stream.specs.Faults.{Stop}
-use Rattle.fast_stream.specs.Reading.{Cursor, Reads, field_part_at, own_map_at, body_at, named_at, head_at, closing, message_at, in_template}
-use Rattle.fast_walk.specs.OpenSegments.{Reading, body_on, cursor, ended_on, message_of, named_on}
-use Rattle.fast_walk.specs.Received.{Took}
-use Rattle.fast_walk.specs.Traversals.{identifier_on}
+use Rattle.fast_walk.proofs.Common.{◌≡◌, ℕ, Bool, true, List, [], ◌++◌, length, Option, Some, Result, Ok, Err, refl, sym, ap, ◌∙◌, Scalar, U32, Instructions, Resolved, part_needs_bit, Dictionary, ◌>>=◌, IsLeftClear, some_set, Level, Strict, FieldFault, R8, Items, node_limit, bit_for, after_bit, members_of, identifier, Stop, Cursor, Reads, field_part_at, own_map_at, body_at, named_at, head_at, closing, message_at, in_template, Reading, body_on, cursor, ended_on, message_of, named_on, Took, identifier_on}
 use Rattle.fast_walk.proofs.Steps.{part_goes, closed_on, from_none, end_passes, clear_goes, set_stops}
 
 abbrev pub value_read : Option Scalar → List ℕ → Result (Option Scalar × List ℕ) FieldFault

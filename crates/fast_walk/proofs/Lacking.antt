@@ -1,51 +1,10 @@
 -- What is too short to be read stays so until what it lacks has come.
-use Rattle.std.proofs.Common.{◌≡◌, ℕ, zero, suc, ◌<◌, ◌≤◌, Bool, true, false, List, [], ◌∷◌, ◌++◌, length, Option, Some, None, Ok, Err, refl, sym, ap, subst, ◌∙◌, arith, length-append, inl, inr, ◌-◌, append-nil}
-use Rattle.std.specs.Prelude.{nat_le, IfSome, pos}
-use Rattle.fast_template.specs.Resolved.{Instruction, Resolved, Instructions, then_instruction, list_of, part_needs_bit, group_of, no_instructions}
-use Rattle.fast_dictionary.specs.Dictionary.{entry_at}
-use Rattle.fast_stream.specs.Bits.{bit_for}
-use Rattle.fast_stream.specs.Nodes.{Content, Items}
-use Rattle.fast_stream.specs.Faults.{Stop}
-use Rattle.fast_dictionary.specs.Dictionary.{Dictionary}
-use Rattle.fast_stream.specs.Reading.{Cursor, Reads, field_part_at, node_at, piece_at, stopped}
-use Rattle.fast_stream.specs.declared.fault.Cause.TheVariants.{Truncated}
-use Rattle.fast_walk.specs.OpenSegments.{Reading, at_mantissa, cursor, message_of}
-use Rattle.fast_walk.specs.Received.{Received}
-use Rattle.fast_walk.specs.Traversals.{Continues, ContinuesAt, IsOpen, stop_of}
-use Rattle.fast_walk.specs.declared.halt.HaltedBy.TheVariants as halted
-use Rattle.fast_walk.specs.declared.traversal.Stage.{Stage}
-use Rattle.fast_walk.specs.declared.traversal.Traversal.{Traversal}
+use Rattle.fast_walk.proofs.Common.{◌≡◌, ℕ, zero, suc, ◌<◌, ◌≤◌, Bool, true, false, List, [], ◌∷◌, ◌++◌, length, Option, Some, None, Ok, Err, refl, sym, ap, subst, ◌∙◌, arith, length-append, inl, inr, ◌-◌, append-nil, nat_le, IfSome, pos, Instruction, Resolved, Instructions, then_instruction, list_of, part_needs_bit, group_of, no_instructions, entry_at, bit_for, Content, Items, Stop, Dictionary, Cursor, Reads, field_part_at, node_at, piece_at, stopped, Truncated, Reading, at_mantissa, cursor, message_of, Received, Continues, ContinuesAt, IsOpen, stop_of, HaltedBy, Stage, Traversal, next_of, reads_on, Walk, HasNoStop, judge, overlong_unsigned, entity_at, unsigned_at, signed_at, unsigned_nullable_at, signed_nullable_at, ascii_at, ascii_nullable_at, vector_at, behind_length, vector_nullable_at, Level, Usual, Strict, WireFault, Value, entity_goes, unsigned_goes, unsigned_nullable_goes, bytes_wait, Kind, Operator, Presence, Mandatory, Optional, FieldPart, Entry, FieldFault, field_fault, part_at, units_at, integer_at, integer_spelled_at, decimal_spelled_at, units_spelled_at, spelled_at, integer_delta_at, decimal_delta_at, unit_delta_at, delta_at, tail_at, whole_at, row_at, field_at, Lack, AreUnstopped, EntityLacks, FieldLacks, IsFirst, IsLacking, IsNextPart, IsVectorKind, Lacks, StopsShort, VectorLacks, WalkLacks, Wants, WantsByte, IsCount, first_limit, sends, whole_limit, is_unsigned, Part}
 use Rattle.fast_walk.proofs.Heads.{content_fails}
-use Rattle.fast_walk.specs.Walks.{next_of, reads_on}
 use Rattle.fast_walk.specs.declared.walk.Next.TheVariants as next
-use Rattle.fast_walk.specs.declared.walk.Walk.{Walk}
 use Rattle.fast_walk.proofs.Pieces.{number_in}
 use Rattle.fast_walk.proofs.Steps.{count_goes, part_stops}
 use Rattle.fast_walk.proofs.Walking.{is_instruction, is_mantissa, mantissa_on_stops, piece_stops_on}
-use Rattle.fast_wire.specs.Entity.{HasNoStop}
-use Rattle.fast_wire.specs.Level.{judge, overlong_unsigned}
-use Rattle.fast_wire.specs.Reading.{entity_at, unsigned_at, signed_at, unsigned_nullable_at, signed_nullable_at, ascii_at, ascii_nullable_at, vector_at, behind_length, vector_nullable_at}
-use Rattle.fast_wire.specs.declared.level.Level.{Level}
-use Rattle.fast_wire.specs.declared.level.Level.TheVariants.{Usual, Strict}
-use Rattle.fast_wire.specs.declared.fault.WireFault.TheVariants as wire
-use Rattle.fast_wire.specs.declared.nullable.Nullable.TheVariants.{Value}
-use Rattle.fast_wire.proofs.GoingOn.{entity_goes, unsigned_goes, unsigned_nullable_goes}
-use Rattle.fast_wire.proofs.VectorForms.{bytes_wait}
-use Rattle.fast_value.specs.declared.kind.Kind.{Kind}
-use Rattle.fast_value.specs.declared.kind.Kind.TheVariants as kind
-use Rattle.fast_value.specs.declared.kind.Operator.{Operator}
-use Rattle.fast_value.specs.declared.kind.Operator.TheVariants as operator
-use Rattle.fast_value.specs.declared.kind.Presence.{Presence}
-use Rattle.fast_value.specs.declared.kind.Presence.TheVariants.{Mandatory, Optional}
-use Rattle.fast_template.specs.declared.resolved.FieldPart.{FieldPart}
-use Rattle.fast_dictionary.specs.declared.entry.Entry.{Entry}
-use Rattle.fast_field.specs.declared.fault.FieldFault.TheVariants as fault
-use Rattle.fast_field.specs.Faults.{field_fault}
-use Rattle.fast_field.specs.FieldReading.{part_at, units_at, integer_at, integer_spelled_at, decimal_spelled_at, units_spelled_at, spelled_at, integer_delta_at, decimal_delta_at, unit_delta_at, delta_at, tail_at, whole_at, row_at, field_at}
-use Rattle.fast_walk.specs.declared.lack.Lack.{Lack}
-use Rattle.fast_walk.specs.Lacks.{AreUnstopped, EntityLacks, FieldLacks, IsFirst, IsLacking, IsNextPart, IsVectorKind, Lacks, StopsShort, VectorLacks, WalkLacks, Wants, WantsByte, IsCount, first_limit, sends, whole_limit}
-use Rattle.fast_field.specs.Values.{is_unsigned}
-use Rattle.fast_value.specs.declared.kind.Part.{Part}
 
 -- ---- bytes with no stop bit
 
@@ -59,7 +18,7 @@ both_unstopped (x ∷ xs) ys h k = (h.0, both_unstopped xs ys h.1 k)
 
 -- ---- entities
 
-pub entity_waits : (limit : ℕ) (bytes : List ℕ) → AreUnstopped bytes → length bytes < limit → entity_at limit bytes ≡ Err wire.NeedMore
+pub entity_waits : (limit : ℕ) (bytes : List ℕ) → AreUnstopped bytes → length bytes < limit → entity_at limit bytes ≡ Err WireFault.NeedMore
 unfolding entity_at
 entity_waits zero bytes h short = absurd (omega (arith, short))
 entity_waits (suc limit) [] h short = refl
@@ -70,28 +29,28 @@ entity_waits (suc limit) (b ∷ bs) h short =
 
 -- ---- what begins with an entity
 
-integer_waits : (level : Level) (u : Bool) (p : Presence) (bytes : List ℕ) → entity_at 10 bytes ≡ Err wire.NeedMore → integer_at level u p bytes ≡ Err fault.NeedMore
+integer_waits : (level : Level) (u : Bool) (p : Presence) (bytes : List ℕ) → entity_at 10 bytes ≡ Err WireFault.NeedMore → integer_at level u p bytes ≡ Err FieldFault.NeedMore
 unfolding integer_at unsigned_at signed_at unsigned_nullable_at signed_nullable_at
 integer_waits Usual true Mandatory bytes h = rw h refl
 integer_waits Usual false Mandatory bytes h = rw h refl
 integer_waits level u p bytes h = rw h refl
 
 -- characters, or the length of a vector
-pub units_wait : (level : Level) (k : Kind) (p : Presence) (bytes : List ℕ) → entity_at (whole_limit k) bytes ≡ Err wire.NeedMore → units_at level k p bytes ≡ Err fault.NeedMore
+pub units_wait : (level : Level) (k : Kind) (p : Presence) (bytes : List ℕ) → entity_at (whole_limit k) bytes ≡ Err WireFault.NeedMore → units_at level k p bytes ≡ Err FieldFault.NeedMore
 unfolding units_at part_at ascii_at ascii_nullable_at vector_at vector_nullable_at unsigned_at unsigned_nullable_at
-units_wait Usual kind.Ascii Mandatory bytes h = rw h refl
+units_wait Usual Kind.Ascii Mandatory bytes h = rw h refl
 units_wait Usual k Mandatory bytes h = rw h refl
-units_wait Strict kind.Ascii p bytes h = rw h refl
+units_wait Strict Kind.Ascii p bytes h = rw h refl
 units_wait level k p bytes h = rw h refl
 
 -- ---- vectors
 
 -- a length that is not overlong is none whatever follows
-pub length_judged : (bytes more entity rest : List ℕ) → entity_at 10 bytes ≡ Ok (entity, rest) → overlong_unsigned entity ≡ false → judge Strict 10 overlong_unsigned field_fault fault.R6 (bytes ++ more) ≡ Ok tt
+pub length_judged : (bytes more entity rest : List ℕ) → entity_at 10 bytes ≡ Ok (entity, rest) → overlong_unsigned entity ≡ false → judge Strict 10 overlong_unsigned field_fault FieldFault.R6 (bytes ++ more) ≡ Ok tt
 length_judged bytes more entity rest h k = rw (entity_goes 10 bytes entity rest more h, k) refl
 
-pub counted_waits : (level : Level) (k : Kind) (p : Presence) (bytes more rest : List ℕ) (n : ℕ) → IsVectorKind k → judge level 10 overlong_unsigned field_fault fault.R6 (bytes ++ more) ≡ Ok tt → n ≤ 65535 → length (rest ++ more) < n
-    → IsCount p bytes n rest → units_at level k p (bytes ++ more) ≡ Err fault.NeedMore
+pub counted_waits : (level : Level) (k : Kind) (p : Presence) (bytes more rest : List ℕ) (n : ℕ) → IsVectorKind k → judge level 10 overlong_unsigned field_fault FieldFault.R6 (bytes ++ more) ≡ Ok tt → n ≤ 65535 → length (rest ++ more) < n
+    → IsCount p bytes n rest → units_at level k p (bytes ++ more) ≡ Err FieldFault.NeedMore
 unfolding units_at part_at vector_at vector_nullable_at behind_length
 counted_waits level k Mandatory bytes more rest n (inl is) fit few short h = rw (is, fit, unsigned_goes bytes n rest more h, bytes_wait n (rest ++ more) few short) refl
 counted_waits level k Optional bytes more rest n (inl is) fit few short h = rw (is, fit, unsigned_nullable_goes bytes (Value n) rest more h, bytes_wait n (rest ++ more) few short) refl
@@ -100,38 +59,38 @@ counted_waits level k Optional bytes more rest n (inr is) fit few short h = rw (
 
 -- ---- fields
 
-whole_begins : (level : Level) (pt : Part) (k : Kind) (p : Presence) (bytes : List ℕ) → entity_at (whole_limit k) bytes ≡ Err wire.NeedMore → spelled_at level pt k p bytes ≡ Err fault.NeedMore
+whole_begins : (level : Level) (pt : Part) (k : Kind) (p : Presence) (bytes : List ℕ) → entity_at (whole_limit k) bytes ≡ Err WireFault.NeedMore → spelled_at level pt k p bytes ≡ Err FieldFault.NeedMore
 unfolding spelled_at units_spelled_at decimal_spelled_at integer_spelled_at
-whole_begins level pt kind.Ascii p bytes h = rw (units_wait level kind.Ascii p bytes h) refl
-whole_begins level pt kind.Unicode p bytes h = rw (units_wait level kind.Unicode p bytes h) refl
-whole_begins level pt kind.Bytes p bytes h = rw (units_wait level kind.Bytes p bytes h) refl
-whole_begins level pt kind.Decimal p bytes h = rw (integer_waits level false p bytes h) refl
+whole_begins level pt Kind.Ascii p bytes h = rw (units_wait level Kind.Ascii p bytes h) refl
+whole_begins level pt Kind.Unicode p bytes h = rw (units_wait level Kind.Unicode p bytes h) refl
+whole_begins level pt Kind.Bytes p bytes h = rw (units_wait level Kind.Bytes p bytes h) refl
+whole_begins level pt Kind.Decimal p bytes h = rw (integer_waits level false p bytes h) refl
 whole_begins level pt k p bytes h = rw (integer_waits level (is_unsigned k) p bytes h) refl
 
-delta_begins : (level : Level) (k : Kind) (i : FieldPart) (e : Entry) (bytes : List ℕ) → entity_at 10 bytes ≡ Err wire.NeedMore → delta_at level k i e bytes ≡ Err fault.NeedMore
+delta_begins : (level : Level) (k : Kind) (i : FieldPart) (e : Entry) (bytes : List ℕ) → entity_at 10 bytes ≡ Err WireFault.NeedMore → delta_at level k i e bytes ≡ Err FieldFault.NeedMore
 unfolding delta_at decimal_delta_at unit_delta_at integer_delta_at
-delta_begins level kind.Ascii i e bytes h = rw (integer_waits level false i.presence bytes h) refl
+delta_begins level Kind.Ascii i e bytes h = rw (integer_waits level false i.presence bytes h) refl
 delta_begins level k i e bytes h = rw (integer_waits level false i.presence bytes h) refl
 
-tail_waits : (level : Level) (i : FieldPart) (e : Entry) (bytes : List ℕ) → units_at level i.kind i.presence bytes ≡ Err fault.NeedMore → tail_at level i e bytes ≡ Err fault.NeedMore
+tail_waits : (level : Level) (i : FieldPart) (e : Entry) (bytes : List ℕ) → units_at level i.kind i.presence bytes ≡ Err FieldFault.NeedMore → tail_at level i e bytes ≡ Err FieldFault.NeedMore
 unfolding tail_at
 tail_waits level i e bytes h = rw h refl
 
-row_begins : (level : Level) (o : Operator) (i : FieldPart) (e : Entry) (bit : Bool) (bytes : List ℕ) → sends o bit ≡ true → entity_at (first_limit o i.kind) bytes ≡ Err wire.NeedMore → row_at level o i e bit bytes ≡ Err fault.NeedMore
+row_begins : (level : Level) (o : Operator) (i : FieldPart) (e : Entry) (bit : Bool) (bytes : List ℕ) → sends o bit ≡ true → entity_at (first_limit o i.kind) bytes ≡ Err WireFault.NeedMore → row_at level o i e bit bytes ≡ Err FieldFault.NeedMore
 unfolding row_at whole_at
-row_begins level operator.Plain i e bit bytes s h = whole_begins level i.part i.kind i.presence bytes h
-row_begins level operator.Delta i e bit bytes s h = delta_begins level i.kind i e bytes h
-row_begins level operator.Tail i e true bytes s h = tail_waits level i e bytes (units_wait level i.kind i.presence bytes h)
-row_begins level operator.Constant i e bit bytes s h = absurd cc
+row_begins level Operator.Plain i e bit bytes s h = whole_begins level i.part i.kind i.presence bytes h
+row_begins level Operator.Delta i e bit bytes s h = delta_begins level i.kind i e bytes h
+row_begins level Operator.Tail i e true bytes s h = tail_waits level i e bytes (units_wait level i.kind i.presence bytes h)
+row_begins level Operator.Constant i e bit bytes s h = absurd cc
 row_begins level o i e true bytes s h = whole_begins level i.part i.kind i.presence bytes h
 row_begins level o i e false bytes s h = absurd cc
 
-field_begins : (level : Level) (i : FieldPart) (e : Entry) (bit : Bool) (bytes : List ℕ) → sends i.operator bit ≡ true → entity_at (first_limit i.operator i.kind) bytes ≡ Err wire.NeedMore → field_at level i e bit bytes ≡ Err fault.NeedMore
+field_begins : (level : Level) (i : FieldPart) (e : Entry) (bit : Bool) (bytes : List ℕ) → sends i.operator bit ≡ true → entity_at (first_limit i.operator i.kind) bytes ≡ Err WireFault.NeedMore → field_at level i e bit bytes ≡ Err FieldFault.NeedMore
 unfolding field_at
 field_begins level i e bit bytes s h = rw (row_begins level i.operator i e bit bytes s h) refl
 
 -- an entity that has not ended
-pub entity_wants : {of limit : ℕ} {bytes : List ℕ} {l : Lack} → EntityLacks of limit bytes l → Wants (entity_at limit) wire.NeedMore bytes l
+pub entity_wants : {of limit : ℕ} {bytes : List ℕ} {l : Lack} → EntityLacks of limit bytes l → Wants (entity_at limit) WireFault.NeedMore bytes l
 entity_wants {limit = limit} {bytes = bytes} lacks more lacking =
     entity_waits limit (bytes ++ more) (both_unstopped bytes more lacks.begun (lacking.unstopped lacks.until)) (omega (arith, length-append {A = ℕ}, lacks.few, lacking.few))
 
@@ -139,22 +98,22 @@ entity_wants {limit = limit} {bytes = bytes} lacks more lacking =
 pub entity_lacks : {level : Level} {i : FieldPart} {e : Entry} {bit : Bool} {bytes : List ℕ} {l : Lack} → sends i.operator bit ≡ true → EntityLacks i.number (first_limit i.operator i.kind) bytes l → FieldLacks level i e bit bytes l
 entity_lacks {level} {i} {e} {bit} s lacks = record { lacks = λ more lacking. field_begins level i e bit _ s (entity_wants lacks more lacking); number = lacks.number }
 
-spelled_waits : (level : Level) (i : FieldPart) (k : Kind) (bytes : List ℕ) → IsVectorKind k → units_at level k i.presence bytes ≡ Err fault.NeedMore → spelled_at level i.part k i.presence bytes ≡ Err fault.NeedMore
+spelled_waits : (level : Level) (i : FieldPart) (k : Kind) (bytes : List ℕ) → IsVectorKind k → units_at level k i.presence bytes ≡ Err FieldFault.NeedMore → spelled_at level i.part k i.presence bytes ≡ Err FieldFault.NeedMore
 unfolding spelled_at units_spelled_at
 spelled_waits level i k bytes (inl is) h = rw (is, rw is at h) refl
 spelled_waits level i k bytes (inr is) h = rw (is, rw is at h) refl
 
-vector_row : (level : Level) (o : Operator) (i : FieldPart) (e : Entry) (bit : Bool) (bytes : List ℕ) → sends o bit ≡ true → (o ≡ operator.Delta → ⊥) → IsVectorKind i.kind → units_at level i.kind i.presence bytes ≡ Err fault.NeedMore → row_at level o i e bit bytes ≡ Err fault.NeedMore
+vector_row : (level : Level) (o : Operator) (i : FieldPart) (e : Entry) (bit : Bool) (bytes : List ℕ) → sends o bit ≡ true → (o ≡ Operator.Delta → ⊥) → IsVectorKind i.kind → units_at level i.kind i.presence bytes ≡ Err FieldFault.NeedMore → row_at level o i e bit bytes ≡ Err FieldFault.NeedMore
 unfolding row_at whole_at
-vector_row level operator.Delta i e bit bytes s d v h = absurd (d refl)
-vector_row level operator.Constant i e bit bytes s d v h = absurd cc
-vector_row level operator.Plain i e bit bytes s d v h = spelled_waits level i i.kind bytes v h
-vector_row level operator.Tail i e true bytes s d v h = tail_waits level i e bytes h
+vector_row level Operator.Delta i e bit bytes s d v h = absurd (d refl)
+vector_row level Operator.Constant i e bit bytes s d v h = absurd cc
+vector_row level Operator.Plain i e bit bytes s d v h = spelled_waits level i i.kind bytes v h
+vector_row level Operator.Tail i e true bytes s d v h = tail_waits level i e bytes h
 vector_row level o i e true bytes s d v h = spelled_waits level i i.kind bytes v h
 vector_row level o i e false bytes s d v h = absurd cc
 
 -- a vector whose length has come
-pub vector_lacks : {level : Level} {i : FieldPart} {e : Entry} {bit : Bool} {bytes : List ℕ} {l : Lack} → sends i.operator bit ≡ true → (i.operator ≡ operator.Delta → ⊥) → VectorLacks level i.kind i.presence i.number bytes l → FieldLacks level i e bit bytes l
+pub vector_lacks : {level : Level} {i : FieldPart} {e : Entry} {bit : Bool} {bytes : List ℕ} {l : Lack} → sends i.operator bit ≡ true → (i.operator ≡ Operator.Delta → ⊥) → VectorLacks level i.kind i.presence i.number bytes l → FieldLacks level i e bit bytes l
 unfolding field_at
 vector_lacks {level} {i} {e} {bit} s d h = record { lacks = λ more lacking. rw (vector_row level i.operator i e bit _ s d h.vector (h.lacks more lacking)) refl; number = h.number }
 
@@ -171,7 +130,7 @@ first_lacks : (level : Level) (w : Walk) (d : Dictionary) (part : FieldPart) (is
 first_lacks level w d part no_instructions bytes l some is rest first h = absurd first
 first_lacks level w d part (then_instruction i others) bytes l some is rest first h = λ o more lacking at.
     let xs = bytes ++ more in
-    let waits = part_stops level part d w.bits (w.spare - 1) xs fault.NeedMore (h.lacks more lacking) in
+    let waits = part_stops level part d w.bits (w.spare - 1) xs FieldFault.NeedMore (h.lacks more lacking) in
     let piece = piece_waits level part i others (cursor d w.bits w.spare xs) (cursor d w.bits (w.spare - 1) xs) _ first (count_goes (number_in i) w.spare d w.bits xs some) waits in
     let stops = piece_stops_on level o.around o.next o.body i others (cursor d w.bits w.spare xs) _ (is_instruction o.next (at.next ∙ ap next_of is)) (at.rest ∙ rest) piece in
     subst (λ (r : Reads Items). StopsShort l.number (length xs) r) (sym stops) (refl, (sym h.number, refl))
@@ -182,7 +141,7 @@ mantissa_lacks : (level : Level) (w : Walk) (d : Dictionary) (mantissa : FieldPa
 mantissa_lacks level w d mantissa bytes l is h = λ o more lacking here.
     let xs = bytes ++ more in
     let next = is_mantissa o.next _ mantissa (here.next ∙ is) in
-    let stops = mantissa_on_stops level o.around o.next next.exponent mantissa o.body (cursor d w.bits w.spare xs) _ next.is (part_stops level mantissa d w.bits w.spare xs fault.NeedMore (h.lacks more lacking)) in
+    let stops = mantissa_on_stops level o.around o.next next.exponent mantissa o.body (cursor d w.bits w.spare xs) _ next.is (part_stops level mantissa d w.bits w.spare xs FieldFault.NeedMore (h.lacks more lacking)) in
     subst (λ (r : Reads Items). StopsShort l.number (length xs) r) (sym stops) (refl, (sym h.number, refl))
 
 pub next_lacks : (level : Level) (w : Walk) (d : Dictionary) (part : FieldPart) (bytes : List ℕ) (o : Option Lack) → IsNextPart w part
@@ -214,7 +173,7 @@ next_wants w part first s = λ level d o here.
 -- whatever is still read of the message stops there
 pub lacking_stops : {R : Type 0} (has : R → Received → Dictionary → Type 0) (stands keeps : R → List Resolved → List Content → Dictionary → Type 0) (t : Traversal) (r : R) (set : List Resolved) (d start : Dictionary) (before : List Content) (read : List ℕ → Reading) (bytes : List ℕ) (l : Lack)
     → Continues has stands keeps t r set d before start read → Lacks t d bytes l
-    → read bytes ≡ Err (stop_of t.template (record { cause = Truncated; number = l.number; by = halted.Walk }) bytes)
+    → read bytes ≡ Err (stop_of t.template (record { cause = Truncated; number = l.number; by = HaltedBy.Walk }) bytes)
 lacking_stops {R} has stands keeps t r set d start before read bytes l goes lacks =
     opened.reads bytes ∙ ap (message_of t.level t.template) (short_stops l.number bytes (reads_on t.level t.walk d opened.received bytes) stops) ∙ content_fails t.level t.template _
   where

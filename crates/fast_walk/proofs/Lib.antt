@@ -1,3 +1,4 @@
+mod Common
 mod SetBits
 pub mod ShortWalks
 pub mod Steps

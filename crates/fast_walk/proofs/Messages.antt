@@ -1,28 +1,6 @@
 -- Reading a message piece by piece: a step in front of what is read behind it, and where nothing is read.
-use Rattle.std.proofs.Common.{◌≡◌, ◌≢◌, ◌≤◌, ◌++◌, ℕ, true, List, [], Result, Ok, Err, length, drop, map, refl, sym, ap, subst, ◌∙◌, inl, inr, arith}
-use Rattle.fast_template.specs.Resolved.{list_of, no_instructions}
-use Rattle.fast_template.specs.TemplateSets.{templates_in}
-use Rattle.fast_wire.specs.Level.{IsLeftClear, some_set}
-use Rattle.fast_wire.specs.declared.level.Level.TheVariants.{Strict}
-use Rattle.fast_dictionary.specs.Dictionary.{Dictionary}
-use Rattle.fast_dictionary.specs.declared.entries.Entries.{Ghosts}
-use Rattle.fast_stream.specs.declared.fault.Cause.TheVariants.{Truncated, Memory, R8}
-use Rattle.fast_stream.specs.Nodes.{Content, Items, items_of}
-use Rattle.fast_stream.specs.Reading.{Reads, message_at}
-use Rattle.fast_stream.specs.Streams.{identifier}
-use Rattle.fast_walk.specs.Messages.{CanRead, IsStep, LeftOf, MapRead, MessageRead, MessageStops, ReadsMessage}
-use Rattle.fast_walk.specs.OpenSegments.{Reading, at_instruction, cursor, message_of}
-use Rattle.fast_walk.specs.Pieces.{Holds}
-use Rattle.fast_walk.specs.Received.{Carries, Completes}
-use Rattle.fast_walk.specs.Told.{KeepScalars}
-use Rattle.fast_walk.specs.Traversals.{ContinuesAt, IsOpen, identifier_on, stop_of}
-use Rattle.fast_walk.specs.Walks.{IsWhole, Moves, bare, frame_of, next_of, reads_on}
-use Rattle.fast_walk.specs.declared.halt.Halt.{Halt}
+use Rattle.fast_walk.proofs.Common.{◌≡◌, ◌≢◌, ◌≤◌, ◌++◌, ℕ, true, List, [], Result, Ok, Err, length, drop, map, refl, sym, ap, subst, ◌∙◌, inl, inr, arith, list_of, no_instructions, templates_in, IsLeftClear, some_set, Strict, Dictionary, Ghosts, Truncated, Memory, R8, Content, Items, items_of, Reads, message_at, identifier, CanRead, IsStep, LeftOf, MapRead, MessageRead, MessageStops, ReadsMessage, Reading, at_instruction, cursor, message_of, Holds, Carries, Completes, KeepScalars, ContinuesAt, IsOpen, identifier_on, stop_of, IsWhole, Moves, bare, frame_of, next_of, reads_on, Halt, Stage, Traversal as TraversalNow, Walk as WalkNow}
 use Rattle.fast_walk.specs.declared.receiver.Receiver.{Ghosts as Receiving}
-use Rattle.fast_walk.specs.declared.traversal.Stage.{Stage}
-use Rattle.fast_walk.specs.declared.traversal.Stage.TheVariants as stage
-use Rattle.fast_walk.specs.declared.traversal.Traversal.{Traversal as TraversalNow}
-use Rattle.fast_walk.specs.declared.walk.Walk.{Walk as WalkNow}
 use Rattle.fast_walk.proofs.Heads.{content_fails, content_goes, content_stops}
 use Rattle.fast_walk.proofs.ShortWalks.{behind_few, identifier_few_at, map_few_at, walk_few, want_of_bytes}
 use Rattle.fast_walk.proofs.Steps.{with_none}
@@ -37,12 +15,12 @@ record IsReceived {R E : Type 0} (receiver : Receiving R) (entries : Ghosts E) (
   pub reads : (bytes : List ℕ) → read bytes ≡ message_of t.level t.template (Ok (items_of still.received.body.done, cursor (entries.contents d) t.walk.bits t.walk.spare bytes))
 
 module _ {R E : Type 0} (receiver : Receiving R) (entries : Ghosts E) (t : TraversalNow) (r : R) (d : E) where
-  open_now : t.stage ≡ stage.Body → (before : List Content) (start : Dictionary) (read : List ℕ → Reading) → LeftOf receiver entries t r d before start read
+  open_now : t.stage ≡ Stage.Body → (before : List Content) (start : Dictionary) (read : List ℕ → Reading) → LeftOf receiver entries t r d before start read
       → IsOpen receiver.has receiver.keeps t r (templates_in t.set.now) (entries.contents d) before start read
   open_now at_body before start read was =
       subst (λ (x : Stage). ContinuesAt receiver.has receiver.stands receiver.keeps x t r (templates_in t.set.now) (entries.contents d) before start read) at_body was
 
-  received : t.stage ≡ stage.Body → IsWhole t.walk → (before : List Content) (start : Dictionary) (read : List ℕ → Reading) → LeftOf receiver entries t r d before start read → IsReceived receiver entries t r d before start read
+  received : t.stage ≡ Stage.Body → IsWhole t.walk → (before : List Content) (start : Dictionary) (read : List ℕ → Reading) → LeftOf receiver entries t r d before start read → IsReceived receiver entries t r d before start read
   received at_body whole before start read was =
       let o = open_now at_body before start read was in
       let next = is_instruction o.received.next (o.at.next ∙ ap next_of whole.0) in
@@ -96,26 +74,26 @@ module _ {R E : Type 0} {receiver : Receiving R} {entries : Ghosts E} {t : Trave
   read_behind v q f (Err x) step read = stops_behind step read
 
   -- a message's map is the first step
-  map_read : {m : ℕ} {u : TraversalNow} → t.stage ≡ stage.Map → MapRead t bytes at m u → IsStep receiver entries t r d bytes at m u r d
+  map_read : {m : ℕ} {u : TraversalNow} → t.stage ≡ Stage.Map → MapRead t bytes at m u → IsStep receiver entries t r d bytes at m u r d
   map_read {m = m} {u = u} map read = record {
     place = (let p = read.place.0 in omega (arith, p), read.place.1);
     took = λ other. read.place.0;
-    inside = λ other. let k : stage.Identifier ≡ stage.Map = sym read.stage ∙ other in absurd cc;
+    inside = λ other. let k : Stage.Identifier ≡ Stage.Map = sym read.stage ∙ other in absurd cc;
     leaves = λ before start now was.
         let s = rw map at was in
         let later = identifier_on t.level (templates_in t.set.now) (entries.contents d) u.walk.bits in
         (later, rw (read.stage, read.level, read.set) (record { stands = s.stands; start_is = s.start_is; reads = λ bytes. refl }), λ more. s.reads (drop at bytes ++ more) ∙ read.goes (entries.contents d) more);
   }
 
-  pub read_behind_map : {m : ℕ} {u : TraversalNow} (v : TraversalNow) (q : R) (f : E) (result : Result ℕ (ℕ × Halt)) → CanRead receiver entries t r d → t.stage ≡ stage.Map → MapRead t bytes at m u → ReadsMessage receiver entries u r d bytes m result v q f
+  pub read_behind_map : {m : ℕ} {u : TraversalNow} (v : TraversalNow) (q : R) (f : E) (result : Result ℕ (ℕ × Halt)) → CanRead receiver entries t r d → t.stage ≡ Stage.Map → MapRead t bytes at m u → ReadsMessage receiver entries u r d bytes m result v q f
       → ReadsMessage receiver entries t r d bytes at result v q f
   read_behind_map v q f result can map read behind = read_behind v q f result (map_read map read) behind
 
-  pub map_can : {m : ℕ} {u : TraversalNow} → t.stage ≡ stage.Map → MapRead t bytes at m u → CanRead receiver entries t r d → CanRead receiver entries u r d
+  pub map_can : {m : ℕ} {u : TraversalNow} → t.stage ≡ Stage.Map → MapRead t bytes at m u → CanRead receiver entries t r d → CanRead receiver entries u r d
   map_can map read can = record { ready = rw (read.stage) (read.template ∙ rw map at can.ready, read.spare); kept = can.kept; room = rw (read.stage) read.room }
 
   -- a message's map is not read
-  pub map_stops : {u : TraversalNow} {h : Halt} → t.stage ≡ stage.Map → at ≤ length bytes → CanRead receiver entries t r d
+  pub map_stops : {u : TraversalNow} {h : Halt} → t.stage ≡ Stage.Map → at ≤ length bytes → CanRead receiver entries t r d
       → u ≡ t → (h.cause ≢ Memory → (d : Dictionary) → message_at t.level (templates_in t.set.now) d (drop at bytes) ≡ Err (stop_of 0 h (drop at bytes)))
       → MessageStops receiver entries t r d bytes at (at, h) u r d
   map_stops {h = h} map place can same stops = rw same (record {
@@ -132,7 +110,7 @@ module _ {R E : Type 0} {receiver : Receiving R} {entries : Ghosts E} {t : Trave
   })
 
   -- a message's identifier is not read
-  pub identifier_stops : {h : Halt} {s : R} {e : E} → t.stage ≡ stage.Identifier → at ≤ length bytes → CanRead receiver entries t r d → entries.serves e ≡ entries.serves d → Carries (receiver.stands r) (receiver.keeps s)
+  pub identifier_stops : {h : Halt} {s : R} {e : E} → t.stage ≡ Stage.Identifier → at ≤ length bytes → CanRead receiver entries t r d → entries.serves e ≡ entries.serves d → Carries (receiver.stands r) (receiver.keeps s)
       → (h.cause ≢ Memory → identifier_on t.level (templates_in t.set.now) (entries.contents d) t.walk.bits (drop at bytes) ≡ Err (stop_of 0 h (drop at bytes)))
       → (h.cause ≡ Truncated → (entries.contents e ≡ entries.contents d) × Carries (receiver.stands r) (receiver.stands s))
       → MessageStops receiver entries t r d bytes at (at, h) t s e
@@ -156,12 +134,12 @@ module _ {R E : Type 0} {receiver : Receiving R} {entries : Ghosts E} {t : Trave
   -- ---- the body
 
   -- it is read on
-  pub walk_step : {m : ℕ} {w : WalkNow} {s : R} {e : E} (is : t.identifier ≡ identifier) → t.stage ≡ stage.Body → (at ≤ m) × (m ≤ length bytes) → Carries (receiver.keeps r) (receiver.keeps s)
+  pub walk_step : {m : ℕ} {w : WalkNow} {s : R} {e : E} (is : t.identifier ≡ identifier) → t.stage ≡ Stage.Body → (at ≤ m) × (m ≤ length bytes) → Carries (receiver.keeps r) (receiver.keeps s)
       → Moves t.level receiver.has t.walk r (entries.contents d) w s (entries.contents e) (drop at bytes) (drop m bytes) → IsStep receiver entries t r d bytes at m (record t { walk = w; identifier_is = is }) s e
   walk_step {w = w} {e = e} is at_body place carries goes = record {
     place = place;
-    took = λ map. let k : stage.Body ≡ stage.Map = sym at_body ∙ map in absurd cc;
-    inside = λ map. let k : stage.Body ≡ stage.Map = sym at_body ∙ map in absurd cc;
+    took = λ map. let k : Stage.Body ≡ Stage.Map = sym at_body ∙ map in absurd cc;
+    inside = λ map. let k : Stage.Body ≡ Stage.Map = sym at_body ∙ map in absurd cc;
     leaves = λ before start now was.
         let o = rw at_body at was in
         let p = goes o.received (o.at, o.has) in (
@@ -182,7 +160,7 @@ module _ {R E : Type 0} {receiver : Receiving R} {entries : Ghosts E} {t : Trave
   }
 
   -- it is read on to a place, and stops there
-  pub walk_halts : {w : WalkNow} {s : R} {e : E} {x : ℕ × Halt} (is : t.identifier ≡ identifier) → t.stage ≡ stage.Body → (at ≤ x.0) × (x.0 ≤ length bytes) → Carries (receiver.keeps r) (receiver.keeps s)
+  pub walk_halts : {w : WalkNow} {s : R} {e : E} {x : ℕ × Halt} (is : t.identifier ≡ identifier) → t.stage ≡ Stage.Body → (at ≤ x.0) × (x.0 ≤ length bytes) → Carries (receiver.keeps r) (receiver.keeps s)
       → ((x.1).cause ≢ Memory → Holds t.level receiver.has receiver.room (entries.serves e) t.walk r (entries.contents d) w s (entries.contents e) (drop at bytes) (drop x.0 bytes) x.1)
       → MessageStops receiver entries t r d bytes at x (record t { walk = w; identifier_is = is }) s e
   walk_halts {w = w} {s = s} {e = e} {x = x} is at_body place carries holds =
@@ -201,19 +179,19 @@ module _ {R E : Type 0} {receiver : Receiving R} {entries : Ghosts E} {t : Trave
             let h = holds other in
             record {
               leaves = goes other;
-              between = λ map. let k : stage.Body ≡ stage.Map = sym at_body ∙ map in absurd cc;
-              begun = λ map. let k : stage.Body ≡ stage.Map = sym at_body ∙ map in absurd cc;
+              between = λ map. let k : Stage.Body ≡ Stage.Map = sym at_body ∙ map in absurd cc;
+              begun = λ map. let k : Stage.Body ≡ Stage.Map = sym at_body ∙ map in absurd cc;
               few = behind_few bytes x.0 (walk_few t.level w (entries.contents e) rest x.1 h.halts wanted);
               can = record { ready = rw at_body h.on.ready; kept = h.on.kept; room = rw at_body h.on.room };
             };
       }
 
   -- a message has ended
-  pub message_ends : {u : TraversalNow} {s : R} → t.stage ≡ stage.Body → IsWhole t.walk → at ≤ length bytes → KeepScalars (entries.contents d) → u.set ≡ t.set
-      → IsLeftClear t.level t.walk.bits → Completes (receiver.has r) (receiver.stands s) → (u.stage ≡ stage.Map) × (u.template ≡ 0) → MessageRead receiver entries t r d bytes at at u s d
+  pub message_ends : {u : TraversalNow} {s : R} → t.stage ≡ Stage.Body → IsWhole t.walk → at ≤ length bytes → KeepScalars (entries.contents d) → u.set ≡ t.set
+      → IsLeftClear t.level t.walk.bits → Completes (receiver.has r) (receiver.stands s) → (u.stage ≡ Stage.Map) × (u.template ≡ 0) → MessageRead receiver entries t r d bytes at at u s d
   message_ends at_body whole place kept set clear stands between = record {
     place = (omega arith, place);
-    took = λ map. let k : stage.Body ≡ stage.Map = sym at_body ∙ map in absurd cc;
+    took = λ map. let k : Stage.Body ≡ Stage.Map = sym at_body ∙ map in absurd cc;
     finishes = λ before start now was.
         let e : IsReceived receiver entries t r d before start now = received receiver entries t r d at_body whole before start now was in
         let o = e.still in
@@ -228,7 +206,7 @@ module _ {R E : Type 0} {receiver : Receiving R} {entries : Ghosts E} {t : Trave
   }
 
   -- a message has ended, and is refused
-  pub end_refused : {u : TraversalNow} {s : R} {h : Halt} → t.stage ≡ stage.Body → IsWhole t.walk → at ≤ length bytes → u.set ≡ t.set → u.template ≡ t.template → Carries (receiver.keeps r) (receiver.keeps s)
+  pub end_refused : {u : TraversalNow} {s : R} {h : Halt} → t.stage ≡ Stage.Body → IsWhole t.walk → at ≤ length bytes → u.set ≡ t.set → u.template ≡ t.template → Carries (receiver.keeps r) (receiver.keeps s)
       → (h.cause ≢ Memory → (t.level ≡ Strict) × (h.cause ≡ R8) × (h.number ≡ 0) × (some_set t.walk.bits ≡ true)) → MessageStops receiver entries t r d bytes at (at, h) u s d
   end_refused {h = h} at_body whole place set template carries refused = record {
     place = (omega arith, place);

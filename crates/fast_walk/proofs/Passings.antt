@@ -1,20 +1,5 @@
 -- Parts that are taken, and fields that are passed one after the other.
-use Rattle.std.proofs.Common.{◌≡◌, ◌<◌, ◌-◌, ℕ, Bool, List, [], ◌∷◌, ◌++◌, Option, Ok, refl, ap, ◌∙◌}
-use Rattle.fast_value.specs.declared.kind.Presence.{Presence}
-use Rattle.fast_value.specs.declared.scalar.Scalar.{Scalar}
-use Rattle.fast_template.specs.declared.resolved.FieldPart.{FieldPart}
-use Rattle.fast_template.specs.Resolved.{Instructions, whole_field, then_instruction, part_needs_bit}
-use Rattle.fast_dictionary.specs.Dictionary.{Dictionary, entry_at, set_entry}
-use Rattle.fast_dictionary.specs.declared.entry.Entry.{Entry}
-use Rattle.fast_field.specs.Bases.{next}
-use Rattle.fast_field.specs.FieldReading.{field_at}
-use Rattle.fast_wire.specs.declared.level.Level.{Level}
-use Rattle.fast_stream.specs.Bits.{bit_for, after_bit}
-use Rattle.fast_stream.specs.Nodes.{single}
-use Rattle.fast_walk.specs.OpenSegments.{Body, Next, at_instruction, cursor, top_on}
-use Rattle.fast_walk.specs.Passing.{Passes}
-use Rattle.fast_walk.specs.Received.{Received, Took, moved, passed}
-use Rattle.fast_walk.specs.Walks.{bare_next}
+use Rattle.fast_walk.proofs.Common.{◌≡◌, ◌<◌, ◌-◌, ℕ, Bool, List, [], ◌∷◌, ◌++◌, Option, Ok, refl, ap, ◌∙◌, Presence, Scalar, FieldPart, Instructions, whole_field, then_instruction, part_needs_bit, Dictionary, entry_at, set_entry, Entry, next, field_at, Level, bit_for, after_bit, single, Body, Next, at_instruction, cursor, top_on, Passes, Received, Took, moved, passed, bare_next}
 use Rattle.fast_walk.proofs.Putting.{set_written}
 use Rattle.fast_walk.proofs.Steps.{count_goes, part_goes}
 use Rattle.fast_walk.proofs.Walking.{field_on, is_instruction}

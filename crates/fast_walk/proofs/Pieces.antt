@@ -1,40 +1,7 @@
 -- How a walk takes a piece, and where it stops at one.
-use Rattle.std.proofs.Common.{◌≡◌, ◌≢◌, ◌≤◌, ◌<◌, ◌-◌, ◌++◌, ◌+◌, ◌*◌, ◌∷◌, [], ℕ, Bool, List, Option, Ok, Err, drop, length, get_or, map, refl, sym, ap, ◌∙◌, arith}
-use Rattle.std.specs.Global.{Vec}
-use Rattle.std.specs.Prelude.{IsTrue}
-use Rattle.fast_value.specs.declared.key.Key.{Key}
-use Rattle.fast_value.specs.declared.kind.Kind.{Kind}
-use Rattle.fast_value.specs.declared.kind.Part.{Part}
-use Rattle.fast_value.specs.declared.kind.Presence.{Presence}
-use Rattle.fast_value.specs.declared.scalar.Scalar.{Scalar}
-use Rattle.fast_template.specs.declared.resolved.FieldPart.{FieldPart}
-use Rattle.fast_template.specs.declared.resolved.Flat.{Flat, fold_out-Flat}
-use Rattle.fast_template.specs.declared.resolved.Flat.TheVariants.{Field, Parts, Group, Sequence, outs-Field, outs-Parts, outs-Group, outs-Sequence}
-use Rattle.fast_template.specs.Resolved.{Instruction, Instructions, flat_step, instruction_of, whole_field, field_in_parts, group_of, sequence_of, then_instruction, list_of, part_needs_bit}
-use Rattle.fast_dictionary.specs.Dictionary.{Dictionary}
-use Rattle.fast_field.specs.Parts.{IsKindOfPart}
-use Rattle.fast_field.specs.declared.fault.FieldFault.{FieldFault}
-use Rattle.fast_field.specs.declared.fault.FieldFault.TheVariants as fault
-use Rattle.fast_wire.specs.declared.level.Level.{Level}
-use Rattle.fast_stream.specs.Bits.{after_bit, bit_for}
-use Rattle.fast_stream.specs.Faults.{Stop, cause_of_field}
-use Rattle.fast_stream.specs.Nodes.{Item}
-use Rattle.fast_stream.specs.Reading.{Cursor, field_part_at, node_at, piece_at, stopped}
-use Rattle.fast_stream.specs.declared.fault.Cause.TheVariants as cause
-use Rattle.fast_walk.specs.OpenSegments.{Inside, Next, all_around, at_instruction, cursor, top_on}
-use Rattle.fast_walk.specs.Pieces.{CanWalk, Holds, Reaches, Stops}
-use Rattle.fast_walk.specs.Told.{IsTold, KeepScalars}
-use Rattle.fast_walk.specs.Received.{CarriesOpen, Faults, Having, Received, Took, moved}
-use Rattle.fast_walk.specs.Room.{CarriesRoom, HasRoomBehind, left_around}
-use Rattle.fast_walk.specs.Walks.{AreAllServed, AreServed, At, Begins, HaltsAs, IsBehind, IsNextServed, IsOpened, IsServed, IsWaitingServed, Moves, bare_next, frame_of, next_of, rank_of, reads_on, weight_of}
-use Rattle.fast_walk.specs.declared.halt.Halt.{Halt}
-use Rattle.fast_walk.specs.declared.walk.Frame.{Frame as FrameNow}
+use Rattle.fast_walk.proofs.Common.{◌≡◌, ◌≢◌, ◌≤◌, ◌<◌, ◌-◌, ◌++◌, ◌+◌, ◌*◌, ◌∷◌, [], ℕ, Bool, List, Option, Ok, Err, drop, length, get_or, map, refl, sym, ap, ◌∙◌, arith, Vec, IsTrue, Key, Kind, Part, Presence, Scalar, FieldPart, Flat, fold_out-Flat, Field, Parts, Group, Sequence, outs-Field, outs-Parts, outs-Group, outs-Sequence, Instruction, Instructions, flat_step, instruction_of, whole_field, field_in_parts, group_of, sequence_of, then_instruction, list_of, part_needs_bit, Dictionary, IsKindOfPart, FieldFault, Level, after_bit, bit_for, Stop, cause_of_field, Item, Cursor, field_part_at, node_at, piece_at, stopped, Cause, Inside, Next, all_around, at_instruction, cursor, top_on, CanWalk, Holds, Reaches, Stops, IsTold, KeepScalars, CarriesOpen, Faults, Having, Received, Took, moved, CarriesRoom, HasRoomBehind, left_around, AreAllServed, AreServed, At, Begins, HaltsAs, IsBehind, IsNextServed, IsOpened, IsServed, IsWaitingServed, Moves, bare_next, frame_of, next_of, rank_of, reads_on, weight_of, Halt, Frame as FrameNow, Walk as WalkNow, bytes_from, IsBytes}
 use Rattle.fast_walk.specs.declared.walk.Next.{Next as NextNow}
-use Rattle.fast_walk.specs.declared.walk.Next.TheVariants as next
-use Rattle.fast_walk.specs.declared.walk.Walk.{Walk as WalkNow}
 use Rattle.fast_walk.proofs.Steps.{count_goes, items_on, part_goes, part_stops}
-use Rattle.fast_field.proofs.ReadFields.{bytes_from}
-use Rattle.fast_wire.specs.Reader.{IsBytes}
 use Rattle.fast_walk.proofs.Telling.{asked_for, taken_keeps, told_part}
 use Rattle.fast_walk.proofs.Walking.{goes_on, is_instruction, left_last, piece_on, piece_stops_on, served_push}
 
@@ -63,7 +30,7 @@ not_counted level (whole_field name number presence whole) c s h = rw h refl
 not_counted level i c s h = rw h refl
 
 pub weighs : (n : NextNow) → (0 < weight_of n) × (weight_of n ≤ 2)
-weighs next.Instruction = (omega arith, omega arith)
+weighs NextNow.Instruction = (omega arith, omega arith)
 weighs n = (omega arith, omega arith)
 
 module _ {serves : Key → Bool} {d : Dictionary} {Room : List (List Bool) → List Bool → Bool} {w : WalkNow} where
@@ -117,17 +84,17 @@ module _ {R : Type 0} {level : Level} {Has : Having R} {Room : R → List (List 
 
   -- a node too many
   pub count_stops : {serves : Key → Bool} {j i : Instruction} {is : Instructions} → CanWalk serves d (Room r) w → Begins w j is → j ≡ i
-      → ((e : Dictionary) (bits : List Bool) (b : List ℕ) → node_at (number_in i) (cursor e bits w.spare b) ≡ stopped h.number b h.cause) → h.cause ≢ cause.Memory → Stops level Has Room w r d w r d bytes h
+      → ((e : Dictionary) (bits : List Bool) (b : List ℕ) → node_at (number_in i) (cursor e bits w.spare b) ≡ stopped h.number b h.cause) → h.cause ≢ Cause.Memory → Stops level Has Room w r d w r d bytes h
   count_stops {i = i} can first same stops other = stops_here can (halts_at level d bytes h (rw same at first) (not_counted level i _ _ (stops d w.bits bytes)))
 
   -- a part that has a fault
   pub fault_stops : {serves : Key → Bool} {s : R} {e : Dictionary} {f : FieldFault} {asked : Level} {needs bit : Bool} (p : FieldPart) → CanWalk serves d (Room r) w → asked ≡ level → needs ≡ part_needs_bit p → bit ≡ bit_for needs w.bits
       → h.cause ≡ cause_of_field f → h.number ≡ p.number
-      → (f ≢ fault.Memory → Faults asked p bit d e bytes f (CarriesOpen (Has r) (Has s))) → (f ≢ fault.Memory → CarriesRoom (Room r) (Room s))
+      → (f ≢ FieldFault.Memory → Faults asked p bit d e bytes f (CarriesOpen (Has r) (Has s))) → (f ≢ FieldFault.Memory → CarriesRoom (Room r) (Room s))
       → (((spare : ℕ) → field_part_at level p (cursor d w.bits spare bytes) ≡ stopped h.number bytes h.cause) → HaltsAs level w d bytes h)
-      → h.cause ≢ cause.Memory → Stops level Has Room w r d w s e bytes h
+      → h.cause ≢ Cause.Memory → Stops level Has Room w r d w s e bytes h
   fault_stops {serves} {s} {e} {f} p can l n b caused numbered faults room halts other =
-      let memory : f ≢ fault.Memory = λ is. other (caused ∙ ap cause_of_field is) in
+      let memory : f ≢ FieldFault.Memory = λ is. other (caused ∙ ap cause_of_field is) in
       let stops = faults memory in
       record {
         halts = halts (λ spare. rw (caused, numbered) (part_stops level p d w.bits spare bytes f (rw (l, b, n) at stops.0)));
@@ -140,9 +107,9 @@ module _ {R : Type 0} {level : Level} {Has : Having R} {Room : R → List (List 
   -- the first part of an instruction
   pub first_stops : {serves : Key → Bool} {s : R} {e : Dictionary} {f : FieldFault} {asked : Level} {needs bit : Bool} {j i : Instruction} {is : Instructions} (p : FieldPart) → CanWalk serves d (Room r) w → Begins w j is → j ≡ i → 0 < w.spare
       → asked ≡ level → needs ≡ part_needs_bit p → bit ≡ bit_for needs w.bits → h.cause ≡ cause_of_field f → h.number ≡ p.number
-      → (f ≢ fault.Memory → Faults asked p bit d e bytes f (CarriesOpen (Has r) (Has s))) → (f ≢ fault.Memory → CarriesRoom (Room r) (Room s))
+      → (f ≢ FieldFault.Memory → Faults asked p bit d e bytes f (CarriesOpen (Has r) (Has s))) → (f ≢ FieldFault.Memory → CarriesRoom (Room r) (Room s))
       → ((c k : Cursor) (t : Stop) → node_at (number_in i) c ≡ Ok k → field_part_at level p k ≡ Err t → piece_at level i c ≡ Err t)
-      → h.cause ≢ cause.Memory → Stops level Has Room w r d w s e bytes h
+      → h.cause ≢ Cause.Memory → Stops level Has Room w r d w s e bytes h
   first_stops {i = i} p can first same some l n b caused numbered faults room begins =
       fault_stops p can l n b caused numbered faults room (λ stops. halts_at level d bytes h (rw same at first) (begins _ _ _ (count_goes (number_in i) w.spare d w.bits bytes some) (stops (w.spare - 1))))
 

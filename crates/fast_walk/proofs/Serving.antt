@@ -1,22 +1,5 @@
 -- Each part of a set's template is told as such, and its key is a key of the set.
-use Rattle.std.proofs.Common.{◌≡◌, ℕ, Bool, true, false, List, [], ◌∷◌, map, Option, Some, refl, subst, arith}
-use Rattle.std.specs.Prelude.{Contains, IsTrue, find, option_map, if◌then◌else◌}
-use Rattle.std.proofs.lemmas.List.Elements.{Contains-append_left, Contains-append_right}
-use Rattle.std.specs.List.{AllByRecursion}
-use Rattle.fast_value.specs.declared.key.Key.{Key}
-use Rattle.fast_value.specs.declared.kind.Kind.{Kind}
-use Rattle.fast_value.specs.declared.kind.Kind.TheVariants as kind
-use Rattle.fast_value.specs.declared.kind.Part.{Part}
-use Rattle.fast_value.specs.declared.kind.Presence.{Presence}
-use Rattle.fast_template.specs.declared.resolved.FieldPart.{FieldPart}
-use Rattle.fast_value.specs.declared.kind.Part.TheVariants as part
-use Rattle.fast_value.specs.declared.kind.Presence.TheVariants.{Mandatory}
-use Rattle.fast_template.specs.declared.resolved.FlatTemplate.{FlatTemplate}
-use Rattle.fast_template.specs.Resolved.{Instruction, Instructions, whole_field, field_in_parts, group_of, sequence_of, no_instructions, then_instruction, keys_of_one, keys_of, Resolved, resolved_of, list_of}
-use Rattle.fast_template.specs.TemplateSets.{TemplateList, IsPartOf, IsSound, HasTypedParts, HaveTypedParts, templates_in, keys_of_all, identifier_key, has_id, template_of}
-use Rattle.fast_stream.specs.Streams.{members_of}
-use Rattle.fast_walk.specs.Walks.{IsServed, IsServedWith, AreServed}
-use Rattle.fast_walk.specs.Traversals.{ServesAll}
+use Rattle.fast_walk.proofs.Common.{◌≡◌, ℕ, Bool, true, false, List, [], ◌∷◌, map, Option, Some, refl, subst, arith, Contains, IsTrue, find, option_map, if◌then◌else◌, Contains-append_left, Contains-append_right, AllByRecursion, Key, Kind, Part, Presence, FieldPart, Mandatory, FlatTemplate, Instruction, Instructions, whole_field, field_in_parts, group_of, sequence_of, no_instructions, then_instruction, keys_of_one, keys_of, Resolved, resolved_of, list_of, TemplateList, IsPartOf, IsSound, HasTypedParts, HaveTypedParts, templates_in, keys_of_all, identifier_key, has_id, template_of, members_of, IsServed, IsServedWith, AreServed, ServesAll}
 use Rattle.fast_walk.proofs.Telling.{part_told}
 
 abbrev Serves : (Key → Bool) → List Key → Type 0
@@ -27,12 +10,12 @@ part_served serves part kind presence p typed h = ((h, part_told part kind prese
 
 mutual
   served_one : (serves : Key → Bool) (i : Instruction) → HasTypedParts i → Serves serves (keys_of_one i) → IsServed serves i
-  served_one serves (whole_field name number presence whole) typed h = part_served serves part.Whole whole.kind presence whole typed (h whole.key (0, omega arith, refl))
+  served_one serves (whole_field name number presence whole) typed h = part_served serves Part.Whole whole.kind presence whole typed (h whole.key (0, omega arith, refl))
   served_one serves (field_in_parts name number presence exponent mantissa) typed h =
-      (part_served serves part.Exponent kind.Int32 presence exponent typed.0 (h exponent.key (0, omega arith, refl)), part_served serves part.Mantissa kind.Int64 Mandatory mantissa typed.1 (h mantissa.key (1, omega arith, refl)))
+      (part_served serves Part.Exponent Kind.Int32 presence exponent typed.0 (h exponent.key (0, omega arith, refl)), part_served serves Part.Mantissa Kind.Int64 Mandatory mantissa typed.1 (h mantissa.key (1, omega arith, refl)))
   served_one serves (group_of name number presence members) typed h = served_list serves members typed h
   served_one serves (sequence_of name number presence length members) typed h =
-      (part_served serves part.Length kind.UInt32 presence length typed.0 (h length.key (0, omega arith, refl)), served_list serves members typed.1 (λ k there. h k (Contains-append_right (length.key ∷ []) (keys_of members) k there)))
+      (part_served serves Part.Length Kind.UInt32 presence length typed.0 (h length.key (0, omega arith, refl)), served_list serves members typed.1 (λ k there. h k (Contains-append_right (length.key ∷ []) (keys_of members) k there)))
 
   served_list : (serves : Key → Bool) (is : Instructions) → HaveTypedParts is → Serves serves (keys_of is) → AreServed serves is
   served_list serves no_instructions typed h = tt

@@ -1,11 +1,5 @@
 -- A map of one group or two that reaches no further than its last 1 is none that the strict level refuses.
-use Rattle.std.proofs.Common.{◌≡◌, ◌≤◌, ◌<◌, ℕ, ◌%◌, Bool, true, false, nat_eq, nat_le, List, [], ◌∷◌, Ok, refl, arith, ◌⊎◌, inl, inr}
-use Rattle.std.proofs.lemmas.Bool.Decides.{nat_tests}
-use Rattle.fast_wire.specs.Level.{judge, overlong_map}
-use Rattle.fast_wire.specs.Reading.{entity_at}
-use Rattle.fast_wire.specs.declared.fault.WireFault.{WireFault}
-use Rattle.fast_wire.specs.declared.level.Level.TheVariants.{Strict}
-use Rattle.fast_walk.specs.ShortMaps.{BeginsShortMap}
+use Rattle.fast_walk.proofs.Common.{◌≡◌, ◌≤◌, ◌<◌, ℕ, ◌%◌, Bool, true, false, nat_eq, nat_le, List, [], ◌∷◌, Ok, refl, arith, ◌⊎◌, inl, inr, nat_tests, judge, overlong_map, entity_at, WireFault, Strict, BeginsShortMap}
 
 one : {F : Type 0} (of_wire : WireFault → F) (f : F) (b : ℕ) (bs : List ℕ) → nat_le 128 b ≡ true → judge Strict 256 overlong_map of_wire f (b ∷ bs) ≡ Ok tt
 unfolding entity_at

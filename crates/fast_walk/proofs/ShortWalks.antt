@@ -1,39 +1,18 @@
 -- A walk that waits for more bytes has few of them before it.
-use Rattle.std.proofs.Common.{◌≡◌, ◌≤◌, ◌+◌, ℕ, Bool, List, [], ◌∷◌, length, length-drop, drop, map, Err, refl, sym, ◌∙◌, arith}
+use Rattle.fast_walk.proofs.Common.{◌≡◌, ◌≤◌, ◌+◌, ℕ, Bool, List, [], ◌∷◌, length, length-drop, drop, map, Err, refl, sym, ◌∙◌, arith, no_instructions, Resolved, list_of, Dictionary, ◌>>=◌, some_set, Level, Usual, Strict, Cause, Truncated, Memory, Halt, Items, node_limit, identifier, Cursor, Reads, field_part_at, decimal_of, segment_at, closing, end_at, each_at, body_at, named_at, in_template, message_at, Body, Inside, in_group, in_sequence, Waiting, ended_on, Next, at_instruction, at_mantissa, at_element, Sequel, body_on, elements_on, top_on, behind_inside, all_around, cursor, Received, moved, opened, identifier_on, stop_of, HaltsAs, bare, bare_next, bare_inside, next_of, inside_of, frame_of, Frame as FrameNow, Walk as WalkNow, IsShort, short_ok, short_then, part_short, decimal_short, each_short, segment_short, closing_short, end_short, body_short, short_in, message_then, message_ok, identifier_short, message_short}
 use Rattle.std.specs.FinMap as finite
-use Rattle.fast_template.specs.Resolved.{no_instructions, Resolved, list_of}
-use Rattle.fast_dictionary.specs.Dictionary.{Dictionary}
-use Rattle.fast_wire.specs.Reading.{◌>>=◌}
-use Rattle.fast_wire.specs.Level.{some_set}
-use Rattle.fast_wire.specs.declared.level.Level.{Level}
-use Rattle.fast_wire.specs.declared.level.Level.TheVariants.{Usual, Strict}
-use Rattle.fast_stream.specs.declared.fault.Cause.{Cause}
-use Rattle.fast_stream.specs.declared.fault.Cause.TheVariants.{Truncated, Memory}
-use Rattle.fast_walk.specs.declared.halt.Halt.{Halt}
-use Rattle.fast_stream.specs.Nodes.{Items, node_limit}
-use Rattle.fast_stream.specs.Streams.{identifier}
-use Rattle.fast_stream.specs.Reading.{Cursor, Reads, field_part_at, decimal_of, segment_at, closing, end_at, each_at, body_at, named_at, in_template, message_at}
-use Rattle.fast_walk.specs.OpenSegments.{Body, Inside, in_group, in_sequence, Waiting, ended_on, Next, at_instruction, at_mantissa, at_element, Sequel, body_on, elements_on, top_on, behind_inside, all_around, cursor}
-use Rattle.fast_walk.specs.Received.{Received, moved, opened}
-use Rattle.fast_walk.specs.Traversals.{identifier_on, stop_of}
-use Rattle.fast_walk.specs.Walks.{HaltsAs, bare, bare_next, bare_inside, next_of, inside_of, frame_of}
 use Rattle.fast_walk.specs.declared.walk.Next.{Next as NextNow}
-use Rattle.fast_walk.specs.declared.walk.Next.TheVariants as next
 use Rattle.fast_walk.specs.declared.walk.Inside.{Inside as InsideNow}
-use Rattle.fast_walk.specs.declared.walk.Inside.TheVariants as inside
-use Rattle.fast_walk.specs.declared.walk.Frame.{Frame as FrameNow}
-use Rattle.fast_walk.specs.declared.walk.Walk.{Walk as WalkNow}
-use Rattle.fast_stream.proofs.ShortPieces.{IsShort, short_ok, short_then, part_short, decimal_short, each_short, segment_short, closing_short, end_short, body_short, short_in, message_then, message_ok, identifier_short, message_short}
 
 -- ---- a walk, whatever was received
 
 next_is_bare : (n : NextNow) → bare_next (next_of n) ≡ next_of n
-next_is_bare next.Instruction = refl
+next_is_bare NextNow.Instruction = refl
 next_is_bare n = refl
 
 inside_is_bare : (i : InsideNow) → bare_inside (inside_of i) ≡ inside_of i
-inside_is_bare (inside.Group number) = refl
-inside_is_bare (inside.Element q) = refl
+inside_is_bare (InsideNow.Group number) = refl
+inside_is_bare (InsideNow.Element q) = refl
 
 frames_are_bare : (fs : List FrameNow) → map bare (map frame_of fs) ≡ map frame_of fs
 frames_are_bare [] = refl

@@ -1,32 +1,5 @@
 -- How reading goes on from one piece to the next.
-use Rattle.std.proofs.Common.{◌≡◌, ℕ, zero, suc, ◌-◌, ◌<◌, Bool, true, List, [], ◌∷◌, ◌++◌, Option, Some, Result, Ok, Err, refl, sym, ap, ◌∙◌, arith, append-nil}
-use Rattle.std.specs.Prelude.{IsErrAnd}
-use Rattle.fast_value.specs.declared.scalar.Scalar.{Scalar}
-use Rattle.fast_value.specs.declared.scalar.Scalar.TheVariants.{U32}
-use Rattle.fast_template.specs.declared.resolved.FieldPart.{FieldPart}
-use Rattle.fast_template.specs.Resolved.{Instructions, no_instructions, has_map}
-use Rattle.fast_dictionary.specs.Dictionary.{Dictionary}
-use Rattle.fast_wire.specs.Reading.{◌>>=◌, entity_at}
-use Rattle.fast_wire.specs.declared.fault.WireFault.{WireFault}
-use Rattle.fast_wire.proofs.GoingOn.{entity_goes}
-use Rattle.fast_wire.specs.Level.{judge, verdict, overlong_map, some_set, IsLeftClear}
-use Rattle.fast_wire.specs.declared.level.Level.{Level}
-use Rattle.fast_wire.specs.declared.level.Level.TheVariants.{Usual, Strict}
-use Rattle.fast_stream.specs.Nodes.{Item, group_items, sequence_elements, Items, no_items, then_item, items_of, Elements, no_elements, then_element, elements_of}
-use Rattle.fast_stream.specs.Bits.{bit_for}
-use Rattle.fast_stream.specs.declared.fault.Cause.TheVariants.{R7, R8}
-use Rattle.fast_stream.specs.Faults.{Stop, cause_of_wire}
-use Rattle.fast_stream.specs.Reading.{Cursor, Reads, node_at, field_part_at, own_map_at, closing, segment_at, each_at, elements_at, group_at, body_at}
-use Rattle.fast_walk.specs.OpenSegments.{items_before, elements_before, Body, Sequel, ended_on, in_group, in_sequence, Waiting, with_item, under_bits, body_on, elements_on, behind_inside, around_on, all_around}
-use Rattle.fast_template.specs.Resolved.{part_needs_bit}
-use Rattle.fast_dictionary.specs.Dictionary.{entry_at}
-use Rattle.fast_field.specs.declared.fault.FieldFault.{FieldFault}
-use Rattle.fast_field.specs.FieldReading.{field_at}
-use Rattle.fast_stream.specs.Bits.{after_bit}
-use Rattle.fast_stream.specs.Bodies.{written}
-use Rattle.fast_stream.specs.Faults.{cause_of_field}
-use Rattle.fast_stream.specs.Reading.{stopped}
-use Rattle.fast_walk.specs.OpenSegments.{cursor}
+use Rattle.fast_walk.proofs.Common.{◌≡◌, ℕ, zero, suc, ◌-◌, ◌<◌, Bool, true, List, [], ◌∷◌, ◌++◌, Option, Some, Result, Ok, Err, refl, sym, ap, ◌∙◌, arith, append-nil, IsErrAnd, Scalar, U32, FieldPart, Instructions, no_instructions, has_map, Dictionary, ◌>>=◌, entity_at, WireFault, entity_goes, judge, verdict, overlong_map, some_set, IsLeftClear, Level, Usual, Strict, Item, group_items, sequence_elements, Items, no_items, then_item, items_of, Elements, no_elements, then_element, elements_of, bit_for, R7, R8, Stop, cause_of_wire, Cursor, Reads, node_at, field_part_at, own_map_at, closing, segment_at, each_at, elements_at, group_at, body_at, items_before, elements_before, Body, Sequel, ended_on, in_group, in_sequence, Waiting, with_item, under_bits, body_on, elements_on, behind_inside, around_on, all_around, part_needs_bit, entry_at, FieldFault, field_at, after_bit, written, cause_of_field, stopped, cursor}
 
 -- what the exit of a `?` hands on
 pub exit_is : {T E : Type 0} {e : E} (r : Result T E) → IsErrAnd r (λ x. x ≡ e) → r ≡ Err e

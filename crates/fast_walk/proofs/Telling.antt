@@ -1,46 +1,6 @@
 -- What a receiver is told is true of the parts of a set and of the entries along a stream, and what it says of values.
-use Rattle.std.proofs.Common.{◌≡◌, ℕ, Bool, true, false, List, [], Option, Some, None, Ok, refl, sym, ap, subst, subst₂, ◌∙◌, append-nil, drop, get_or, ◌<◌}
-use Rattle.std.specs.Prelude.{IfSome, IsTrue, cond}
+use Rattle.fast_walk.proofs.Common.{◌≡◌, ℕ, Bool, true, false, List, [], Option, Some, None, Ok, refl, sym, ap, subst, subst₂, ◌∙◌, append-nil, drop, get_or, ◌<◌, IfSome, IsTrue, cond, is_eq, is_utf8-from_IsUtf8, IsUtf8-from_is_utf8, IsBytes, done, Level, Usual, key_cmp, Key, Kind, Part, Presence, Mandatory, Scalar, Unicode, is_of, IsScalar, FieldPart, part_needs_bit, IsInitial, IsPartOf, Entry, Undefined, Assigned, Dictionary, entry_at, entry_at-empty, entry_at-set_entry, FieldFault, next, field_at, Form, IsBitOf, IsFieldPart, IsKindOfPart, HoldsScalar, field_forms, values_within, entries_within, read_usually, bytes_from, value_kind, value_there, bit_for, with_entry, written, identifier, Took, TookFrom, HoldScalars, IsKeptScalar, KeepsScalar, KeepScalars, KeepsInitial, IsTold}
 use Rattle.std.specs.FinMap as map
-use Rattle.std.specs.Ordering.{is_eq}
-use Rattle.std.proofs.lemmas.Str.{is_utf8-from_IsUtf8, IsUtf8-from_is_utf8}
-use Rattle.fast_wire.specs.Reader.{IsBytes}
-use Rattle.fast_wire.proofs.Readers.{done}
-use Rattle.fast_wire.specs.declared.level.Level.{Level}
-use Rattle.fast_wire.specs.declared.level.Level.TheVariants.{Usual}
-use Rattle.fast_value.specs.Key.{key_cmp}
-use Rattle.fast_value.specs.declared.key.Key.{Key}
-use Rattle.fast_value.specs.declared.kind.Kind.{Kind}
-use Rattle.fast_value.specs.declared.kind.Kind.TheVariants as kind
-use Rattle.fast_value.specs.declared.kind.Part.{Part}
-use Rattle.fast_value.specs.declared.kind.Part.TheVariants as part
-use Rattle.fast_value.specs.declared.kind.Presence.{Presence}
-use Rattle.fast_value.specs.declared.kind.Presence.TheVariants.{Mandatory}
-use Rattle.fast_value.specs.declared.scalar.Scalar.{Scalar}
-use Rattle.fast_value.specs.declared.scalar.Scalar.TheVariants.{Unicode}
-use Rattle.fast_value.specs.Scalar.{is_of, IsScalar}
-use Rattle.fast_template.specs.declared.resolved.FieldPart.{FieldPart}
-use Rattle.fast_template.specs.Resolved.{part_needs_bit}
-use Rattle.fast_template.specs.TemplateSets.{IsInitial, IsPartOf}
-use Rattle.fast_dictionary.specs.declared.entry.Entry.{Entry}
-use Rattle.fast_dictionary.specs.declared.entry.Entry.TheVariants.{Undefined, Assigned}
-use Rattle.fast_dictionary.specs.Dictionary.{Dictionary, entry_at, entry_at-empty, entry_at-set_entry}
-use Rattle.fast_field.specs.declared.fault.FieldFault.{FieldFault}
-use Rattle.fast_field.specs.Bases.{next}
-use Rattle.fast_field.specs.FieldReading.{field_at}
-use Rattle.fast_field.specs.Fields.{Form}
-use Rattle.fast_field.specs.Parts.{IsBitOf, IsFieldPart, IsKindOfPart}
-use Rattle.fast_field.specs.Within.{HoldsScalar}
-use Rattle.fast_field.proofs.FieldForms.{field_forms}
-use Rattle.fast_field.proofs.FieldsWithin.{values_within, entries_within}
-use Rattle.fast_field.proofs.FieldsBehave.{read_usually}
-use Rattle.fast_field.proofs.ReadFields.{bytes_from}
-use Rattle.fast_field.proofs.FieldsWithin.{value_kind, value_there}
-use Rattle.fast_stream.specs.Bits.{bit_for}
-use Rattle.fast_stream.specs.Bodies.{with_entry, written}
-use Rattle.fast_stream.specs.Streams.{identifier}
-use Rattle.fast_walk.specs.Received.{Took, TookFrom}
-use Rattle.fast_walk.specs.Told.{HoldScalars, IsKeptScalar, KeepsScalar, KeepScalars, KeepsInitial, IsTold}
 
 -- ---- entries within their types
 
@@ -102,11 +62,11 @@ part_told part kind presence p h = assumption (initial_kept p p.initial h.typed.
 pub told_part : (part : Part) (kind : Kind) (p : FieldPart) → IsKindOfPart part kind → IsTold part kind p → IsFieldPart p
 told_part part kind p k h = assumption (kept_initial p p.initial h.initial_fits, subst₂ IsKindOfPart (sym h.part_is) (sym h.kind_is) k)
 
-pub identifier_told : IsTold part.Whole kind.UInt32 identifier
+pub identifier_told : IsTold Part.Whole Kind.UInt32 identifier
 identifier_told = record { part_is = refl; kind_is = refl; operator_applies = refl; initial_fits = tt; constant_has_value = λ e. absurd cc; default_has_value = λ e m. absurd cc }
 
 pub identifier_is : IsFieldPart identifier
-identifier_is = told_part part.Whole kind.UInt32 identifier tt identifier_told
+identifier_is = told_part Part.Whole Kind.UInt32 identifier tt identifier_told
 
 -- ---- what was taken
 

@@ -1,11 +1,6 @@
 -- What nodes with others inside are to contracts, level by level.
-use Rattle.std.proofs.Common.{◌≡◌, List, [], ◌∷◌, refl, ap, ◌∙◌, map}
-use Rattle.std.specs.Global.{Vec, Global}
-use Rattle.std.specs.formers.vec.Vec.{mapped}
-use mathlib.Core.Former.{this}
-use Rattle.fast_stream.specs.declared.message.Node.{Node, fold_out-Node}
+use Rattle.fast_walk.proofs.Common.{◌≡◌, List, [], ◌∷◌, refl, ap, ◌∙◌, map, Vec, Global, mapped, this, Node, fold_out-Node, Item, Items, group_items, sequence_elements, elements_of, items_of, item_of, node_step}
 use Rattle.fast_stream.specs.declared.message.Node.TheVariants.{Group, outs-Group, Sequence, outs-Sequence}
-use Rattle.fast_stream.specs.Nodes.{Item, Items, group_items, sequence_elements, elements_of, items_of, item_of, node_step}
 
 pub item_of-group : (ns : Vec Node) → item_of (Group ns) ≡ group_items (items_of (map item_of ns.items))
 item_of-group ns = fold_out-Node Item node_step (Group ns) ∙ rw (outs-Group ns) refl

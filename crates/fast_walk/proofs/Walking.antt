@@ -1,30 +1,7 @@
 -- How reading goes on, whatever was received.
-use Rattle.std.proofs.Common.{◌≡◌, ◌<◌, ◌-◌, ℕ, zero, suc, ℤ, Bool, true, List, [], ◌∷◌, ◌++◌, length, map, slice_index_or, slice_set, Option, Some, None, Ok, Err, refl, sym, ap, ◌∙◌, arith}
-use Rattle.std.proofs.lemmas.List.{map_push}
-use Rattle.fast_value.specs.declared.key.Key.{Key}
-use Rattle.fast_value.specs.declared.scalar.Scalar.{Scalar}
-use Rattle.fast_value.specs.declared.scalar.Scalar.TheVariants.{I32, I64, Decimal}
-use Rattle.fast_value.specs.declared.kind.Presence.{Presence}
-use Rattle.fast_template.specs.declared.resolved.FieldPart.{FieldPart}
-use Rattle.fast_template.specs.Resolved.{Instruction, Instructions, whole_field, field_in_parts, no_instructions, then_instruction, list_of}
-use Rattle.fast_wire.specs.Level.{IsLeftClear, some_set}
-use Rattle.fast_wire.specs.declared.level.Level.{Level}
-use Rattle.fast_wire.specs.declared.level.Level.TheVariants.{Strict}
-use Rattle.fast_stream.specs.declared.fault.Cause.TheVariants.{R8}
-use Rattle.fast_dictionary.specs.Dictionary.{Dictionary}
-use Rattle.fast_stream.specs.Nodes.{single, Elements, Items, items_of, sequence_elements, elements_of}
-use Rattle.fast_stream.specs.Faults.{Stop}
-use Rattle.fast_stream.specs.Reading.{Cursor, Reads, node_at, field_part_at, own_map_at, piece_at, stopped}
-use Rattle.fast_walk.specs.OpenSegments.{Body, Sequel, Waiting, Inside, in_group, in_sequence, Next, at_instruction, at_mantissa, at_element, with_item, with_element, cursor, fewer, under_bits, body_on, mantissa_on, top_on, behind_inside, all_around}
-use Rattle.fast_walk.specs.Received.{Having, Received, Same, Goes, after_sequence, in_element, behind_last, closed_in, ended_in}
-use Rattle.fast_walk.specs.Room.{left_around}
-use Rattle.fast_walk.specs.Walks.{At, IsAt, IsOpened, bare_inside, bare, bare_next, bare_sequel, frame_of, inside_of, next_of, reads_on, sequel_of, AreAllServed, IsLast, IsWaitingServed}
-use Rattle.fast_walk.specs.declared.walk.Frame.{Frame as FrameNow}
+use Rattle.fast_walk.proofs.Common.{◌≡◌, ◌<◌, ◌-◌, ℕ, zero, suc, ℤ, Bool, true, List, [], ◌∷◌, ◌++◌, length, map, slice_index_or, slice_set, Option, Some, None, Ok, Err, refl, sym, ap, ◌∙◌, arith, map_push, Key, Scalar, I32, I64, Decimal, Presence, FieldPart, Instruction, Instructions, whole_field, field_in_parts, no_instructions, then_instruction, list_of, IsLeftClear, some_set, Level, Strict, R8, Dictionary, single, Elements, Items, items_of, sequence_elements, elements_of, Stop, Cursor, Reads, node_at, field_part_at, own_map_at, piece_at, stopped, Body, Sequel, Waiting, Inside, in_group, in_sequence, Next, at_instruction, at_mantissa, at_element, with_item, with_element, cursor, fewer, under_bits, body_on, mantissa_on, top_on, behind_inside, all_around, Having, Received, Same, Goes, after_sequence, in_element, behind_last, closed_in, ended_in, left_around, At, IsAt, IsOpened, bare_inside, bare, bare_next, bare_sequel, frame_of, inside_of, next_of, reads_on, sequel_of, AreAllServed, IsLast, IsWaitingServed, Frame as FrameNow, Walk as WalkNow, get_or-append_seam, set-append_seam, length-append}
 use Rattle.fast_walk.specs.declared.walk.Next.TheVariants as next
 use Rattle.fast_walk.specs.declared.walk.Sequel.{Sequel as SequelNow}
-use Rattle.fast_walk.specs.declared.walk.Walk.{Walk as WalkNow}
-use Rattle.std.proofs.Math.Seq.{get_or-append_seam, set-append_seam}
-use Rattle.std.proofs.Common.{length-append}
 use Rattle.fast_walk.proofs.Steps.{after_piece, all_around-more, elements_before-end, all_around-stops, count_goes, end_goes, end_stops, items_on, set_stops, some_left, whole_goes}
 use Rattle.fast_walk.proofs.Steps.{element_on as element_around_on}
 

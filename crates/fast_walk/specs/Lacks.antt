@@ -1,30 +1,14 @@
 -- How many bytes more a piece lacks at least that has begun.
 use Rattle.std.specs.Prelude.{◌≡◌, ◌≢◌, ◌≤◌, ◌<◌, ◌+◌, ℕ, Bool, true, false, List, [], ◌++◌, length, Result, Ok, Err, ◌⊎◌, pos}
 use Rattle.std.specs.List.{AllByRecursion}
-use Rattle.fast_wire.specs.Reading.{unsigned_at, unsigned_nullable_at}
-use Rattle.fast_wire.specs.declared.nullable.Nullable.TheVariants.{Value}
-use Rattle.fast_value.specs.declared.kind.Kind.{Kind}
-use Rattle.fast_value.specs.declared.kind.Kind.TheVariants as kind
-use Rattle.fast_value.specs.declared.kind.Operator.{Operator}
-use Rattle.fast_value.specs.declared.kind.Operator.TheVariants as operator
-use Rattle.fast_value.specs.declared.kind.Presence.{Presence}
-use Rattle.fast_value.specs.declared.kind.Presence.TheVariants.{Mandatory, Optional}
-use Rattle.fast_template.specs.declared.resolved.FieldPart.{FieldPart}
-use Rattle.fast_template.specs.Resolved.{Instructions, list_of, then_instruction, whole_field, field_in_parts, sequence_of}
-use Rattle.fast_dictionary.specs.declared.entry.Entry.{Entry}
-use Rattle.fast_dictionary.specs.Dictionary.{Dictionary}
-use Rattle.fast_field.specs.FieldReading.{field_at, mantissa_entity_at, part_at, units_at}
-use Rattle.fast_field.specs.declared.fault.FieldFault.TheVariants.{NeedMore}
-use Rattle.fast_stream.specs.declared.fault.Cause.TheVariants.{Truncated}
-use Rattle.fast_stream.specs.Reading.{Reads, stopped}
-use Rattle.fast_wire.specs.declared.level.Level.{Level}
+use Rattle.fast_walk.specs.Prelude.{unsigned_at, unsigned_nullable_at, Value, Kind, Operator, Presence, Mandatory, Optional, FieldPart, Instructions, list_of, then_instruction, whole_field, field_in_parts, sequence_of, Entry, Dictionary, field_at, mantissa_entity_at, part_at, units_at, NeedMore, Truncated, Reads, stopped, Level}
 use Rattle.fast_walk.specs.Received.{Received}
 use Rattle.fast_walk.specs.OpenSegments.{at_mantissa}
 use Rattle.fast_walk.specs.Walks.{IsAt, next_of, reads_on}
 use Rattle.fast_walk.specs.declared.lack.Lack.{Lack}
-use Rattle.fast_walk.specs.declared.traversal.Stage.TheVariants as stage
+use Rattle.fast_walk.specs.declared.traversal.Stage.{Stage}
 use Rattle.fast_walk.specs.declared.traversal.Traversal.{Traversal}
-use Rattle.fast_walk.specs.declared.walk.Next.TheVariants as next
+use Rattle.fast_walk.specs.declared.walk.Next.{Next}
 use Rattle.fast_walk.specs.declared.walk.Walk.{Walk}
 
 -- no byte has its stop bit set
@@ -42,18 +26,18 @@ Wants read want bytes l = (more : List ℕ) → IsLacking l more → read (bytes
 
 -- whether something of a field stands in the stream under this bit
 abbrev pub sends : Operator → Bool → Bool
-sends operator.Plain bit = true
-sends operator.Delta bit = true
-sends operator.Constant bit = false
+sends Operator.Plain bit = true
+sends Operator.Delta bit = true
+sends Operator.Constant bit = false
 sends o bit = bit
 
 -- the most bytes of the entity that what stands in the stream begins with, in front of its last
 abbrev pub whole_most : Kind → ℕ
-whole_most kind.Ascii = 65539
+whole_most Kind.Ascii = 65539
 whole_most k = 9
 
 abbrev pub first_most : Operator → Kind → ℕ
-first_most operator.Delta k = 9
+first_most Operator.Delta k = 9
 first_most o k = whole_most k
 
 abbrev pub whole_limit : Kind → ℕ
@@ -64,7 +48,7 @@ first_limit o k = first_most o k + 1
 
 -- a kind that is spelled by a vector
 abbrev pub IsVectorKind : Kind → Type 0
-IsVectorKind k = (k ≡ kind.Unicode) ⊎ (k ≡ kind.Bytes)
+IsVectorKind k = (k ≡ Kind.Unicode) ⊎ (k ≡ Kind.Bytes)
 
 -- the length of a vector
 abbrev pub IsCount : Presence → List ℕ → ℕ → List ℕ → Type 0
@@ -73,20 +57,20 @@ IsCount Optional bytes n rest = unsigned_nullable_at bytes ≡ Ok (Value n, rest
 
 -- a kind whose delta is two entities, or an entity and a vector
 abbrev pub takes_two : Kind → Bool
-takes_two kind.Decimal = true
-takes_two kind.Ascii = true
-takes_two kind.Unicode = true
-takes_two kind.Bytes = true
+takes_two Kind.Decimal = true
+takes_two Kind.Ascii = true
+takes_two Kind.Unicode = true
+takes_two Kind.Bytes = true
 takes_two k = false
 
 -- another entity stands behind the first: in a decimal in one piece, and behind a removal
 abbrev pub HasSecond : Operator → Kind → Bool → Type 0
-HasSecond o k bit = ((k ≡ kind.Decimal) × (o ≢ operator.Tail) × (sends o bit ≡ true)) ⊎ ((takes_two k ≡ true) × (o ≡ operator.Delta))
+HasSecond o k bit = ((k ≡ Kind.Decimal) × (o ≢ Operator.Tail) × (sends o bit ≡ true)) ⊎ ((takes_two k ≡ true) × (o ≡ Operator.Delta))
 
 -- so it waits
 pub record SecondWaits (level : Level) (k : Kind) (bytes : List ℕ) : Type 0 where
   pub units : part_at level k bytes ≡ Err NeedMore
-  pub mantissa : k ≡ kind.Decimal → mantissa_entity_at level bytes ≡ Err NeedMore
+  pub mantissa : k ≡ Kind.Decimal → mantissa_entity_at level bytes ≡ Err NeedMore
 
 -- ---- what is lacking of an entity of at most so many bytes, of a vector, of a field, and behind its first entity
 
@@ -123,7 +107,7 @@ IsFirst p is = ⊥
 
 -- a walk comes to this part next: an instruction that begins with it, or a mantissa
 abbrev pub IsNextPart : Walk → FieldPart → Type 0
-IsNextPart w p = ((0 < w.spare) × (w.next ≡ next.Instruction) × IsFirst p (list_of w.rest.now)) ⊎ (next_of w.next ≡ at_mantissa (pos 0) p)
+IsNextPart w p = ((0 < w.spare) × (w.next ≡ Next.Instruction) × IsFirst p (list_of w.rest.now)) ⊎ (next_of w.next ≡ at_mantissa (pos 0) p)
 
 -- Of the piece that a walk comes to next, some bytes have come, and this is lacking: also of a piece whose base an entry
 -- has, in this dictionary.
@@ -132,7 +116,7 @@ WalkLacks level w d bytes l = (o : Received) (more : List ℕ) → IsLacking l m
 
 -- the same of the body that is open
 abbrev pub Lacks : Traversal → Dictionary → List ℕ → Lack → Type 0
-Lacks t d bytes l = (t.stage ≡ stage.Body) × WalkLacks t.level t.walk d bytes l
+Lacks t d bytes l = (t.stage ≡ Stage.Body) × WalkLacks t.level t.walk d bytes l
 
 -- a walk that comes to the end of the bytes stops there, for want of the first byte of the instruction with this number
 abbrev pub WantsByte : Walk → ℕ → Type 0

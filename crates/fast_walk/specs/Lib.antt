@@ -1,3 +1,4 @@
+mod Prelude
 pub mod OpenSegments
 pub mod Received
 pub mod Walks

@@ -1,18 +1,12 @@
 -- What reading the next message comes to.
 use Rattle.std.specs.Prelude.{◌≡◌, ◌≢◌, ◌≤◌, ◌<◌, ◌+◌, ◌++◌, ℕ, List, Result, Ok, Err, length, drop}
-use Rattle.fast_template.specs.TemplateSets.{templates_in}
-use Rattle.fast_wire.specs.Sizes.{CanBeMap}
-use Rattle.fast_dictionary.specs.Dictionary.{Dictionary}
-use Rattle.fast_dictionary.specs.declared.entries.Entries.{Ghosts}
-use Rattle.fast_stream.specs.declared.fault.Cause.TheVariants.{Truncated, Memory}
-use Rattle.fast_stream.specs.Nodes.{node_limit}
-use Rattle.fast_stream.specs.Reading.{message_at}
+use Rattle.fast_walk.specs.Prelude.{templates_in, CanBeMap, Dictionary, Ghosts, Truncated, Memory, node_limit, message_at}
 use Rattle.fast_walk.specs.Room.{HasRoomAt}
 use Rattle.fast_walk.specs.Told.{KeepScalars}
 use Rattle.fast_walk.specs.Traversals.{CanGoOn, Continues, Finishes, KeepsBefore, LeavesOn, Left, StopsAt, identifier_on}
 use Rattle.fast_walk.specs.declared.halt.Halt.{Halt}
 use Rattle.fast_walk.specs.declared.receiver.Receiver.{Ghosts as Receiving}
-use Rattle.fast_walk.specs.declared.traversal.Stage.TheVariants as stage
+use Rattle.fast_walk.specs.declared.traversal.Stage.{Stage}
 use Rattle.fast_walk.specs.declared.traversal.Traversal.{Traversal as TraversalNow}
 
 -- what a traversal still reads, with its receiver and its dictionary
@@ -36,7 +30,7 @@ pub record MapRead (t : TraversalNow) (bytes : List ℕ) (at n : ℕ) (u : Trave
   pub place : (at < n) × (n ≤ length bytes)
   pub goes : (d : Dictionary) (more : List ℕ)
       → message_at t.level (templates_in t.set.now) d (drop at bytes ++ more) ≡ identifier_on t.level (templates_in t.set.now) d u.walk.bits (drop n bytes ++ more)
-  pub stage : u.stage ≡ stage.Identifier
+  pub stage : u.stage ≡ Stage.Identifier
   pub template : u.template ≡ t.template
   pub spare : u.walk.spare ≡ node_limit
   pub room : CanBeMap u.walk.bits
@@ -46,25 +40,25 @@ pub record MapRead (t : TraversalNow) (bytes : List ℕ) (at n : ℕ) (u : Trave
 -- Reading has gone on from one place to another, inside a message.
 pub record IsStep {R E : Type 0} (receiver : Receiving R) (entries : Ghosts E) (t : TraversalNow) (r : R) (d : E) (bytes : List ℕ) (at n : ℕ) (u : TraversalNow) (s : R) (e : E) : Type 0 where
   pub place : (at ≤ n) × (n ≤ length bytes)
-  pub took : t.stage ≡ stage.Map → at < n
-  pub inside : u.stage ≢ stage.Map
+  pub took : t.stage ≡ Stage.Map → at < n
+  pub inside : u.stage ≢ Stage.Map
   pub leaves : LeavesOn (LeftOf receiver entries t r d) (LeftOf receiver entries u s e) (drop at bytes) (drop n bytes)
 
 -- A message is read to its end, at a place.
 pub record MessageRead {R E : Type 0} (receiver : Receiving R) (entries : Ghosts E) (t : TraversalNow) (r : R) (d : E) (bytes : List ℕ) (at n : ℕ) (u : TraversalNow) (s : R) (e : E) : Type 0 where
   pub place : (at ≤ n) × (n ≤ length bytes)
   -- a message has a byte
-  pub took : t.stage ≡ stage.Map → at < n
+  pub took : t.stage ≡ Stage.Map → at < n
   pub finishes : Finishes (LeftOf receiver entries t r d) (receiver.stands s (templates_in u.set.now)) (entries.contents e) (drop at bytes) (drop n bytes)
-  pub between : u.stage ≡ stage.Map
+  pub between : u.stage ≡ Stage.Map
   pub template : u.template ≡ 0
   pub kept : KeepScalars (entries.contents e)
 
 -- More bytes are wanted than there are from a place on: from there reading goes on.
 pub record MessageWaits {R E : Type 0} (receiver : Receiving R) (entries : Ghosts E) (t : TraversalNow) (r : R) (d : E) (bytes : List ℕ) (at n : ℕ) (u : TraversalNow) (s : R) (e : E) : Type 0 where
   pub leaves : LeavesOn (LeftOf receiver entries t r d) (LeftOf receiver entries u s e) (drop at bytes) (drop n bytes)
-  pub between : u.stage ≡ stage.Map → (t.stage ≡ stage.Map) × (n ≡ at)
-  pub begun : t.stage ≡ stage.Map → u.stage ≢ stage.Map → at < n
+  pub between : u.stage ≡ Stage.Map → (t.stage ≡ Stage.Map) × (n ≡ at)
+  pub begun : t.stage ≡ Stage.Map → u.stage ≢ Stage.Map → at < n
   -- few bytes are left
   pub few : length bytes ≤ n + 65554
   pub can : CanRead receiver entries u s e

@@ -1,19 +1,9 @@
 -- What a receiver is told has one proof at most.
-use mathlib.Core.Bool.{Bool-set}
+use Rattle.fast_walk.specs.Prelude.{Bool-set, Kind, Part, Scalar, Decimal, FieldPart, Entry, Assigned, Dictionary, entry_at, Reads, Items}
 use Rattle.std.specs.Prelude.{◌<◌, ℕ, Bool, true, List, [], ◌∷◌, Option, Some, None, IsSome, IfSome, IsTrue, Ok, Err}
 use Rattle.std.specs.Coded.{×_prop, Π_prop, Unit-prop, le_prop}
 use Rattle.std.specs.List.{AllByRecursion}
 use Rattle.std.proofs.Props.{props}
-use Rattle.fast_value.specs.declared.kind.Kind.{Kind}
-use Rattle.fast_value.specs.declared.kind.Part.{Part}
-use Rattle.fast_value.specs.declared.scalar.Scalar.{Scalar}
-use Rattle.fast_value.specs.declared.scalar.Scalar.TheVariants.{Decimal}
-use Rattle.fast_template.specs.declared.resolved.FieldPart.{FieldPart}
-use Rattle.fast_dictionary.specs.declared.entry.Entry.{Entry}
-use Rattle.fast_dictionary.specs.declared.entry.Entry.TheVariants.{Assigned}
-use Rattle.fast_dictionary.specs.Dictionary.{Dictionary, entry_at}
-use Rattle.fast_stream.specs.Reading.{Reads}
-use Rattle.fast_stream.specs.Nodes.{Items}
 use Rattle.fast_walk.specs.Lacks.{Lacks, StopsShort}
 use Rattle.fast_walk.specs.declared.lack.Lack.{Lack}
 use Rattle.fast_walk.specs.declared.traversal.Traversal.{Traversal}

@@ -1,14 +1,6 @@
 -- What is still to be done with a message that has begun: its open segments, the message's own first.
 use Rattle.std.specs.Prelude.{ℕ, ◌-◌, ℤ, Bool, List, [], ◌∷◌, ◌++◌, Result, Ok}
-use Rattle.fast_template.specs.declared.resolved.FieldPart.{FieldPart}
-use Rattle.fast_template.specs.Resolved.{Instructions}
-use Rattle.fast_dictionary.specs.Dictionary.{Dictionary}
-use Rattle.fast_wire.specs.Reading.{◌>>=◌}
-use Rattle.fast_wire.specs.declared.level.Level.{Level}
-use Rattle.fast_wire.specs.declared.level.Level.TheVariants.{Usual, Strict}
-use Rattle.fast_stream.specs.Nodes.{Item, group_items, sequence_elements, Items, then_item, Elements, then_element, Content}
-use Rattle.fast_stream.specs.Faults.{MessageStop}
-use Rattle.fast_stream.specs.Reading.{Cursor, Reads, field_part_at, decimal_of, segment_at, closing, end_at, each_at, body_at, Named, in_template}
+use Rattle.fast_walk.specs.Prelude.{FieldPart, Instructions, Dictionary, ◌>>=◌, Level, Usual, Strict, Item, group_items, sequence_elements, Items, then_item, Elements, then_element, Content, MessageStop, Cursor, Reads, field_part_at, decimal_of, segment_at, closing, end_at, each_at, body_at, Named, in_template}
 
 -- items in front of others
 abbrev pub items_before : List Item → Items → Items

@@ -1,10 +1,7 @@
 -- How fields are taken one after the other from the front of the body that is open.
 use Rattle.std.specs.Prelude.{◌≡◌, ℕ, ◌++◌, pos, Bool, List, Option, Some, None}
 use Rattle.std.specs.Borrow.{Bor}
-use Rattle.fast_template.specs.declared.resolved.FieldPart.{FieldPart}
-use Rattle.fast_template.specs.Resolved.{Instructions}
-use Rattle.fast_dictionary.specs.Dictionary.{Dictionary}
-use Rattle.fast_wire.specs.declared.level.Level.{Level}
+use Rattle.fast_walk.specs.Prelude.{FieldPart, Instructions, Dictionary, Level}
 use Rattle.fast_walk.specs.OpenSegments.{Next, at_instruction, at_mantissa, cursor, top_on}
 use Rattle.fast_walk.specs.Received.{Received, Same}
 use Rattle.fast_walk.specs.Walks.{bare_next}

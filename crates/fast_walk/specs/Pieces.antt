@@ -1,10 +1,6 @@
 -- What stands where a walk has taken a piece, and where it has stopped at one.
 use Rattle.std.specs.Prelude.{◌≡◌, ◌≢◌, ◌≤◌, ◌<◌, ℕ, Bool, List, Result, Ok, Err, drop, length}
-use Rattle.fast_value.specs.declared.key.Key.{Key}
-use Rattle.fast_dictionary.specs.Dictionary.{Dictionary}
-use Rattle.fast_dictionary.specs.declared.entries.Entries.{Ghosts}
-use Rattle.fast_wire.specs.declared.level.Level.{Level}
-use Rattle.fast_stream.specs.declared.fault.Cause.TheVariants.{Memory}
+use Rattle.fast_walk.specs.Prelude.{Key, Dictionary, Ghosts, Level, Memory}
 use Rattle.fast_walk.specs.Received.{CarriesOpen, Having}
 use Rattle.fast_walk.specs.Room.{HasRoom}
 use Rattle.fast_walk.specs.Told.{KeepScalars}

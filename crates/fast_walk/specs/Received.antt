@@ -1,19 +1,6 @@
 -- What a receiver has been handed of a message that has begun.
 use Rattle.std.specs.Prelude.{◌≡◌, ◌≤◌, ℕ, zero, suc, ℤ, Bool, true, false, List, [], ◌∷◌, ◌++◌, Option, Some, None, Ok, Err}
-use Rattle.fast_value.specs.declared.scalar.Scalar.{Scalar}
-use Rattle.fast_value.specs.declared.scalar.Scalar.TheVariants.{U32, I32, Bytes}
-use Rattle.fast_template.specs.declared.resolved.FieldPart.{FieldPart}
-use Rattle.fast_template.specs.Resolved.{Instructions, no_instructions, has_map, Resolved}
-use Rattle.fast_dictionary.specs.declared.entry.Entry.{Entry}
-use Rattle.fast_dictionary.specs.Dictionary.{Dictionary, entry_at}
-use Rattle.fast_wire.specs.declared.level.Level.{Level}
-use Rattle.fast_field.specs.Bases.{next}
-use Rattle.fast_field.specs.FieldReading.{field_at}
-use Rattle.fast_field.specs.declared.fault.FieldFault.{FieldFault}
-use Rattle.fast_stream.specs.Nodes.{Item, single, group_items, sequence_elements, items_of, elements_of, nodes_in, node_limit, Content, Items, no_items, then_item}
-use Rattle.fast_stream.specs.Streams.{members_of}
-use Rattle.fast_stream.specs.Bodies.{written}
-use Rattle.fast_stream.specs.Reading.{Reads}
+use Rattle.fast_walk.specs.Prelude.{Scalar, U32, I32, Bytes, FieldPart, Instructions, no_instructions, has_map, Resolved, Entry, Dictionary, entry_at, Level, next, field_at, FieldFault, Item, single, group_items, sequence_elements, items_of, elements_of, nodes_in, node_limit, Content, Items, no_items, then_item, members_of, written, Reads}
 use Rattle.fast_walk.specs.OpenSegments.{Body, Sequel, Inside, in_group, in_sequence, Waiting, Next, at_instruction, at_mantissa, at_element, with_item, with_element, fewer}
 
 -- The template set; the messages before; the template and its instructions; the dictionary before the message; the

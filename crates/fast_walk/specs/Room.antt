@@ -1,13 +1,9 @@
 -- Room in the maps that a receiver writes, for the bits that are left of those that are read.
 use Rattle.std.specs.Prelude.{◌≡◌, ◌++◌, ◌∷◌, [], Bool, List, map, IsTrue}
-use Rattle.fast_template.specs.declared.resolved.FieldPart.{FieldPart}
-use Rattle.fast_template.specs.Resolved.{part_needs_bit}
-use Rattle.fast_stream.specs.Bits.{after_bit, bit_for}
-use Rattle.fast_wire.specs.Sizes.{CanBeMap}
+use Rattle.fast_walk.specs.Prelude.{FieldPart, part_needs_bit, after_bit, bit_for, CanBeMap}
 use Rattle.fast_walk.specs.OpenSegments.{Waiting}
 use Rattle.fast_walk.specs.Walks.{frame_of}
 use Rattle.fast_walk.specs.declared.traversal.Stage.{Stage as StageNow}
-use Rattle.fast_walk.specs.declared.traversal.Stage.TheVariants as stage
 use Rattle.fast_walk.specs.declared.walk.Walk.{Walk as WalkNow}
 
 -- the bits that are left of the maps around the innermost one, the message's own first
@@ -20,9 +16,9 @@ HasRoom room w = IsTrue (room (left_around (map frame_of w.around.items)) w.bits
 
 -- No map has more bits than one can have; inside a message's body the receiver has room for all that are left.
 abbrev pub HasRoomAt : (List (List Bool) → List Bool → Bool) → StageNow → WalkNow → Type 0
-HasRoomAt room stage.Map w = Unit {0}
-HasRoomAt room stage.Identifier w = CanBeMap w.bits
-HasRoomAt room stage.Body w = HasRoom room w
+HasRoomAt room StageNow.Map w = Unit {0}
+HasRoomAt room StageNow.Identifier w = CanBeMap w.bits
+HasRoomAt room StageNow.Body w = HasRoom room w
 
 -- ---- from a receiver to the next
 

@@ -3,20 +3,7 @@
 use Rattle.std.specs.Prelude.{◌≡◌, ◌≤◌, ◌<◌, Option, Some, None, IsSome, IsTrue, length}
 use Rattle.std.specs.List.{AllByRecursion}
 use Rattle.std.specs.Str.{is_utf8}
-use Rattle.fast_value.specs.declared.key.Key.{Key}
-use Rattle.fast_value.specs.declared.kind.Kind.{Kind}
-use Rattle.fast_value.specs.declared.kind.Operator.TheVariants as operator
-use Rattle.fast_value.specs.declared.kind.Part.{Part}
-use Rattle.fast_value.specs.declared.kind.Presence.TheVariants.{Mandatory}
-use Rattle.fast_value.specs.declared.scalar.Scalar.{Scalar}
-use Rattle.fast_value.specs.declared.scalar.Scalar.TheVariants.{Unicode}
-use Rattle.fast_value.specs.Scalar.{is_of, IsScalar}
-use Rattle.fast_template.specs.declared.resolved.FieldPart.{FieldPart}
-use Rattle.fast_template.specs.TemplateSets.{applies, is_in_part}
-use Rattle.fast_dictionary.specs.declared.entry.Entry.{Entry}
-use Rattle.fast_dictionary.specs.declared.entry.Entry.TheVariants.{Undefined, Empty, Assigned}
-use Rattle.fast_dictionary.specs.Dictionary.{Dictionary, entry_at}
-use Rattle.fast_field.specs.Within.{HoldsScalar}
+use Rattle.fast_walk.specs.Prelude.{Key, Kind, Operator, Part, Mandatory, Scalar, Unicode, is_of, IsScalar, FieldPart, applies, is_in_part, Entry, Undefined, Empty, Assigned, Dictionary, entry_at, HoldsScalar}
 
 -- ---- entries
 
@@ -51,5 +38,5 @@ pub record IsTold (part : Part) (kind : Kind) (p : FieldPart) : Type 0 where
   pub kind_is : p.kind ≡ kind
   pub operator_applies : IsTrue (applies p.operator p.kind)
   pub initial_fits : KeepsInitial p p.initial
-  pub constant_has_value : p.operator ≡ operator.Constant → IsSome p.initial
-  pub default_has_value : p.operator ≡ operator.Default → p.presence ≡ Mandatory → IsSome p.initial
+  pub constant_has_value : p.operator ≡ Operator.Constant → IsSome p.initial
+  pub default_has_value : p.operator ≡ Operator.Default → p.presence ≡ Mandatory → IsSome p.initial

@@ -1,21 +1,11 @@
 -- How a traversal of a stream goes on from where it is.
 use Rattle.std.specs.Prelude.{◌≡◌, ◌≤◌, ◌++◌, ◌∷◌, [], ℕ, Bool, List, length, Some, Ok, Err, ◌⊎◌, IsTrue, Contains}
-use Rattle.fast_value.specs.declared.key.Key.{Key}
-use Rattle.fast_template.specs.Resolved.{Resolved}
-use Rattle.fast_template.specs.TemplateSets.{TemplateList, keys_in}
-use Rattle.fast_dictionary.specs.Dictionary.{Dictionary}
-use Rattle.fast_wire.specs.declared.level.Level.{Level}
-use Rattle.fast_wire.specs.Reading.{◌>>=◌}
-use Rattle.fast_stream.specs.Nodes.{Content, nodes_in, node_limit}
-use Rattle.fast_stream.specs.Streams.{members_of, identifier}
-use Rattle.fast_stream.specs.Faults.{MessageStop}
-use Rattle.fast_stream.specs.Reading.{field_part_at, named_at, in_template, message_at}
+use Rattle.fast_walk.specs.Prelude.{Key, Resolved, TemplateList, keys_in, Dictionary, Level, ◌>>=◌, Content, nodes_in, node_limit, members_of, identifier, MessageStop, field_part_at, named_at, in_template, message_at}
 use Rattle.fast_walk.specs.OpenSegments.{Reading, cursor, message_of, named_on}
 use Rattle.fast_walk.specs.Received.{Received, Having, Keeping}
 use Rattle.fast_walk.specs.Walks.{IsAt, IsReady, reads_on}
 use Rattle.fast_walk.specs.declared.halt.Halt.{Halt}
 use Rattle.fast_walk.specs.declared.traversal.Stage.{Stage as StageNow}
-use Rattle.fast_walk.specs.declared.traversal.Stage.TheVariants as stage
 use Rattle.fast_walk.specs.declared.traversal.Traversal.{Traversal as TraversalNow}
 
 -- what is left of a message behind its map
@@ -51,9 +41,9 @@ pub record IsBetween (Stands : Type 0) (d start : Dictionary) (read now : List �
 
 -- What a traversal, its receiver and its dictionary still read: behind these messages, from the dictionary there.
 abbrev pub ContinuesAt : {R : Type 0} → Having R → Keeping R → Keeping R → StageNow → TraversalNow → R → List Resolved → Dictionary → Left
-ContinuesAt has stands keeps stage.Map t r set d before start read = IsBetween (stands r set before d) d start read (message_at t.level set d)
-ContinuesAt has stands keeps stage.Identifier t r set d before start read = IsBetween (stands r set before d) d start read (identifier_on t.level set d t.walk.bits)
-ContinuesAt has stands keeps stage.Body t r set d before start read = IsOpen has keeps t r set d before start read
+ContinuesAt has stands keeps StageNow.Map t r set d before start read = IsBetween (stands r set before d) d start read (message_at t.level set d)
+ContinuesAt has stands keeps StageNow.Identifier t r set d before start read = IsBetween (stands r set before d) d start read (identifier_on t.level set d t.walk.bits)
+ContinuesAt has stands keeps StageNow.Body t r set d before start read = IsOpen has keeps t r set d before start read
 
 abbrev pub Continues : {R : Type 0} → Having R → Keeping R → Keeping R → TraversalNow → R → List Resolved → Dictionary → Left
 Continues has stands keeps t r set d before start read = ContinuesAt has stands keeps t.stage t r set d before start read
@@ -88,16 +78,16 @@ ServesAll serves set = (k : Key) → Contains (keys_in set) k → IsTrue (serves
 -- Each part that an open body may come to is one of a set, and its key is served; before it no template is known, and no
 -- node counted.
 abbrev pub IsReadyAt : StageNow → (Key → Bool) → TraversalNow → Type 0
-IsReadyAt stage.Map serves t = t.template ≡ 0
-IsReadyAt stage.Identifier serves t = (t.template ≡ 0) × (t.walk.spare ≡ node_limit)
-IsReadyAt stage.Body serves t = IsReady serves t.walk
+IsReadyAt StageNow.Map serves t = t.template ≡ 0
+IsReadyAt StageNow.Identifier serves t = (t.template ≡ 0) × (t.walk.spare ≡ node_limit)
+IsReadyAt StageNow.Body serves t = IsReady serves t.walk
 
 -- The traversal is as it leaves itself.
 abbrev pub CanGoOn : (Key → Bool) → TraversalNow → Type 0
 CanGoOn serves t = IsReadyAt t.stage serves t
 
 abbrev pub begun_at : StageNow → ℕ
-begun_at stage.Map = 0
+begun_at StageNow.Map = 0
 begun_at n = 1
 
 -- whether a message has begun

@@ -1,28 +1,13 @@
 -- How a walk through a message's open segments stands to what was received.
 use Rattle.std.specs.Prelude.{◌≡◌, ℕ, ◌+◌, ◌-◌, ◌*◌, pos, Bool, List, [], ◌∷◌, ◌++◌, map, length, IsTrue}
-use Rattle.fast_value.specs.declared.key.Key.{Key}
-use Rattle.fast_value.specs.declared.kind.Kind.{Kind}
-use Rattle.fast_value.specs.declared.kind.Kind.TheVariants as kind
-use Rattle.fast_value.specs.declared.kind.Part.{Part}
-use Rattle.fast_value.specs.declared.kind.Part.TheVariants as part
-use Rattle.fast_value.specs.declared.kind.Presence.{Presence}
-use Rattle.fast_value.specs.declared.kind.Presence.TheVariants.{Mandatory}
-use Rattle.fast_template.specs.declared.resolved.FieldPart.{FieldPart}
-use Rattle.fast_template.specs.Resolved.{Instruction, Instructions, whole_field, field_in_parts, group_of, sequence_of, no_instructions, then_instruction, list_of}
-use Rattle.fast_dictionary.specs.Dictionary.{Dictionary}
-use Rattle.fast_wire.specs.declared.level.Level.{Level}
-use Rattle.fast_stream.specs.Bits.{after_bit}
-use Rattle.fast_stream.specs.Nodes.{Items}
-use Rattle.fast_stream.specs.Reading.{Reads, stopped}
+use Rattle.fast_walk.specs.Prelude.{Key, Kind, Part, Presence, Mandatory, FieldPart, Instruction, Instructions, whole_field, field_in_parts, group_of, sequence_of, no_instructions, then_instruction, list_of, Dictionary, Level, after_bit, Items, Reads, stopped}
 use Rattle.fast_walk.specs.OpenSegments.{Sequel, Inside, in_group, in_sequence, Waiting, Next, at_instruction, at_mantissa, at_element, all_around, top_on, cursor}
 use Rattle.fast_walk.specs.Received.{Received, Goes, Having}
 use Rattle.fast_walk.specs.Told.{IsTold}
 use Rattle.fast_walk.specs.declared.halt.Halt.{Halt}
 use Rattle.fast_walk.specs.declared.walk.Sequel.{Sequel as SequelNow}
 use Rattle.fast_walk.specs.declared.walk.Inside.{Inside as InsideNow}
-use Rattle.fast_walk.specs.declared.walk.Inside.TheVariants as inside
 use Rattle.fast_walk.specs.declared.walk.Next.{Next as NextNow}
-use Rattle.fast_walk.specs.declared.walk.Next.TheVariants as next
 use Rattle.fast_walk.specs.declared.walk.Frame.{Frame as FrameNow}
 use Rattle.fast_walk.specs.declared.walk.Walk.{Walk as WalkNow}
 
@@ -49,21 +34,21 @@ abbrev pub sequel_of : SequelNow → Sequel
 sequel_of s = record { number = s.number; own_map = s.own_map; members = list_of s.members.now; left = s.left; done = [] }
 
 abbrev pub inside_of : InsideNow → Inside
-inside_of (inside.Group number) = in_group
-inside_of (inside.Element s) = in_sequence (sequel_of s)
+inside_of (InsideNow.Group number) = in_group
+inside_of (InsideNow.Element s) = in_sequence (sequel_of s)
 
 -- the number of the segment
 abbrev pub number_of : InsideNow → ℕ
-number_of (inside.Group number) = number
-number_of (inside.Element s) = s.number
+number_of (InsideNow.Group number) = number
+number_of (InsideNow.Element s) = s.number
 
 abbrev pub frame_of : FrameNow → Waiting
 frame_of f = record { bits = f.bits; number = number_of f.inside; body = record { rest = list_of f.rest.now; done = [] }; inside = inside_of f.inside }
 
 abbrev pub next_of : NextNow → Next
-next_of next.Instruction = at_instruction
-next_of (next.Mantissa mantissa) = at_mantissa (pos 0) mantissa.now
-next_of (next.Element s) = at_element (sequel_of s)
+next_of NextNow.Instruction = at_instruction
+next_of (NextNow.Mantissa mantissa) = at_mantissa (pos 0) mantissa.now
+next_of (NextNow.Element s) = at_element (sequel_of s)
 
 -- the walk is where this has been received
 pub record IsAt (w : WalkNow) (o : Received) : Type 0 where
@@ -98,15 +83,15 @@ abbrev pub IsServedWith : (Key → Bool) → Part → Kind → Presence → Fiel
 IsServedWith serves part kind presence p = IsServedAs serves part kind p × (p.presence ≡ presence)
 
 abbrev pub IsMantissaServed : (Key → Bool) → FieldPart → Type 0
-IsMantissaServed serves p = IsServedWith serves part.Mantissa kind.Int64 Mandatory p
+IsMantissaServed serves p = IsServedWith serves Part.Mantissa Kind.Int64 Mandatory p
 
 -- Each part of these instructions is one of a set, and its key is served.
 abbrev mutual
   pub IsServed : (Key → Bool) → Instruction → Type 0
-  IsServed serves (whole_field name number presence whole) = IsServedWith serves part.Whole whole.kind presence whole
-  IsServed serves (field_in_parts name number presence exponent mantissa) = IsServedWith serves part.Exponent kind.Int32 presence exponent × IsMantissaServed serves mantissa
+  IsServed serves (whole_field name number presence whole) = IsServedWith serves Part.Whole whole.kind presence whole
+  IsServed serves (field_in_parts name number presence exponent mantissa) = IsServedWith serves Part.Exponent Kind.Int32 presence exponent × IsMantissaServed serves mantissa
   IsServed serves (group_of name number presence members) = AreServed serves members
-  IsServed serves (sequence_of name number presence length members) = IsServedWith serves part.Length kind.UInt32 presence length × AreServed serves members
+  IsServed serves (sequence_of name number presence length members) = IsServedWith serves Part.Length Kind.UInt32 presence length × AreServed serves members
 
   pub AreServed : (Key → Bool) → Instructions → Type 0
   AreServed serves no_instructions = Unit {0}
@@ -138,7 +123,7 @@ pub record IsReady (serves : Key → Bool) (w : WalkNow) : Type 0 where
 
 -- Each piece makes this less.
 abbrev pub weight_of : NextNow → ℕ
-weight_of next.Instruction = 1
+weight_of NextNow.Instruction = 1
 weight_of n = 2
 
 abbrev pub rank_of : WalkNow → ℕ
@@ -146,17 +131,17 @@ rank_of w = 4 * w.spare + 2 * length w.around.items + weight_of w.next
 
 -- The message's own body has not ended.
 abbrev pub IsInside : WalkNow → Type 0
-IsInside w = w.next ≡ next.Instruction → w.around.items ≡ [] → w.rest.now ≡ [] → ⊥
+IsInside w = w.next ≡ NextNow.Instruction → w.around.items ≡ [] → w.rest.now ≡ [] → ⊥
 
 -- It has ended.
 abbrev pub IsWhole : WalkNow → Type 0
-IsWhole w = (w.next ≡ next.Instruction) × (w.around.items ≡ []) × (w.rest.now ≡ [])
+IsWhole w = (w.next ≡ NextNow.Instruction) × (w.around.items ≡ []) × (w.rest.now ≡ [])
 
 -- ---- pieces
 
 -- This instruction is next, with those behind it.
 pub record Begins (w : WalkNow) (i : Instruction) (is : Instructions) : Type 0 where
-  pub next : w.next ≡ next.Instruction
+  pub next : w.next ≡ NextNow.Instruction
   pub first : list_of w.rest.now ≡ then_instruction i is
 
 -- behind the first part of an instruction: a node is counted, and its bit taken
@@ -171,7 +156,7 @@ pub record IsBehind (w v : WalkNow) (needs : Bool) (n : NextNow) (is : Instructi
 pub record IsOpened (frames : List FrameNow) (outer : List Bool) (left number : ℕ) (members is : Instructions) (i : Inside) (own : List Bool) (v : WalkNow) : Type 0 where
   pub bits : v.bits ≡ own
   pub spare : v.spare ≡ left - 1
-  pub next : v.next ≡ next.Instruction
+  pub next : v.next ≡ NextNow.Instruction
   pub rest : list_of v.rest.now ≡ members
   pub around : map frame_of v.around.items ≡ map frame_of frames ++ record { bits = outer; number = number; body = record { rest = is; done = [] }; inside = i } ∷ []
   pub depth : length v.around.items ≡ length frames + 1
@@ -183,4 +168,4 @@ pub record IsLast (w : WalkNow) (s : SequelNow) : Type 0 where
   pub fore : List FrameNow
   pub frame : FrameNow
   pub frames : w.around.items ≡ fore ++ frame ∷ []
-  pub inside : frame.inside ≡ inside.Element s
+  pub inside : frame.inside ≡ InsideNow.Element s

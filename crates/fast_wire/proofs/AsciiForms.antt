@@ -1,19 +1,7 @@
 -- ASCII strings: the groups behind a preamble, and the shortest forms.
-use Rattle.std.proofs.Common.{◌≡◌, ℕ, zero, suc, ◌+◌, ◌-◌, ◌%◌, ◌<◌, ◌≤◌, List, [], ◌∷◌, ◌++◌, length, get_or, set, min, take, drop, refl, sym, ap, ap₂, subst, ◌∙◌, arith, inl, inr, append_assoc, length-drop, slice_range, get_or-take, get_or-drop, length-take, drop-drop}
-use Rattle.std.specs.Prelude.{All, replicate}
-use Rattle.std.proofs.lemmas.Bool.{cases_lt}
+use Rattle.fast_wire.proofs.Common.{◌≡◌, ℕ, zero, suc, ◌+◌, ◌-◌, ◌%◌, ◌<◌, ◌≤◌, List, [], ◌∷◌, ◌++◌, length, get_or, set, min, take, drop, refl, sym, ap, ap₂, subst, ◌∙◌, arith, inl, inr, append_assoc, length-drop, slice_range, get_or-take, get_or-drop, length-take, drop-drop, All, replicate, cases_lt, All-get_or, IsEntity, groups, SpellsAscii, SpellsAsciiNullable, IsAscii, IsAsciiNullable, IsAsciiText, units, characters, nullable_characters, IsTail, behind_zeros, preamble_for, stopped, string_of, IsShortest, Nullable, Null, Value}
 use Rattle.std.proofs.lemmas.List.{drop-take, length-map, length-append, get_or_default}
-use Rattle.std.proofs.lemmas.List.Elements.{All-get_or}
-use Rattle.fast_wire.specs.Entity.{IsEntity, groups}
-use Rattle.fast_wire.specs.Ascii.{SpellsAscii, SpellsAsciiNullable, IsAscii, IsAsciiNullable, IsAsciiText}
-use Rattle.fast_wire.specs.Nullable.{units}
-use Rattle.fast_wire.specs.Reading.{characters, nullable_characters}
-use Rattle.fast_wire.specs.Spans.{IsTail}
-use Rattle.fast_wire.specs.Spellings.{behind_zeros, preamble_for, stopped, string_of}
-use Rattle.fast_wire.specs.Writing.{IsShortest}
 use Rattle.fast_wire.proofs.UnsignedForms.{entity_some}
-use Rattle.fast_wire.specs.declared.nullable.Nullable.{Nullable}
-use Rattle.fast_wire.specs.declared.nullable.Nullable.TheVariants.{Null, Value}
 
 -- ---- groups behind a preamble
 

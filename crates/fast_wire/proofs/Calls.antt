@@ -1,21 +1,6 @@
 -- What a call answers that reads a form at a place, from what the reading function gives there.
-use Rattle.std.proofs.Common.{◌≡◌, ℕ, suc, ◌+◌, ◌-◌, ◌%◌, ◌<◌, ◌≤◌, Bool, List, [], ◌∷◌, length, get_or, take, drop, slice_range, Result, Ok, Err, refl, sym, ap, subst, ◌∙◌, arith, inl, inr, length-append, length-drop}
-use Rattle.std.specs.Prelude.{IsOk, IfOk}
-use Rattle.std.proofs.lemmas.Bool.{cases_lt}
+use Rattle.fast_wire.proofs.Common.{◌≡◌, ℕ, suc, ◌+◌, ◌-◌, ◌%◌, ◌<◌, ◌≤◌, Bool, List, [], ◌∷◌, length, get_or, take, drop, slice_range, Result, Ok, Err, refl, sym, ap, subst, ◌∙◌, arith, inl, inr, length-append, length-drop, IsOk, IfOk, cases_lt, IsAscii, IsAsciiEntity, IsAsciiEntityNullable, IsAsciiNullable, IsAsciiText, IsEntity, IsEntityWithin, groups, IsUnsigned, IsSigned, unsigned_of, signed_of, IsNullOr, IsSignedNullable, IsUnsignedNullable, received_signed, received_unsigned, units, IsWholeMap, bits_of, IsBytes, IsReader, Takes, ◌>>=◌, AsciiFault, EntityFault, Gives, IsReadAt, NothingElse, OrMemory, Reads, VectorFault, LengthFault, ascii_at, ascii_nullable_at, behind_length, bytes_at, characters, entity_at, map_at, nullable_characters, signed_at, signed_nullable_at, unsigned_at, unsigned_nullable_at, vector_at, vector_nullable_at, within_limit, CanBeMap, CanBeSigned, CanBeSignedNullable, CanBeUnsignedNullable, CanBeUnsigned, CanBeVector, IsLengthNullable, IsVector, IsVectorNullable, WireFault, Nullable, Null, Value}
 use Rattle.std.proofs.lemmas.List.{length-map, take_at, get_or-drop}
-use Rattle.fast_wire.specs.Ascii.{IsAscii, IsAsciiEntity, IsAsciiEntityNullable, IsAsciiNullable, IsAsciiText}
-use Rattle.fast_wire.specs.Entity.{IsEntity, IsEntityWithin, groups}
-use Rattle.fast_wire.specs.Integer.{IsUnsigned, IsSigned, unsigned_of, signed_of}
-use Rattle.fast_wire.specs.Nullable.{IsNullOr, IsSignedNullable, IsUnsignedNullable, received_signed, received_unsigned, units}
-use Rattle.fast_wire.specs.PresenceMap.{IsWholeMap, bits_of}
-use Rattle.fast_wire.specs.Reader.{IsBytes, IsReader, Takes}
-use Rattle.fast_wire.specs.Reading.{◌>>=◌, AsciiFault, EntityFault, Gives, IsReadAt, NothingElse, OrMemory, Reads, VectorFault, LengthFault, ascii_at, ascii_nullable_at, behind_length, bytes_at, characters, entity_at, map_at, nullable_characters, signed_at, signed_nullable_at, unsigned_at, unsigned_nullable_at, vector_at, vector_nullable_at, within_limit}
-use Rattle.fast_wire.specs.Sizes.{CanBeMap, CanBeSigned, CanBeSignedNullable, CanBeUnsignedNullable, CanBeUnsigned, CanBeVector}
-use Rattle.fast_wire.specs.Vector.{IsLengthNullable, IsVector, IsVectorNullable}
-use Rattle.fast_wire.specs.declared.fault.WireFault.{WireFault}
-use Rattle.fast_wire.specs.declared.fault.WireFault.TheVariants as fault
-use Rattle.fast_wire.specs.declared.nullable.Nullable.{Nullable}
-use Rattle.fast_wire.specs.declared.nullable.Nullable.TheVariants.{Null, Value}
 use Rattle.fast_wire.proofs.AsciiForms.{characters_behind, spells, spells_nullable}
 use Rattle.fast_wire.proofs.FormReaders.{ascii_forms, ascii_nullable_forms, entities, entity_err, err_is, map_err, map_forms, signed_forms, string_at, unsigned_forms, within_ok, within_err}
 use Rattle.fast_wire.proofs.FormSizes.{ascii_nullable_sizes, ascii_sizes, signed_nullable_sizes, signed_sizes, unsigned_nullable_sizes, unsigned_sizes, vector_nullable_sizes, vector_sizes}
@@ -54,7 +39,7 @@ pub nothing_stands : {Y : Type 0} (r : Result Y WireFault) (e : WireFault) → N
 nothing_stands r e h = absurd h
 
 module _ {X V : Type 0} (Else : Result (V × List ℕ) WireFault → WireFault → Type 0) (stands : (r : Result (V × List ℕ) WireFault) (e : WireFault) → Else r e → IsOk r) (read : List ℕ → Result (V × List ℕ) WireFault) (Form : List ℕ → V → Type 0)
-    (is : IsReader fault.NeedMore read Form) (Can : V → Type 0) (can : (b : List ℕ) (v : V) → Form b v → Can v) (Fault : List ℕ → ℕ → WireFault → Type 0)
+    (is : IsReader WireFault.NeedMore read Form) (Can : V → Type 0) (can : (b : List ℕ) (v : V) → Form b v → Can v) (Fault : List ℕ → ℕ → WireFault → Type 0)
     (faults : (bytes : List ℕ) (at : ℕ) (e : WireFault) → IsBytes (drop at bytes) → at ≤ length bytes → read (drop at bytes) ≡ Err e → Fault bytes at e) (view : X → V) where
   pub read_at : (bytes : List ℕ) (at : ℕ) (r : Result (X × ℕ) WireFault) → ((k : ℕ) → get_or bytes k 0 < 256) → at ≤ length bytes → IfOk r (λ x. (at < x.1) × (x.1 ≤ length bytes))
       → Gives Else (λ x. (view x.0, drop x.1 bytes)) r (read (drop at bytes)) → IsReadAt Else read Form Can Fault view bytes at r
@@ -91,11 +76,11 @@ module _ {X V : Type 0} (Else : Result (V × List ℕ) WireFault → WireFault �
 -- ---- the faults of each reading
 
 entity_fault : (limit : ℕ) (bytes : List ℕ) (at : ℕ) (e : WireFault) → at ≤ length bytes → entity_at limit (drop at bytes) ≡ Err e → EntityFault limit bytes at e
-entity_fault limit bytes at fault.NeedMore within h = let f = entity_err limit (drop at bytes) fault.NeedMore h in (omega (arith, f.0, length-drop at bytes), f.1)
-entity_fault limit bytes at fault.TooLong within h = let f = entity_err limit (drop at bytes) fault.TooLong h in (omega (arith, f.0, length-drop at bytes), f.1)
-entity_fault limit bytes at fault.Range within h = entity_err limit (drop at bytes) fault.Range h
-entity_fault limit bytes at fault.NotUtf8 within h = entity_err limit (drop at bytes) fault.NotUtf8 h
-entity_fault limit bytes at fault.Memory within h = entity_err limit (drop at bytes) fault.Memory h
+entity_fault limit bytes at WireFault.NeedMore within h = let f = entity_err limit (drop at bytes) WireFault.NeedMore h in (omega (arith, f.0, length-drop at bytes), f.1)
+entity_fault limit bytes at WireFault.TooLong within h = let f = entity_err limit (drop at bytes) WireFault.TooLong h in (omega (arith, f.0, length-drop at bytes), f.1)
+entity_fault limit bytes at WireFault.Range within h = entity_err limit (drop at bytes) WireFault.Range h
+entity_fault limit bytes at WireFault.NotUtf8 within h = entity_err limit (drop at bytes) WireFault.NotUtf8 h
+entity_fault limit bytes at WireFault.Memory within h = entity_err limit (drop at bytes) WireFault.Memory h
 
 unsigned_fault : (bytes : List ℕ) (at : ℕ) (e : WireFault) → at ≤ length bytes → unsigned_at (drop at bytes) ≡ Err e → EntityFault 10 bytes at e
 unfolding unsigned_at
@@ -117,9 +102,9 @@ map_fault : (bytes : List ℕ) (at : ℕ) (e : WireFault) → at ≤ length byte
 unfolding map_at
 map_fault bytes at e within h = entity_fault 256 bytes at e within (map_err (entity_at 256 (drop at bytes)) (λ e. (bits_of (groups e.0), e.1)) e h)
 
-within_fault : {V : Type 0} (size : V → ℕ) (s : V) (e : WireFault) → within_limit size s ≡ Err e → (e ≡ fault.TooLong) × (65535 < size s)
+within_fault : {V : Type 0} (size : V → ℕ) (s : V) (e : WireFault) → within_limit size s ≡ Err e → (e ≡ WireFault.TooLong) × (65535 < size s)
 within_fault {V} size s e h = elim (cases_lt 65535 (size s)) [
-  | inl lt ↦ (err_is {A = V} e fault.TooLong (sym h ∙ within_err size s lt), lt)
+  | inl lt ↦ (err_is {A = V} e WireFault.TooLong (sym h ∙ within_err size s lt), lt)
   | inr ge ↦ let w = within_ok size s ge in absurd cc
 ]
 
@@ -156,9 +141,9 @@ ascii_nullable_fault =
 -- so many bytes are too many, or are not there
 length_fault : (n : ℕ) (bytes : List ℕ) (e : WireFault) → bytes_at n bytes ≡ Err e → LengthFault n (length bytes) e
 length_fault n bytes e h = elim (cases_lt 65535 n) [
-  | inl lt ↦ let is = err_is {A = List ℕ × List ℕ} fault.TooLong e (sym (bytes_long n bytes lt) ∙ h) in subst (λ (f : WireFault). LengthFault n (length bytes) f) is lt
+  | inl lt ↦ let is = err_is {A = List ℕ × List ℕ} WireFault.TooLong e (sym (bytes_long n bytes lt) ∙ h) in subst (λ (f : WireFault). LengthFault n (length bytes) f) is lt
   | inr few ↦ elim (cases_lt (length bytes) n) [
-    | inl lt ↦ let is = err_is {A = List ℕ × List ℕ} fault.NeedMore e (sym (bytes_wait n bytes few lt) ∙ h) in subst (λ (f : WireFault). LengthFault n (length bytes) f) is (few, lt)
+    | inl lt ↦ let is = err_is {A = List ℕ × List ℕ} WireFault.NeedMore e (sym (bytes_wait n bytes few lt) ∙ h) in subst (λ (f : WireFault). LengthFault n (length bytes) f) is (few, lt)
     | inr ge ↦ let w = bytes_ok n bytes few ge in absurd cc
   ]
 ]

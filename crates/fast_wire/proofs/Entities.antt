@@ -1,7 +1,5 @@
 -- Lemmas on entities.
-use Rattle.std.proofs.Common.{◌≡◌, ℕ, zero, suc, ◌+◌, ◌-◌, ◌<◌, ◌≤◌, List, [], ◌∷◌, length, get_or, take, drop, slice_range, arith, length-take, length-drop, get_or-take, get_or-drop}
-use Rattle.std.proofs.lemmas.List.{take-take}
-use Rattle.fast_wire.specs.Entity.{IsEntity, IsFirstStop}
+use Rattle.fast_wire.proofs.Common.{◌≡◌, ℕ, zero, suc, ◌+◌, ◌-◌, ◌<◌, ◌≤◌, List, [], ◌∷◌, length, get_or, take, drop, slice_range, arith, length-take, length-drop, get_or-take, get_or-drop, take-take, IsEntity, IsFirstStop}
 
 -- the bytes up to the first stop bit are an entity
 pub entity_to_stop : (xs : List ℕ) (i : ℕ) → get_or xs i 0 < 256 → IsFirstStop xs i → IsEntity (take (suc i) xs)

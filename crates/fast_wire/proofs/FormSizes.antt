@@ -1,21 +1,5 @@
 -- Which values have a form, how long the shortest is, and that a form of a given length is one.
-use Rattle.std.proofs.Common.{◌≡◌, ℕ, ℤ, zero, suc, ◌+◌, ◌-◌, ◌%◌, ◌^◌, ◌<◌, ◌≤◌, pos, negsuc, List, [], ◌∷◌, ◌++◌, length, get_or, refl, sym, ap, subst, ◌∙◌, arith, inl, inr, length-append, drop}
-use Rattle.std.specs.Prelude.{All, replicate, ◌-ℤ◌}
-use Rattle.std.proofs.Math.Nat.{pow-le-pow_right}
-use Rattle.std.proofs.lemmas.Bool.{cases_lt}
-use Rattle.std.proofs.lemmas.Int.{ints}
-use Rattle.std.proofs.lemmas.List.{drop_at, length-replicate}
-use Rattle.std.proofs.lemmas.List.Elements.{All-drop, All-from_get_or}
-use Rattle.fast_wire.specs.Ascii.{IsAscii, IsAsciiNullable, IsAsciiText}
-use Rattle.fast_wire.specs.Entity.{groups}
-use Rattle.fast_wire.specs.Integer.{IsNoCloser, IsSigned, IsUnsigned, magnitude, unsigned_of}
-use Rattle.fast_wire.specs.Nullable.{IsNullOr, IsSignedNullable, IsUnsignedNullable, sent_signed, sent_unsigned}
-use Rattle.fast_wire.specs.Sizes.{ascii_nullable_size, ascii_size, CanBeSigned, CanBeSignedNullable, CanBeUnsignedNullable, CanBeUnsigned, CanBeVector, HasSizes, signed_nullable_size, signed_size, unsigned_nullable_size, unsigned_size, vector_nullable_size, vector_size}
-use Rattle.fast_wire.specs.Spellings.{entity_of, preamble_for, string_of}
-use Rattle.fast_wire.specs.Vector.{IsVector, IsVectorNullable}
-use Rattle.fast_wire.specs.Writing.{IsShortest}
-use Rattle.fast_wire.specs.declared.nullable.Nullable.{Nullable}
-use Rattle.fast_wire.specs.declared.nullable.Nullable.TheVariants.{Null, Value}
+use Rattle.fast_wire.proofs.Common.{◌≡◌, ℕ, ℤ, zero, suc, ◌+◌, ◌-◌, ◌%◌, ◌^◌, ◌<◌, ◌≤◌, pos, negsuc, List, [], ◌∷◌, ◌++◌, length, get_or, refl, sym, ap, subst, ◌∙◌, arith, inl, inr, length-append, drop, All, replicate, ◌-ℤ◌, pow-le-pow_right, cases_lt, ints, drop_at, length-replicate, All-drop, All-from_get_or, IsAscii, IsAsciiNullable, IsAsciiText, groups, IsNoCloser, IsSigned, IsUnsigned, magnitude, unsigned_of, IsNullOr, IsSignedNullable, IsUnsignedNullable, sent_signed, sent_unsigned, ascii_nullable_size, ascii_size, CanBeSigned, CanBeSignedNullable, CanBeUnsignedNullable, CanBeUnsigned, CanBeVector, HasSizes, signed_nullable_size, signed_size, unsigned_nullable_size, unsigned_size, vector_nullable_size, vector_size, entity_of, preamble_for, string_of, IsVector, IsVectorNullable, IsShortest, Nullable, Null, Value}
 use Rattle.fast_wire.proofs.Numbers.{number_bound}
 use Rattle.fast_wire.proofs.UnsignedForms.{entity_shortest, entity_length, entity_some, unsigned_bound}
 use Rattle.fast_wire.proofs.SignedNumbers.{signed_above, signed_below}

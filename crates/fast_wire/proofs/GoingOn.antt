@@ -1,16 +1,5 @@
 -- What is read is read whatever follows.
-use Rattle.std.proofs.Common.{◌≡◌, ℕ, zero, suc, Bool, true, false, List, [], ◌∷◌, ◌++◌, length, take, drop, Result, Ok, Err, refl, sym, ap, ◌∙◌, arith, inl, inr, append_assoc, take-append-drop, length-take}
-use Rattle.std.specs.Prelude.{nat_le, if◌then◌else◌}
-use Rattle.std.proofs.lemmas.Bool.{cases_lt}
-use Rattle.fast_wire.specs.Reading.{◌>>=◌, entity_at, unsigned_at, signed_at, unsigned_nullable_at, signed_nullable_at, characters, nullable_characters, within_limit, ascii_at, ascii_nullable_at, bytes_at, vector_at, behind_length, vector_nullable_at, map_at}
-use Rattle.fast_wire.specs.Reader.{GoesOn}
-use Rattle.fast_wire.specs.Entity.{groups}
-use Rattle.fast_wire.specs.Integer.{unsigned_of, signed_of}
-use Rattle.fast_wire.specs.Nullable.{received_unsigned, received_signed, units}
-use Rattle.fast_wire.specs.PresenceMap.{bits_of}
-use Rattle.fast_wire.specs.declared.fault.WireFault.{WireFault}
-use Rattle.fast_wire.specs.declared.nullable.Nullable.{Nullable}
-use Rattle.fast_wire.specs.declared.nullable.Nullable.TheVariants.{Null, Value}
+use Rattle.fast_wire.proofs.Common.{◌≡◌, ℕ, zero, suc, Bool, true, false, List, [], ◌∷◌, ◌++◌, length, take, drop, Result, Ok, Err, refl, sym, ap, ◌∙◌, arith, inl, inr, append_assoc, take-append-drop, length-take, nat_le, if◌then◌else◌, cases_lt, ◌>>=◌, entity_at, unsigned_at, signed_at, unsigned_nullable_at, signed_nullable_at, characters, nullable_characters, within_limit, ascii_at, ascii_nullable_at, bytes_at, vector_at, behind_length, vector_nullable_at, map_at, GoesOn, groups, unsigned_of, signed_of, received_unsigned, received_signed, units, bits_of, WireFault, Nullable, Null, Value}
 use Rattle.fast_wire.proofs.Readers.{done, ok_is}
 use Rattle.fast_wire.proofs.VectorForms.{bytes_long, bytes_wait, bytes_ok, bytes_again}
 

@@ -1,13 +1,5 @@
 -- From the mask of 16 bytes to the first of them whose high bit is 1.
-use Rattle.std.proofs.Common.{◌≡◌, ℕ, ◌+◌, ◌%◌, ◌^◌, ◌≤◌, leb, eqb, cond, Bool, true, false, not, List, map, length, get_or, replicate, refl, sym, ap, ◌∙◌, arith}
-use Rattle.std.proofs.lemmas.Bool.{eq-eqb, ne_eqb, cond-true, cond-false}
-use Rattle.std.proofs.lemmas.Bool.Decides.{nat_tests}
-use Rattle.std.proofs.lemmas.Simd.{zip2_splat_left, map-map, mask_l-mod, length-chunk, first_set_mask_l, run_in_chunk_le, run_in_chunk_fails, run_in_chunk_stops}
-use Rattle.std.proofs.lemmas.List.{length-map}
-use Rattle.std.specs.List.{prefix_len}
-use Rattle.fast_wire.specs.Entity.{IsRun}
-use lib.Lanes.{chunk, zip2, mask_l, top}
-use lib.Count.{count_trailing_zeros}
+use Rattle.fast_wire.proofs.Common.{◌≡◌, ℕ, ◌+◌, ◌%◌, ◌^◌, ◌≤◌, leb, eqb, cond, Bool, true, false, not, List, map, length, get_or, replicate, refl, sym, ap, ◌∙◌, arith, eq-eqb, ne_eqb, cond-true, cond-false, nat_tests, zip2_splat_left, map-map, mask_l-mod, length-chunk, first_set_mask_l, run_in_chunk_le, run_in_chunk_fails, run_in_chunk_stops, length-map, prefix_len, IsRun, chunk, zip2, mask_l, top, count_trailing_zeros}
 
 abbrev is_stop : ℕ → Bool
 is_stop x = leb 128 x

@@ -1,21 +1,5 @@
 -- Entities that are longer than they need be, and readers that judge the first one.
-use Rattle.std.specs.Prelude.{ℤ, if◌then◌else◌}
-use Rattle.std.proofs.Common.{◌≡◌, ℕ, suc, ◌+◌, ◌-◌, ◌<◌, ◌≤◌, Bool, true, false, nat_eq, List, [], ◌∷◌, ◌++◌, length, slice_index_or, Result, Ok, Err, refl, sym, ap, subst, ◌∙◌, arith, append_assoc, append-nil}
-use Rattle.fast_wire.specs.Entity.{IsEntity, groups}
-use Rattle.fast_wire.specs.Integer.{IsUnsigned, IsSigned}
-use Rattle.fast_wire.specs.Nullable.{IsUnsignedNullable, IsSignedNullable}
-use Rattle.fast_wire.specs.Ascii.{IsAscii, IsAsciiNullable}
-use Rattle.fast_wire.specs.PresenceMap.{IsWholeMap}
-use Rattle.fast_wire.specs.Vector.{IsVector, IsVectorNullable}
-use Rattle.fast_wire.specs.Reader.{IsBytes, IsReader, Takes}
-use Rattle.fast_wire.specs.Reading.{◌>>=◌, entity_at}
-use Rattle.fast_wire.specs.Level.{last_is_zero, overlong_map, BeginsShort, AtLevel, verdict, judged}
-use Rattle.fast_wire.specs.declared.fault.WireFault.{WireFault}
-use Rattle.fast_wire.specs.declared.fault.WireFault.TheVariants as fault
-use Rattle.fast_wire.specs.declared.level.Level.{Level}
-use Rattle.fast_wire.specs.declared.level.Level.TheVariants.{Usual, Strict}
-use Rattle.fast_wire.specs.declared.nullable.Nullable.{Nullable}
-use Rattle.fast_wire.specs.declared.nullable.Nullable.TheVariants.{Null, Value}
+use Rattle.fast_wire.proofs.Common.{ℤ, if◌then◌else◌, ◌≡◌, ℕ, suc, ◌+◌, ◌-◌, ◌<◌, ◌≤◌, Bool, true, false, nat_eq, List, [], ◌∷◌, ◌++◌, length, slice_index_or, Result, Ok, Err, refl, sym, ap, subst, ◌∙◌, arith, append_assoc, append-nil, IsEntity, groups, IsUnsigned, IsSigned, IsUnsignedNullable, IsSignedNullable, IsAscii, IsAsciiNullable, IsWholeMap, IsVector, IsVectorNullable, IsBytes, IsReader, Takes, ◌>>=◌, entity_at, last_is_zero, overlong_map, BeginsShort, AtLevel, verdict, judged, WireFault, Level, Usual, Strict, Nullable, Null, Value}
 use Rattle.fast_wire.proofs.Readers.{done, ok_is}
 use Rattle.fast_wire.proofs.FormReaders.{entities}
 
@@ -61,7 +45,7 @@ verdict_ok overlong of_wire f (Ok e) h = elim (overlong e.0) as (λ t. overlong 
 verdict_ok overlong of_wire f (Err w) h = absurd cc
 
 module _ {A F : Type 0} (wait : F) (limit : ℕ) (overlong : List ℕ → Bool) (of_wire : WireFault → F) (f : F) (read : List ℕ → Result (A × List ℕ) F) (Form : List ℕ → A → Type 0)
-    (waits : of_wire fault.NeedMore ≡ wait) (begins : (b : List ℕ) (x : A) → Form b x → BeginsWithin limit b) (is : IsReader wait read Form) where
+    (waits : of_wire WireFault.NeedMore ≡ wait) (begins : (b : List ℕ) (x : A) → Form b x → BeginsWithin limit b) (is : IsReader wait read Form) where
   abbrev strictly : List ℕ → Result (A × List ℕ) F
   strictly bytes = judged Strict limit overlong of_wire f read bytes
 
@@ -89,7 +73,7 @@ module _ {A F : Type 0} (wait : F) (limit : ℕ) (overlong : List ℕ → Bool) 
   strict_stays : (bytes others : List ℕ) (d : F) → IsBytes bytes → (d ≡ wait → ⊥) → (r : Result (List ℕ × List ℕ) WireFault) → entity_at limit bytes ≡ r
       → (verdict overlong of_wire f r >>= λ ok. read bytes) ≡ Err d → strictly (bytes ++ others) ≡ Err d
   strict_stays bytes others d fits other (Err w) h e =
-      let no_wait : w ≡ fault.NeedMore → ⊥ = λ g. other (let s : of_wire w ≡ d = cc in sym s ∙ ap of_wire g ∙ waits) in
+      let no_wait : w ≡ WireFault.NeedMore → ⊥ = λ g. other (let s : of_wire w ≡ d = cc in sym s ∙ ap of_wire g ∙ waits) in
       rw ((entities limit).stays bytes others w fits h no_wait) e
   strict_stays bytes others d fits other (Ok x) h e =
       let t = (entities limit).found bytes x.0 x.1 fits h in

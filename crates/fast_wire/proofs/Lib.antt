@@ -1,3 +1,4 @@
+mod Common
 pub mod Entities
 pub mod Lanes
 pub mod Numbers

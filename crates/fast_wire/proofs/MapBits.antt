@@ -1,9 +1,5 @@
 -- Lemmas on the bits of a presence map.
-use Rattle.std.proofs.Common.{◌≡◌, ℕ, zero, suc, ◌+◌, ◌-◌, ◌*◌, ◌/◌, ◌%◌, ◌^◌, ◌<◌, ◌≤◌, Bool, true, false, nat_eq, List, [], ◌∷◌, length, get_or, drop, drop-drop, refl, sym, ap, ◌∙◌, arith, get_or-drop, inl, inr}
-use Rattle.std.proofs.lemmas.Bool.{cases_lt, true≢false}
-use Rattle.std.proofs.lemmas.List.{drop_all, length-map, get_or_past}
-use Rattle.fast_wire.specs.Entity.{groups}
-use Rattle.fast_wire.specs.PresenceMap.{bits_of, bit_at, later_bits, HasSetBit}
+use Rattle.fast_wire.proofs.Common.{◌≡◌, ℕ, zero, suc, ◌+◌, ◌-◌, ◌*◌, ◌/◌, ◌%◌, ◌^◌, ◌<◌, ◌≤◌, Bool, true, false, nat_eq, List, [], ◌∷◌, length, get_or, drop, drop-drop, refl, sym, ap, ◌∙◌, arith, get_or-drop, inl, inr, cases_lt, true≢false, drop_all, length-map, get_or_past, groups, bits_of, bit_at, later_bits, HasSetBit}
 
 -- seven bits for each group
 pub length_bits : (gs : List ℕ) → length (bits_of gs) ≡ 7 * length gs

@@ -1,11 +1,6 @@
 -- The map of n groups that has given bits, and that none is shorter.
-use Rattle.std.proofs.Common.{◌≡◌, ℕ, zero, suc, ◌+◌, ◌-◌, ◌*◌, ◌/◌, ◌%◌, ◌<◌, ◌≤◌, Bool, true, false, nat_eq, List, [], ◌∷◌, ◌++◌, length, drop, refl, sym, ap, ◌∙◌, arith, inl, inr, append_assoc, add-zero}
-use Rattle.std.proofs.lemmas.Bool.{cases_lt, true≢false}
+use Rattle.fast_wire.proofs.Common.{◌≡◌, ℕ, zero, suc, ◌+◌, ◌-◌, ◌*◌, ◌/◌, ◌%◌, ◌<◌, ◌≤◌, Bool, true, false, nat_eq, List, [], ◌∷◌, ◌++◌, length, drop, refl, sym, ap, ◌∙◌, arith, inl, inr, append_assoc, add-zero, cases_lt, true≢false, IsEntity, groups, IsShortest, group_bits, bits_of, bit_at, IsMap, HasSetBit, bit_number, group_from, map_of, IsUsed, IsMapSize}
 use Rattle.std.proofs.lemmas.List.{get_or_past, get_or-drop, length-map}
-use Rattle.fast_wire.specs.Entity.{IsEntity, groups}
-use Rattle.fast_wire.specs.Writing.{IsShortest}
-use Rattle.fast_wire.specs.PresenceMap.{group_bits, bits_of, bit_at, IsMap, HasSetBit}
-use Rattle.fast_wire.specs.Spellings.{bit_number, group_from, map_of, IsUsed, IsMapSize}
 use Rattle.fast_wire.proofs.MapBits.{length_bits}
 use Rattle.fast_wire.proofs.UnsignedForms.{entity_some}
 

@@ -1,12 +1,5 @@
 -- Words of bits behind a mark, their first 1.
-use Rattle.std.proofs.Common.{◌≡◌, ℕ, zero, suc, ◌+◌, ◌-◌, ◌*◌, ◌/◌, ◌%◌, ◌^◌, ◌<◌, ◌≤◌, Bool, true, false, nat_eq, List, [], ◌∷◌, ◌++◌, length, refl, sym, ap, ◌∙◌, arith}
-use Rattle.std.proofs.Math.Nat.{mul-add-div_right, pow-suc}
-use Rattle.std.proofs.Math.Numerals.{add-one}
-use Rattle.std.proofs.lemmas.Nat.{pow_pos}
-use mir.Val.{bool_byte}
-use lib.Count.{leading_top, leading_unique}
-use Rattle.fast_wire.specs.KeptBits.{kept_bits, marked_count}
-use Rattle.fast_wire.specs.PresenceMap.{word_bits}
+use Rattle.fast_wire.proofs.Common.{◌≡◌, ℕ, zero, suc, ◌+◌, ◌-◌, ◌*◌, ◌/◌, ◌%◌, ◌^◌, ◌<◌, ◌≤◌, Bool, true, false, nat_eq, List, [], ◌∷◌, ◌++◌, length, refl, sym, ap, ◌∙◌, arith, mul-add-div_right, pow-suc, add-one, pow_pos, bool_byte, leading_top, leading_unique, kept_bits, marked_count, word_bits}
 use Rattle.fast_wire.proofs.WordForms.{bits_push}
 
 twice_pow : (k : ℕ) → 2 ^ (k + 1) ≡ 2 * 2 ^ k

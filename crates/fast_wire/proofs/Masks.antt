@@ -1,13 +1,5 @@
 -- The bits of a word from a mask down.
-use Rattle.std.proofs.Common.{◌≡◌, ℕ, zero, suc, ◌*◌, ◌/◌, ◌%◌, ◌^◌, ◌<◌, ◌≤◌, nat_eq, not, List, [], ◌∷◌, refl, ap, ◌∙◌, arith, inl, inr, bit_and, drop, length, length-drop}
-use Rattle.std.specs.Prelude.{IsTrue}
-use Rattle.std.proofs.lemmas.Bool.Decides.{nat_tests}
-use Rattle.std.proofs.lemmas.List.{length-map}
-use lib.Bits.{and_zero_r}
-use Rattle.std.proofs.lemmas.Nat.{pow_below, pow_pos, shl_whole}
-use Rattle.std.proofs.lemmas.Nat.Bits.{and_pow}
-use Rattle.fast_wire.specs.Entity.{groups}
-use Rattle.fast_wire.specs.PresenceMap.{HasSetBit, IsMask, bits_of, bits_under, later_bits, next_bit, word_bits}
+use Rattle.fast_wire.proofs.Common.{◌≡◌, ℕ, zero, suc, ◌*◌, ◌/◌, ◌%◌, ◌^◌, ◌<◌, ◌≤◌, nat_eq, not, List, [], ◌∷◌, refl, ap, ◌∙◌, arith, inl, inr, bit_and, drop, length, length-drop, IsTrue, nat_tests, length-map, and_zero_r, pow_below, pow_pos, shl_whole, and_pow, groups, HasSetBit, IsMask, bits_of, bits_under, later_bits, next_bit, word_bits}
 use Rattle.fast_wire.proofs.MapBits.{length_bits}
 use Rattle.fast_wire.proofs.WordBits.{left_bits}
 

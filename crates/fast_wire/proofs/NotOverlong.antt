@@ -1,19 +1,6 @@
 -- A shortest form is not overlong, so it stands at the strict level too.
-use Rattle.std.proofs.Common.{◌≡◌, ◌⊎◌, ℕ, ℤ, pos, zero, suc, ◌+◌, ◌*◌, ◌%◌, ◌^◌, ◌≤◌, Bool, true, false, nat_eq, nat_lt, nat_le, List, [], ◌∷◌, ◌++◌, length, refl, sym, ap, ◌∙◌, arith, inl, inr, append-nil, append_assoc}
-use Rattle.std.specs.Prelude.{◌&&◌, ◌||◌, ◌-ℤ◌}
-use Rattle.std.proofs.Math.Nat.{pow-suc}
-use Rattle.std.proofs.lemmas.Bool.Decides.{nat_tests}
-use Rattle.std.proofs.lemmas.Int.{ints}
+use Rattle.fast_wire.proofs.Common.{◌≡◌, ◌⊎◌, ℕ, ℤ, pos, zero, suc, ◌+◌, ◌*◌, ◌%◌, ◌^◌, ◌≤◌, Bool, true, false, nat_eq, nat_lt, nat_le, List, [], ◌∷◌, ◌++◌, length, refl, sym, ap, ◌∙◌, arith, inl, inr, append-nil, append_assoc, ◌&&◌, ◌||◌, ◌-ℤ◌, pow-suc, nat_tests, ints, IsEntity, IsSpelled, groups, IsUnsigned, IsSigned, unsigned_of, signed_of, IsUnsignedNullable, IsSignedNullable, sent_unsigned, sent_signed, SpellsAscii, SpellsAsciiNullable, IsAscii, IsAsciiEntity, IsAsciiNullable, IsAsciiEntityNullable, IsCounted, IsVector, IsLengthNullable, IsVectorNullable, BeginsShort, repeats_sign, preamble_for_nothing, two_for_nothing, overlong_unsigned, overlong_signed, overlong_ascii, IsShortest, Nullable, Null, Value}
 use Rattle.std.proofs.lemmas.List.{length-map, length-append}
-use Rattle.fast_wire.specs.Entity.{IsEntity, IsSpelled, groups}
-use Rattle.fast_wire.specs.Integer.{IsUnsigned, IsSigned, unsigned_of, signed_of}
-use Rattle.fast_wire.specs.Nullable.{IsUnsignedNullable, IsSignedNullable, sent_unsigned, sent_signed}
-use Rattle.fast_wire.specs.Ascii.{SpellsAscii, SpellsAsciiNullable, IsAscii, IsAsciiEntity, IsAsciiNullable, IsAsciiEntityNullable}
-use Rattle.fast_wire.specs.Vector.{IsCounted, IsVector, IsLengthNullable, IsVectorNullable}
-use Rattle.fast_wire.specs.Level.{BeginsShort, repeats_sign, preamble_for_nothing, two_for_nothing, overlong_unsigned, overlong_signed, overlong_ascii}
-use Rattle.fast_wire.specs.Writing.{IsShortest}
-use Rattle.fast_wire.specs.declared.nullable.Nullable.{Nullable}
-use Rattle.fast_wire.specs.declared.nullable.Nullable.TheVariants.{Null, Value}
 
 -- a form without its first byte is no form of the same value
 no_shorter : {V : Type 0} (limit : ℕ) (Spells : List ℕ → V → Type 0) (b c : ℕ) (bs : List ℕ) (v : V) → IsShortest (IsSpelled limit Spells) (b ∷ c ∷ bs) v → Spells (c ∷ bs) v → ⊥

@@ -1,10 +1,5 @@
 -- Lemmas on the numbers that groups spell.
-use Rattle.std.proofs.Common.{◌≡◌, ℕ, zero, suc, ◌+◌, ◌*◌, ◌%◌, ◌^◌, ◌<◌, ◌≤◌, List, [], ◌∷◌, ◌++◌, length, get_or, take, refl, ap, ◌∙◌, arith, length-append}
-use Rattle.std.proofs.Math.Nat.{pow-suc, pow-zero, pow-le-pow_right, mul_assoc, mul-le-mul_right}
-use Rattle.std.proofs.lemmas.Nat.{pow-add}
-use Rattle.std.proofs.lemmas.List.{map_more, length-map}
-use Rattle.fast_wire.specs.Entity.{groups, number_of}
-use Rattle.fast_wire.specs.Integer.{unsigned_of}
+use Rattle.fast_wire.proofs.Common.{◌≡◌, ℕ, zero, suc, ◌+◌, ◌*◌, ◌%◌, ◌^◌, ◌<◌, ◌≤◌, List, [], ◌∷◌, ◌++◌, length, get_or, take, refl, ap, ◌∙◌, arith, length-append, pow-suc, pow-zero, pow-le-pow_right, mul_assoc, mul-le-mul_right, pow-add, map_more, length-map, groups, number_of, unsigned_of}
 
 -- one group more at the end
 pub number_push : (gs : List ℕ) (g : ℕ) → number_of (gs ++ g ∷ []) ≡ number_of gs * 128 + g

@@ -1,13 +1,6 @@
 -- An entity whose first group is not 0 is a string in its shortest form, with NULL and without.
-use Rattle.std.proofs.Common.{◌≡◌, Result, Ok, Err, ℕ, zero, suc, ◌+◌, ◌-◌, ◌%◌, ◌<◌, ◌≤◌, List, [], ◌∷◌, ◌++◌, length, get_or, take, drop, refl, sym, ap, ◌∙◌, arith, slice_range, drop-drop, length-take}
+use Rattle.fast_wire.proofs.Common.{◌≡◌, Result, Ok, Err, ℕ, zero, suc, ◌+◌, ◌-◌, ◌%◌, ◌<◌, ◌≤◌, List, [], ◌∷◌, ◌++◌, length, get_or, take, drop, refl, sym, ap, ◌∙◌, arith, slice_range, drop-drop, length-take, IsAscii, IsAsciiNullable, SpellsAscii, SpellsAsciiNullable, IsEntity, groups, IsPlain, ascii_at, ascii_nullable_at, entity_at, ascii_size, ascii_nullable_size, WireFault, Value}
 use Rattle.std.proofs.lemmas.List.{length-map, take_more, take-append-drop}
-use Rattle.fast_wire.specs.Ascii.{IsAscii, IsAsciiNullable, SpellsAscii, SpellsAsciiNullable}
-use Rattle.fast_wire.specs.Entity.{IsEntity, groups}
-use Rattle.fast_wire.specs.Plain.{IsPlain}
-use Rattle.fast_wire.specs.Reading.{ascii_at, ascii_nullable_at, entity_at}
-use Rattle.fast_wire.specs.Sizes.{ascii_size, ascii_nullable_size}
-use Rattle.fast_wire.specs.declared.fault.WireFault.{WireFault}
-use Rattle.fast_wire.specs.declared.nullable.Nullable.TheVariants.{Value}
 use Rattle.fast_wire.proofs.FormReaders.{ascii_forms, ascii_nullable_forms, entities}
 use Rattle.fast_wire.proofs.FormSizes.{ascii_sizes, ascii_nullable_sizes}
 

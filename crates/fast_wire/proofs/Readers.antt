@@ -1,7 +1,5 @@
 -- Laws of readers, and how readers are put together.
-use Rattle.std.proofs.Common.{◌≡◌, ℕ, Bool, true, false, List, [], ◌++◌, Result, Ok, Err, refl, sym, ap, subst, ◌∙◌, append_assoc, append-nil, cond}
-use Rattle.fast_wire.specs.Reading.{◌>>=◌}
-use Rattle.fast_wire.specs.Reader.{IsBytes, IsReader, Both}
+use Rattle.fast_wire.proofs.Common.{◌≡◌, ℕ, Bool, true, false, List, [], ◌++◌, Result, Ok, Err, refl, sym, ap, subst, ◌∙◌, append_assoc, append-nil, cond, ◌>>=◌, IsBytes, IsReader, Both}
 
 -- ---- laws of every reader
 

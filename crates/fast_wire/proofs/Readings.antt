@@ -1,14 +1,10 @@
 -- What is spelled at a place is read there, and nothing else is.
-use Rattle.std.proofs.Common.{◌≡◌, ℕ, ◌+◌, ◌-◌, ◌≤◌, List, ◌++◌, length, take, drop, Result, Ok, sym, ap, ◌∙◌, arith, length-drop, take-append-drop, drop-drop}
-use Rattle.fast_wire.specs.Reading.{Reads}
-use Rattle.fast_wire.specs.Reader.{IsReader}
-use Rattle.fast_wire.specs.declared.fault.WireFault.{WireFault}
-use Rattle.fast_wire.specs.declared.fault.WireFault.TheVariants as fault
+use Rattle.fast_wire.proofs.Common.{◌≡◌, ℕ, ◌+◌, ◌-◌, ◌≤◌, List, ◌++◌, length, take, drop, Result, Ok, sym, ap, ◌∙◌, arith, length-drop, take-append-drop, drop-drop, Reads, IsReader, WireFault}
 use Rattle.fast_wire.proofs.Readers.{done, ok_is}
 
 -- ---- what a reader of a form answers, from what reading gives
 
-module _ {V : Type 0} (read : List ℕ → Result (V × List ℕ) WireFault) (Form : List ℕ → V → Type 0) (is : IsReader fault.NeedMore read Form) (bytes : List ℕ) (at : ℕ) where
+module _ {V : Type 0} (read : List ℕ → Result (V × List ℕ) WireFault) (Form : List ℕ → V → Type 0) (is : IsReader WireFault.NeedMore read Form) (bytes : List ℕ) (at : ℕ) where
   -- what is spelled at a place is read there
   pub spelled_here : (next : ℕ) (value : V) → Reads Form bytes at (value, next) → read (drop at bytes) ≡ Ok (value, drop next bytes)
   spelled_here next value h =

@@ -1,6 +1,5 @@
 -- Rows that hold the definitions in place, where no contract would see a narrower one.
-use Rattle.std.proofs.Common.{pos, negsuc, ◌^◌, ◌-◌, arith}
-use Rattle.fast_wire.specs.Reading.{FitsI64, FitsU64}
+use Rattle.fast_wire.proofs.Common.{pos, negsuc, ◌^◌, ◌-◌, arith, FitsI64, FitsU64}
 
 -- the numbers that 64 bits hold, at their ends
 pub widest_u64 : FitsU64 (2 ^ 64 - 1)

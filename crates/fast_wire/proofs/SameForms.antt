@@ -1,10 +1,5 @@
 -- A form of a given length is one.
-use Rattle.std.proofs.Common.{◌≡◌, ℕ, ◌+◌, ◌*◌, ◌%◌, ◌^◌, ◌<◌, List, [], ◌∷◌, length, sym, ap, ◌∙◌, arith, ap₂}
-use Rattle.std.proofs.Math.Nat.{pow-zero}
-use Rattle.std.proofs.lemmas.Nat.{same_from_place}
-use Rattle.std.proofs.lemmas.List.{length-map}
-use Rattle.fast_wire.specs.Entity.{IsEntity, groups}
-use Rattle.fast_wire.specs.Integer.{unsigned_of, IsUnsigned}
+use Rattle.fast_wire.proofs.Common.{◌≡◌, ℕ, ◌+◌, ◌*◌, ◌%◌, ◌^◌, ◌<◌, List, [], ◌∷◌, length, sym, ap, ◌∙◌, arith, ap₂, pow-zero, same_from_place, length-map, IsEntity, groups, unsigned_of, IsUnsigned}
 use Rattle.fast_wire.proofs.Numbers.{number_bound}
 
 -- two entities of one length that spell one number are the same bytes

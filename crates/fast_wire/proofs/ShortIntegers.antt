@@ -1,17 +1,5 @@
 -- Entities of at most nine bytes, and what reading gives where one stands.
-use Rattle.std.proofs.Common.{◌≡◌, ℕ, ◌+◌, ◌-◌, ◌*◌, ◌%◌, ◌^◌, ◌<◌, ◌≤◌, List, Bool, true, false, length, pos, get_or, take, drop, slice_range, Ok, refl, sym, ap, ◌∙◌, subst, arith, length-take, length-drop, get_or-take, get_or-drop, ℤ}
-use Rattle.std.proofs.Math.Nat.{pow-le-pow_right, pow-suc}
-use Rattle.std.proofs.Math.Numerals.{add-one}
-use Rattle.std.specs.Int.{w64}
-use Rattle.std.specs.Prelude.{nat_le, ◌+ℤ◌, ◌*ℤ◌}
-use mir.Val.{SFits, to_z, of_z}
-use Rattle.std.proofs.lemmas.Int.{ints, to_z-of_z}
-use Rattle.std.proofs.lemmas.List.{take-take}
-use Rattle.fast_wire.specs.Entity.{IsFirstStop, groups}
-use Rattle.fast_wire.specs.Integer.{is_negative, unsigned_of}
-use Rattle.fast_wire.specs.Nullable.{received_signed, received_unsigned}
-use Rattle.fast_wire.specs.Reading.{signed_at, signed_nullable_at, unsigned_at, unsigned_nullable_at}
-use Rattle.fast_wire.specs.Spellings.{IsShort, IsShortUnder, under_sign}
+use Rattle.fast_wire.proofs.Common.{◌≡◌, ℕ, ◌+◌, ◌-◌, ◌*◌, ◌%◌, ◌^◌, ◌<◌, ◌≤◌, List, Bool, true, false, length, pos, get_or, take, drop, slice_range, Ok, refl, sym, ap, ◌∙◌, subst, arith, length-take, length-drop, get_or-take, get_or-drop, ℤ, pow-le-pow_right, pow-suc, add-one, w64, nat_le, ◌+ℤ◌, ◌*ℤ◌, SFits, to_z, of_z, ints, to_z-of_z, take-take, IsFirstStop, groups, is_negative, unsigned_of, received_signed, received_unsigned, signed_at, signed_nullable_at, unsigned_at, unsigned_nullable_at, IsShort, IsShortUnder, under_sign}
 use Rattle.fast_wire.proofs.Entities.{entity_from}
 use Rattle.fast_wire.proofs.FormReaders.{entity_given}
 use Rattle.fast_wire.proofs.Numbers.{number_bound, unsigned_more}

@@ -1,8 +1,5 @@
 -- A shortest presence map is not overlong.
-use Rattle.std.proofs.Common.{◌≡◌, ℕ, zero, suc, ◌+◌, ◌%◌, ◌≤◌, Bool, true, false, List, [], ◌∷◌, ◌++◌, length, refl, sym, ap, ◌∙◌, arith}
-use Rattle.fast_wire.specs.Entity.{IsEntity, groups}
-use Rattle.fast_wire.specs.PresenceMap.{group_bits, bits_of, bit_at, IsMap, IsWholeMap}
-use Rattle.fast_wire.specs.Level.{BeginsShort, last_is_zero, overlong_map, some_set}
+use Rattle.fast_wire.proofs.Common.{◌≡◌, ℕ, zero, suc, ◌+◌, ◌%◌, ◌≤◌, Bool, true, false, List, [], ◌∷◌, ◌++◌, length, refl, sym, ap, ◌∙◌, arith, IsEntity, groups, group_bits, bits_of, bit_at, IsMap, IsWholeMap, BeginsShort, last_is_zero, overlong_map, some_set}
 use Rattle.fast_wire.proofs.NotOverlong.{whole_short}
 
 -- the stop bit one byte earlier, and no last group

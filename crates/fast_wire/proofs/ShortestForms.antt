@@ -1,11 +1,5 @@
 -- Each number that fits ten groups has a shortest form, and so has each list of bits of which those that are set have room.
-use Rattle.std.proofs.Common.{◌≡◌, ℕ, zero, suc, ◌^◌, ◌+◌, ◌-◌, ◌/◌, ◌<◌, ◌≤◌, Bool, true, false, List, [], ◌∷◌, drop, refl, arith, inl, inr, lit≤}
-use Rattle.std.proofs.lemmas.Bool.{cases_lt}
-use Rattle.fast_wire.specs.Integer.{IsUnsigned}
-use Rattle.fast_wire.specs.PresenceMap.{bit_at, HasSetBit, IsMap}
-use Rattle.fast_wire.specs.Writing.{IsShortest}
-use Rattle.fast_wire.specs.Spellings.{entity_of, map_of, IsMapSize, IsUsed}
-use Rattle.fast_wire.specs.Sizes.{unsigned_size}
+use Rattle.fast_wire.proofs.Common.{◌≡◌, ℕ, zero, suc, ◌^◌, ◌+◌, ◌-◌, ◌/◌, ◌<◌, ◌≤◌, Bool, true, false, List, [], ◌∷◌, drop, refl, arith, inl, inr, lit≤, cases_lt, IsUnsigned, bit_at, HasSetBit, IsMap, IsShortest, entity_of, map_of, IsMapSize, IsUsed, unsigned_size}
 use Rattle.fast_wire.proofs.Sizes.{unsigned_fits}
 use Rattle.fast_wire.proofs.UnsignedForms.{entity_shortest}
 use Rattle.fast_wire.proofs.MapForms.{few_none, map_shortest, used_set}

@@ -1,20 +1,5 @@
 -- The entity of n groups that spells a signed number, and that none is shorter.
-use Rattle.std.proofs.Common.{◌≡◌, ℕ, ℤ, pos, negsuc, zero, suc, ◌+◌, ◌-◌, ◌*◌, ◌/◌, ◌%◌, ◌^◌, ◌<◌, ◌≤◌, List, [], ◌∷◌, length, get_or, refl, sym, ap, ◌∙◌, arith, inl, inr, true, false}
-use Rattle.std.specs.Prelude.{◌-ℤ◌}
-use Rattle.std.specs.Int.{w128}
-use mir.Val.{SFits}
-use lib.Signed.{lt_z}
-use Rattle.std.proofs.lemmas.Bool.Decides.{nat_tests}
-use Rattle.std.proofs.Math.Nat.{pow-suc, pow-zero, pow-le-pow_right, mod-eq_of_lt, mul-le-mul_right}
-use Rattle.std.proofs.lemmas.Bool.{cases_lt}
-use Rattle.std.proofs.lemmas.List.{length-map}
-use Rattle.std.proofs.lemmas.Nat.{le-div, div_below, pow_pos}
-use Rattle.std.proofs.lemmas.Int.{ints}
-use Rattle.fast_wire.specs.Entity.{groups}
-use Rattle.fast_wire.specs.Integer.{magnitude, unsigned_of, signed_of, IsSigned}
-use Rattle.fast_wire.specs.Sizes.{CanBeSigned}
-use Rattle.fast_wire.specs.Writing.{IsShortest}
-use Rattle.fast_wire.specs.Spellings.{entity_of, IsLeastSignedSize}
+use Rattle.fast_wire.proofs.Common.{◌≡◌, ℕ, ℤ, pos, negsuc, zero, suc, ◌+◌, ◌-◌, ◌*◌, ◌/◌, ◌%◌, ◌^◌, ◌<◌, ◌≤◌, List, [], ◌∷◌, length, get_or, refl, sym, ap, ◌∙◌, arith, inl, inr, true, false, ◌-ℤ◌, w128, SFits, lt_z, nat_tests, pow-suc, pow-zero, pow-le-pow_right, mod-eq_of_lt, mul-le-mul_right, cases_lt, length-map, le-div, div_below, pow_pos, ints, groups, magnitude, unsigned_of, signed_of, IsSigned, CanBeSigned, IsShortest, entity_of, IsLeastSignedSize}
 use Rattle.fast_wire.proofs.Numbers.{pow_bits, number_bound}
 use Rattle.fast_wire.proofs.UnsignedForms.{entity_is, entity_length, entity_value, entity_some}
 use Rattle.fast_wire.proofs.SignedNumbers.{signed_below, signed_above}

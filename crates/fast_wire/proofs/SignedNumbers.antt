@@ -1,13 +1,5 @@
 -- Lemmas on signed numbers.
-use Rattle.std.proofs.Common.{◌≡◌, ℕ, pos, ◌*◌, ◌%◌, ◌^◌, ◌<◌, ◌≤◌, true, false, List, [], ◌∷◌, length, get_or, refl, sym, ◌∙◌, arith, rules}
-use Rattle.std.specs.Int.{w128}
-use Rattle.std.specs.Prelude.{nat_le, ◌-ℤ◌}
-use Rattle.std.proofs.lemmas.Bool.Decides.{nat_tests}
-use Rattle.std.proofs.lemmas.Int.{ints, to_z-of_z, to_z_pos}
-use Rattle.std.proofs.lemmas.Nat.{one_shl}
-use mir.Val.{SFits, to_z, of_z}
-use Rattle.fast_wire.specs.Entity.{groups}
-use Rattle.fast_wire.specs.Integer.{unsigned_of, signed_of, is_negative}
+use Rattle.fast_wire.proofs.Common.{◌≡◌, ℕ, pos, ◌*◌, ◌%◌, ◌^◌, ◌<◌, ◌≤◌, true, false, List, [], ◌∷◌, length, get_or, refl, sym, ◌∙◌, arith, rules, w128, nat_le, ◌-ℤ◌, nat_tests, ints, to_z-of_z, to_z_pos, one_shl, SFits, to_z, of_z, groups, unsigned_of, signed_of, is_negative}
 use Rattle.fast_wire.proofs.Numbers.{pow_bits}
 
 -- what `1 << (7 * n)` gives at 128 bits

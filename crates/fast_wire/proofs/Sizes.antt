@@ -1,12 +1,5 @@
 -- How many groups numbers need.
-use Rattle.std.proofs.Common.{◌≡◌, ℕ, ℤ, zero, suc, ◌+◌, ◌-◌, ◌*◌, ◌^◌, ◌<◌, ◌≤◌, refl, subst, arith, inl, inr}
-use Rattle.std.proofs.Math.Nat.{pow-suc, mul_assoc, pow-le-pow_right, mul-le-mul_left}
-use Rattle.std.proofs.lemmas.Bool.{cases_lt}
-use Rattle.std.proofs.lemmas.Bool.Decides.{nat_tests}
-use Rattle.std.specs.Prelude.{nat_lt, true, false}
-use Rattle.fast_wire.specs.Integer.{magnitude}
-use Rattle.fast_wire.specs.Sizes.{groups_from, unsigned_size, signed_size}
-use Rattle.fast_wire.specs.Spellings.{IsLeastSize, IsLeastSignedSize}
+use Rattle.fast_wire.proofs.Common.{◌≡◌, ℕ, ℤ, zero, suc, ◌+◌, ◌-◌, ◌*◌, ◌^◌, ◌<◌, ◌≤◌, refl, subst, arith, inl, inr, pow-suc, mul_assoc, pow-le-pow_right, mul-le-mul_left, cases_lt, nat_tests, nat_lt, true, false, magnitude, groups_from, unsigned_size, signed_size, IsLeastSize, IsLeastSignedSize}
 
 -- more than n groups are too few for a number that is not below the limit of n groups
 step_below : (more limit n : ℕ) → n < limit → groups_from (suc more) limit n ≡ 1

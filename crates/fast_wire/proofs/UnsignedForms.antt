@@ -1,13 +1,6 @@
 -- The entity of n groups that spells a number, and that none is shorter.
 use Rattle.std.proofs.Common.{◌≡◌, ℕ, zero, suc, ◌+◌, ◌-◌, ◌*◌, ◌/◌, ◌%◌, ◌^◌, ◌<◌, ◌≤◌, List, [], ◌∷◌, ◌++◌, length, refl, sym, ap, ◌∙◌, arith, add-one, append_assoc, inl, inr}
-use Rattle.std.proofs.Math.Nat.{pow-suc, pow-zero, pow-le-pow_right, mod-eq_of_lt}
-use Rattle.std.proofs.lemmas.Bool.{cases_lt}
-use Rattle.std.proofs.lemmas.Nat.{mod-pow-add}
-use Rattle.std.proofs.lemmas.List.{length-map}
-use Rattle.fast_wire.specs.Entity.{IsEntity, groups}
-use Rattle.fast_wire.specs.Integer.{unsigned_of, IsUnsigned}
-use Rattle.fast_wire.specs.Writing.{IsShortest}
-use Rattle.fast_wire.specs.Spellings.{entity_of, IsLeastSize}
+use Rattle.fast_wire.proofs.Common.{pow-suc, pow-zero, pow-le-pow_right, mod-eq_of_lt, cases_lt, mod-pow-add, length-map, IsEntity, groups, unsigned_of, IsUnsigned, IsShortest, entity_of, IsLeastSize}
 use Rattle.fast_wire.proofs.Numbers.{pow_bits, number_bound}
 
 pub entity_more : (k v : ℕ) → 1 ≤ k → entity_of (k + 1) v ≡ (v / 128 ^ k % 128) ∷ entity_of k v

@@ -1,21 +1,5 @@
 -- Byte vectors: how they are read, and the shortest forms.
-use Rattle.std.proofs.Common.{◌≡◌, ℕ, zero, suc, ◌+◌, ◌<◌, ◌≤◌, true, false, List, [], ◌∷◌, ◌++◌, length, take, drop, Ok, Err, refl, sym, ap, subst, ◌∙◌, arith, inl, inr, take-append-drop, length-append, length-take, append-nil}
-use Rattle.std.specs.Prelude.{nat_lt}
-use Rattle.std.proofs.lemmas.Bool.{cases_lt}
-use Rattle.std.proofs.lemmas.Bool.Decides.{nat_tests}
-use Rattle.std.proofs.lemmas.List.{take_at, drop_at}
-use Rattle.fast_wire.specs.Integer.{IsUnsigned}
-use Rattle.fast_wire.specs.Nullable.{IsUnsignedNullable}
-use Rattle.fast_wire.specs.Sizes.{CanBeVector, vector_nullable_size, vector_size}
-use Rattle.fast_wire.specs.Vector.{IsVector, IsVectorNullable}
-use Rattle.fast_wire.specs.Reader.{IsBytes, Takes, IsReader, Both}
-use Rattle.fast_wire.specs.Reading.{bytes_at, behind_length, unsigned_at, unsigned_nullable_at, vector_at, vector_nullable_at}
-use Rattle.fast_wire.specs.Spellings.{IsLeastSize, entity_of}
-use Rattle.fast_wire.specs.Writing.{IsShortest, IsShortestSize}
-use Rattle.fast_wire.specs.declared.fault.WireFault.{WireFault}
-use Rattle.fast_wire.specs.declared.fault.WireFault.TheVariants as fault
-use Rattle.fast_wire.specs.declared.nullable.Nullable.{Nullable}
-use Rattle.fast_wire.specs.declared.nullable.Nullable.TheVariants.{Null, Value}
+use Rattle.fast_wire.proofs.Common.{◌≡◌, ℕ, zero, suc, ◌+◌, ◌<◌, ◌≤◌, true, false, List, [], ◌∷◌, ◌++◌, length, take, drop, Ok, Err, refl, sym, ap, subst, ◌∙◌, arith, inl, inr, take-append-drop, length-append, length-take, append-nil, nat_lt, cases_lt, nat_tests, take_at, drop_at, IsUnsigned, IsUnsignedNullable, CanBeVector, vector_nullable_size, vector_size, IsVector, IsVectorNullable, IsBytes, Takes, IsReader, Both, bytes_at, behind_length, unsigned_at, unsigned_nullable_at, vector_at, vector_nullable_at, IsLeastSize, entity_of, IsShortest, IsShortestSize, WireFault, Nullable, Null, Value}
 use Rattle.fast_wire.proofs.UnsignedForms.{entity_length, entity_shortest, entity_some}
 use Rattle.fast_wire.proofs.Sizes.{unsigned_least}
 use Rattle.fast_wire.proofs.Readers.{done, ok_is, reader_then, reader_of, reader_as, reader_map}
@@ -24,11 +8,11 @@ use Rattle.fast_wire.proofs.NullableForms.{unsigned_nullable_forms}
 
 -- ---- so many bytes
 
-pub bytes_long : (n : ℕ) (bytes : List ℕ) → 65535 < n → bytes_at n bytes ≡ Err fault.TooLong
+pub bytes_long : (n : ℕ) (bytes : List ℕ) → 65535 < n → bytes_at n bytes ≡ Err WireFault.TooLong
 unfolding bytes_at
 bytes_long n bytes h = let t : nat_lt 65535 n ≡ true = grind (arith, nat_tests) in rw t refl
 
-pub bytes_wait : (n : ℕ) (bytes : List ℕ) → n ≤ 65535 → length bytes < n → bytes_at n bytes ≡ Err fault.NeedMore
+pub bytes_wait : (n : ℕ) (bytes : List ℕ) → n ≤ 65535 → length bytes < n → bytes_at n bytes ≡ Err WireFault.NeedMore
 unfolding bytes_at
 bytes_wait n bytes few h =
     let t : nat_lt 65535 n ≡ false = grind (arith, nat_tests) in
@@ -82,7 +66,7 @@ bytes_again n b x rest h =
     let enough : n ≤ length (b ++ rest) = omega (arith, length-append b rest) in
     bytes_ok n (b ++ rest) h.2 enough ∙ rw (take_at b rest n size, drop_at b rest n size) (ap (λ (z : List ℕ). done {F = WireFault} (z, rest)) h.0)
 
-bytes_stays : (n : ℕ) (bytes others : List ℕ) (f : WireFault) → bytes_at n bytes ≡ Err f → (f ≡ fault.NeedMore → ⊥) → bytes_at n (bytes ++ others) ≡ Err f
+bytes_stays : (n : ℕ) (bytes others : List ℕ) (f : WireFault) → bytes_at n bytes ≡ Err f → (f ≡ WireFault.NeedMore → ⊥) → bytes_at n (bytes ++ others) ≡ Err f
 bytes_stays n bytes others f e other = elim (cases_lt 65535 n) [
   | inl lt ↦ bytes_long n (bytes ++ others) lt ∙ sym (bytes_long n bytes lt) ∙ e
   | inr few ↦ elim (cases_lt (length bytes) n) [
@@ -91,7 +75,7 @@ bytes_stays n bytes others f e other = elim (cases_lt 65535 n) [
   ]
 ]
 
-byte_reader : (n : ℕ) → IsReader fault.NeedMore (bytes_at n) (AreBytes n)
+byte_reader : (n : ℕ) → IsReader WireFault.NeedMore (bytes_at n) (AreBytes n)
 byte_reader n = record {
   found = bytes_found n;
   again = λ b x rest h. bytes_again n b x rest h.0;
@@ -100,10 +84,10 @@ byte_reader n = record {
 
 -- ---- vectors
 
-pub vector_forms : IsReader fault.NeedMore vector_at IsVector
+pub vector_forms : IsReader WireFault.NeedMore vector_at IsVector
 unfolding vector_at
 vector_forms =
-    reader_as fault.NeedMore vector_at (Both IsUnsigned AreBytes) IsVector
+    reader_as WireFault.NeedMore vector_at (Both IsUnsigned AreBytes) IsVector
     (λ b s h. record {
       front = h.front;
       parts = h.parts ∙ ap (λ (z : List ℕ). h.front ++ z) h.second.0.0;
@@ -112,17 +96,17 @@ vector_forms =
       limit = rw h.second.0.1 h.second.0.2;
     })
     (λ b s h. record { x = length s; front = h.front; back = s; parts = h.parts; first = h.length_form; second = ((refl, refl, h.limit), h.bytes_fit) })
-    (reader_then fault.NeedMore unsigned_at (λ n rest. bytes_at n rest) IsUnsigned AreBytes unsigned_forms byte_reader)
+    (reader_then WireFault.NeedMore unsigned_at (λ n rest. bytes_at n rest) IsUnsigned AreBytes unsigned_forms byte_reader)
 
 -- what stands behind a nullable length
 abbrev Behind : Nullable ℕ → List ℕ → Nullable (List ℕ) → Type 0
 Behind Null b v = (b ≡ []) × (done {F = WireFault} Null ≡ Ok v)
 Behind (Value n) b v = (s : List ℕ) × AreBytes n b s × (Value s ≡ v)
 
-behind_reader : (n : Nullable ℕ) → IsReader fault.NeedMore (behind_length n) (Behind n)
+behind_reader : (n : Nullable ℕ) → IsReader WireFault.NeedMore (behind_length n) (Behind n)
 unfolding behind_length
-behind_reader Null = reader_of fault.NeedMore (done {F = WireFault} Null)
-behind_reader (Value n) = reader_map fault.NeedMore (bytes_at n) (λ s. Value s) (AreBytes n) (byte_reader n)
+behind_reader Null = reader_of WireFault.NeedMore (done {F = WireFault} Null)
+behind_reader (Value n) = reader_map WireFault.NeedMore (bytes_at n) (λ s. Value s) (AreBytes n) (byte_reader n)
 
 nullable_to : (b : List ℕ) (v : Nullable (List ℕ)) (n : Nullable ℕ) (front back : List ℕ) → b ≡ front ++ back → IsUnsignedNullable front n → Behind n back v → IsVectorNullable b v
 nullable_to b v Null front back parts first h =
@@ -142,13 +126,13 @@ nullable_from : (b : List ℕ) (v : Nullable (List ℕ)) → IsVectorNullable b 
 nullable_from b Null h = record { x = Null; front = b; back = []; parts = sym (append-nil b); first = h; second = (refl, refl) }
 nullable_from b (Value s) h = record { x = Value (length s); front = h.front; back = s; parts = h.parts; first = h.length_form; second = (s, ((refl, refl, h.limit), h.bytes_fit), refl) }
 
-pub vector_nullable_forms : IsReader fault.NeedMore vector_nullable_at IsVectorNullable
+pub vector_nullable_forms : IsReader WireFault.NeedMore vector_nullable_at IsVectorNullable
 unfolding vector_nullable_at
 vector_nullable_forms =
-    reader_as fault.NeedMore vector_nullable_at (Both IsUnsignedNullable Behind) IsVectorNullable
+    reader_as WireFault.NeedMore vector_nullable_at (Both IsUnsignedNullable Behind) IsVectorNullable
     (λ b v h. nullable_to b v h.x h.front h.back h.parts h.first h.second)
     nullable_from
-    (reader_then fault.NeedMore unsigned_nullable_at (λ n rest. behind_length n rest) IsUnsignedNullable Behind unsigned_nullable_forms behind_reader)
+    (reader_then WireFault.NeedMore unsigned_nullable_at (λ n rest. behind_length n rest) IsUnsignedNullable Behind unsigned_nullable_forms behind_reader)
 
 -- ---- the shortest forms
 

@@ -1,18 +1,5 @@
 -- The bits of a presence map in one word.
-use Rattle.std.proofs.Common.{◌≡◌, ℕ, zero, suc, ◌+◌, ◌*◌, ◌/◌, ◌%◌, ◌^◌, ◌<◌, Bool, true, false, nat_eq, List, [], ◌∷◌, ◌++◌, length, ◌-◌, drop, slice_range, length-take, length-drop, Ok, refl, sym, ap, ap₂, ◌∙◌, arith, inl, inr, ◌⊎◌}
-use Rattle.std.specs.Prelude.{IsTrue}
-use Rattle.std.proofs.Common.{not}
-use Rattle.std.proofs.lemmas.Bool.{false≢true}
-use Rattle.std.proofs.lemmas.Bool.Decides.{nat_tests}
-use Rattle.std.proofs.lemmas.List.{length-map}
-use Rattle.std.proofs.lemmas.Nat.{div-mul-add, mod-pow-add, pow-add, pow_pos}
-use Rattle.std.proofs.Math.Nat.{div-div-eq-div-mul, mul-add-mod_self_right}
-use Rattle.std.proofs.Math.Pow.{mod-mod-pow}
-use Rattle.fast_wire.specs.Entity.{groups}
-use Rattle.fast_wire.specs.Integer.{unsigned_of}
-use Rattle.fast_wire.specs.PresenceMap.{HasSetBit, bits_of, group_bits, word_bits}
-use Rattle.fast_wire.specs.Reading.{map_at}
-use Rattle.fast_wire.specs.Spellings.{IsShort}
+use Rattle.fast_wire.proofs.Common.{◌≡◌, ℕ, zero, suc, ◌+◌, ◌*◌, ◌/◌, ◌%◌, ◌^◌, ◌<◌, Bool, true, false, nat_eq, List, [], ◌∷◌, ◌++◌, length, ◌-◌, drop, slice_range, length-take, length-drop, Ok, refl, sym, ap, ap₂, ◌∙◌, arith, inl, inr, ◌⊎◌, IsTrue, not, false≢true, nat_tests, length-map, div-mul-add, mod-pow-add, pow-add, pow_pos, div-div-eq-div-mul, mul-add-mod_self_right, mod-mod-pow, groups, unsigned_of, HasSetBit, bits_of, group_bits, word_bits, map_at, IsShort}
 use Rattle.fast_wire.proofs.FormReaders.{entity_given}
 use Rattle.fast_wire.proofs.Numbers.{number_bound, pow_bits}
 

@@ -1,16 +1,5 @@
 -- The map of the bits of a word.
-use Rattle.std.proofs.Common.{◌≡◌, ℕ, zero, suc, ◌+◌, ◌-◌, ◌*◌, ◌/◌, ◌%◌, ◌^◌, ◌<◌, ◌≤◌, Bool, true, false, nat_eq, List, [], ◌∷◌, ◌++◌, length, Result, Vec, Global, refl, sym, ap, ap₂, ◌∙◌, arith, inl, inr, append_assoc}
-use Rattle.std.specs.Int.{w64, trailing_zeros}
-use Rattle.std.proofs.lemmas.Bool.{cases_lt, true≢false}
-use Rattle.std.proofs.lemmas.Nat.{mod-pow-add, pow_pos, shl-shr, shr-shr, shr_split, shl_below, shl_whole}
-use Rattle.std.proofs.lemmas.Nat.Bits.{bit_at-trailing_zeros, bit_at-zero, bit_at_above, bit_at_cat_low}
-use Rattle.std.proofs.Math.Nat.{mod-eq_of_lt, mul-pos, zero-mul}
-use Rattle.fast_wire.specs.Entity.{groups}
-use Rattle.fast_wire.specs.PresenceMap.{HasSetBit, IsMap, bit_at, bits_of, word_bits}
-use Rattle.fast_wire.specs.Integer.{unsigned_of}
-use Rattle.fast_wire.specs.Spellings.{Appends, entity_of}
-use Rattle.fast_wire.specs.Writing.{IsShortest, TooManyBits, Writes}
-use Rattle.fast_wire.specs.declared.fault.WireFault.{WireFault}
+use Rattle.fast_wire.proofs.Common.{◌≡◌, ℕ, zero, suc, ◌+◌, ◌-◌, ◌*◌, ◌/◌, ◌%◌, ◌^◌, ◌<◌, ◌≤◌, Bool, true, false, nat_eq, List, [], ◌∷◌, ◌++◌, length, Result, Vec, Global, refl, sym, ap, ap₂, ◌∙◌, arith, inl, inr, append_assoc, w64, trailing_zeros, cases_lt, true≢false, mod-pow-add, pow_pos, shl-shr, shr-shr, shr_split, shl_below, shl_whole, bit_at-trailing_zeros, bit_at-zero, bit_at_above, bit_at_cat_low, mod-eq_of_lt, mul-pos, zero-mul, groups, HasSetBit, IsMap, bit_at, bits_of, word_bits, unsigned_of, Appends, entity_of, IsShortest, TooManyBits, Writes, WireFault}
 use Rattle.fast_wire.proofs.MapForms.{few_none, past}
 use Rattle.fast_wire.proofs.Numbers.{pow_bits}
 use Rattle.fast_wire.proofs.UnsignedForms.{entity_is, entity_length, entity_some, entity_value}

@@ -1,20 +1,5 @@
 -- What a call that appends a form leaves, from what it appended.
-use Rattle.std.proofs.Common.{◌≡◌, ℕ, ℤ, ◌+◌, ◌%◌, ◌^◌, ◌<◌, ◌≤◌, ◌++◌, List, [], ◌∷◌, length, Bool, Result, Ok, Err, Vec, Global, refl, sym, ap, subst, arith, inl, inr}
-use Rattle.std.specs.Int.{w64}
-use Rattle.std.specs.Prelude.{pos, negsuc}
-use mir.Val.{SFits}
-use Rattle.std.proofs.lemmas.Int.{ints}
-use Rattle.fast_wire.specs.Ascii.{IsAscii, IsAsciiNullable, IsAsciiText}
-use Rattle.fast_wire.specs.Integer.{IsSigned, IsUnsigned, magnitude}
-use Rattle.fast_wire.specs.Nullable.{IsSignedNullable, IsUnsignedNullable, sent_signed, sent_unsigned}
-use Rattle.fast_wire.specs.PresenceMap.{IsMap}
-use Rattle.fast_wire.specs.Sizes.{CanBeSigned, CanBeSignedNullable, CanBeVector}
-use Rattle.fast_wire.specs.Spellings.{Appends, IsOneGroup, IsLeastSignedSize, IsLeastSize, IsMapSize, IsUsed, entity_of, group_from, map_of, preamble_for, string_of}
-use Rattle.fast_wire.specs.Vector.{IsVector, IsVectorNullable}
-use Rattle.fast_wire.specs.Writing.{IsShortest, NeverRefused, NoText, OutOfRange, TooManyBits, TooManyBytes, Writes}
-use Rattle.fast_wire.specs.declared.fault.WireFault.{WireFault}
-use Rattle.fast_wire.specs.declared.nullable.Nullable.{Nullable}
-use Rattle.fast_wire.specs.declared.nullable.Nullable.TheVariants.{Null, Value}
+use Rattle.fast_wire.proofs.Common.{◌≡◌, ℕ, ℤ, ◌+◌, ◌%◌, ◌^◌, ◌<◌, ◌≤◌, ◌++◌, List, [], ◌∷◌, length, Bool, Result, Ok, Err, Vec, Global, refl, sym, ap, subst, arith, inl, inr, w64, pos, negsuc, SFits, ints, IsAscii, IsAsciiNullable, IsAsciiText, IsSigned, IsUnsigned, magnitude, IsSignedNullable, IsUnsignedNullable, sent_signed, sent_unsigned, IsMap, CanBeSigned, CanBeSignedNullable, CanBeVector, Appends, IsOneGroup, IsLeastSignedSize, IsLeastSize, IsMapSize, IsUsed, entity_of, group_from, map_of, preamble_for, string_of, IsVector, IsVectorNullable, IsShortest, NeverRefused, NoText, OutOfRange, TooManyBits, TooManyBytes, Writes, WireFault, Nullable, Null, Value}
 use Rattle.fast_wire.proofs.AsciiForms.{ascii_null_shortest, ascii_nullable_shortest, ascii_shortest}
 use Rattle.fast_wire.proofs.MapForms.{few_none, group_small, map_shortest, one_group, used_none}
 use Rattle.fast_wire.proofs.NullableForms.{sent_is}

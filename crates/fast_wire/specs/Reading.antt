@@ -7,16 +7,15 @@ use Rattle.fast_wire.specs.PresenceMap.{bits_of}
 use Rattle.fast_wire.specs.declared.nullable.Nullable.{Nullable}
 use Rattle.fast_wire.specs.declared.nullable.Nullable.TheVariants.{Null, Value}
 use Rattle.fast_wire.specs.declared.fault.WireFault.{WireFault}
-use Rattle.fast_wire.specs.declared.fault.WireFault.TheVariants as fault
 
 -- the bytes end before a stop bit and within the limit; or the limit passes with no stop bit
 abbrev pub EntityFault : ℕ → List ℕ → ℕ → WireFault → Type 0
-EntityFault limit bytes at fault.NeedMore = (length bytes < at + limit) × HasNoStop (drop at bytes)
-EntityFault limit bytes at fault.TooLong =
+EntityFault limit bytes at WireFault.NeedMore = (length bytes < at + limit) × HasNoStop (drop at bytes)
+EntityFault limit bytes at WireFault.TooLong =
     (at + limit ≤ length bytes) × HasNoStop (take limit (drop at bytes))
-EntityFault limit bytes at fault.Range = ⊥
-EntityFault limit bytes at fault.NotUtf8 = ⊥
-EntityFault limit bytes at fault.Memory = ⊥
+EntityFault limit bytes at WireFault.Range = ⊥
+EntityFault limit bytes at WireFault.NotUtf8 = ⊥
+EntityFault limit bytes at WireFault.Memory = ⊥
 
 -- the bytes from at to the place answered are a form of the value
 abbrev pub Reads : {V : Type 0} → (List ℕ → V → Type 0) → List ℕ → ℕ → V × ℕ → Type 0
@@ -36,15 +35,15 @@ StandsAt {V} Form bytes at = (next : ℕ) × (value : V) × Reads Form bytes at 
 abbrev pub AsciiFault : {V : Type 0} → (List ℕ → V → Type 0) → (V → ℕ) → List ℕ → ℕ → WireFault
     → Type 0
 AsciiFault Form units bytes at e =
-    EntityFault 65540 bytes at e ⊎ ((e ≡ fault.TooLong) × SpellsTooMany Form units bytes at)
+    EntityFault 65540 bytes at e ⊎ ((e ≡ WireFault.TooLong) × SpellsTooMany Form units bytes at)
 
 -- a length of n has come, and so many bytes are left: it is too large, or else the bytes end before it does
 abbrev pub LengthFault : ℕ → ℕ → WireFault → Type 0
-LengthFault n left fault.NeedMore = (n ≤ 65535) × (left < n)
-LengthFault n left fault.TooLong = 65535 < n
-LengthFault n left fault.Range = ⊥
-LengthFault n left fault.NotUtf8 = ⊥
-LengthFault n left fault.Memory = ⊥
+LengthFault n left WireFault.NeedMore = (n ≤ 65535) × (left < n)
+LengthFault n left WireFault.TooLong = 65535 < n
+LengthFault n left WireFault.Range = ⊥
+LengthFault n left WireFault.NotUtf8 = ⊥
+LengthFault n left WireFault.Memory = ⊥
 
 -- no length ends there, or the fault is one of the length that does
 abbrev pub VectorFault : (List ℕ → ℕ → Type 0) → List ℕ → ℕ → WireFault → Type 0
@@ -63,13 +62,13 @@ abbrev pub NothingElse : {Y F : Type 0} → Result Y F → F → Type 0
 NothingElse read e = ⊥
 
 abbrev pub OrMemory : {Y : Type 0} → Result Y WireFault → WireFault → Type 0
-OrMemory read e = (e ≡ fault.Memory) × IsOk read
+OrMemory read e = (e ≡ WireFault.Memory) × IsOk read
 
 -- or since a value stands there that does not fit the answer's type
 abbrev pub OrOutside : {V : Type 0} → (V → Type 0) → Result (V × List ℕ) WireFault → WireFault
     → Type 0
 OrOutside {V} Fits read e =
-    (e ≡ fault.Range) × (v : V) × (rest : List ℕ) × (read ≡ Ok (v, rest)) × (Fits v → ⊥)
+    (e ≡ WireFault.Range) × (v : V) × (rest : List ℕ) × (read ≡ Ok (v, rest)) × (Fits v → ⊥)
 
 abbrev pub FitsU64 : ℕ → Type 0
 FitsU64 v = v < 2 ^ 64
@@ -114,8 +113,8 @@ pub record IsReadAt {X V : Type 0} (Else : Result (V × List ℕ) WireFault → 
 
 -- the bytes up to the first stop bit, of which there are at most so many
 unfoldable pub entity_at : ℕ → List ℕ → Result (List ℕ × List ℕ) WireFault
-entity_at zero bytes = Err fault.TooLong
-entity_at (suc limit) [] = Err fault.NeedMore
+entity_at zero bytes = Err WireFault.TooLong
+entity_at (suc limit) [] = Err WireFault.NeedMore
 entity_at (suc limit) (b ∷ bs) =
     if nat_le 128 b then Ok (b ∷ [], bs) else (entity_at limit bs >>= λ e. Ok (b ∷ e.0, e.1))
 
@@ -148,7 +147,7 @@ nullable_characters (suc g ∷ gs) = Value (suc g ∷ gs)
 
 -- a value that has few enough units
 abbrev pub within_limit : {V : Type 0} → (V → ℕ) → V → Result V WireFault
-within_limit units s = if nat_lt 65535 (units s) then Err fault.TooLong else Ok s
+within_limit units s = if nat_lt 65535 (units s) then Err WireFault.TooLong else Ok s
 
 -- an ASCII string
 unfoldable pub ascii_at : List ℕ → Result (List ℕ × List ℕ) WireFault
@@ -164,8 +163,8 @@ ascii_nullable_at bytes =
 -- that many bytes
 unfoldable pub bytes_at : ℕ → List ℕ → Result (List ℕ × List ℕ) WireFault
 bytes_at n bytes =
-    if nat_lt 65535 n then Err fault.TooLong
-    else if nat_lt (length bytes) n then Err fault.NeedMore
+    if nat_lt 65535 n then Err WireFault.TooLong
+    else if nat_lt (length bytes) n then Err WireFault.NeedMore
     else Ok (take n bytes, drop n bytes)
 
 -- a byte vector

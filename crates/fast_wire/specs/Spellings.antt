@@ -5,7 +5,6 @@ use Rattle.fast_wire.specs.Entity.{IsEntity}
 use Rattle.fast_wire.specs.Integer.{magnitude, unsigned_of}
 use Rattle.fast_wire.specs.PresenceMap.{bit_at}
 use Rattle.fast_wire.specs.declared.fault.WireFault.{WireFault}
-use Rattle.fast_wire.specs.declared.fault.WireFault.TheVariants as fault
 use Rattle.std.proofs.Common.{zero, suc}
 
 -- the lowest n groups of v, the most significant first, and the stop bit on the last
@@ -79,7 +78,7 @@ string_of preamble s = stopped (replicate preamble 0 ++ s)
 pub record Appends (bytes : List ℕ) (old new : Vec ℕ Global)
     (r : Result (Unit {0}) WireFault) : Type 0 where
   pub ok : OnOk r (new.items ≡ old.items ++ bytes)
-  pub err : IfErr r (λ e. (e ≡ fault.Memory) × (new.items ≡ old.items)
+  pub err : IfErr r (λ e. (e ≡ WireFault.Memory) × (new.items ≡ old.items)
       × (vec_capacity old < vec_len old + length bytes))
 
 -- an entity of at most nine bytes stands there, and spells v

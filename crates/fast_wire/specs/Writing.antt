@@ -4,7 +4,6 @@ use Rattle.std.specs.declared.alloc.Global.{Global}
 use Rattle.fast_wire.specs.Nullable.{IsNullOr, units}
 use Rattle.fast_wire.specs.PresenceMap.{HasSetBit}
 use Rattle.fast_wire.specs.declared.fault.WireFault.{WireFault}
-use Rattle.fast_wire.specs.declared.fault.WireFault.TheVariants as fault
 use Rattle.fast_wire.specs.declared.nullable.Nullable.{Nullable}
 
 -- the bytes are a form of v, and no form of v has fewer bytes
@@ -33,7 +32,7 @@ pub record Writes {V : Type 0} (Form : List ℕ → V → Type 0) (Refused : V �
   -- a value that has no form is refused
   pub refused : (e : WireFault) → Refused v e → r ≡ Err e
   -- nothing else is refused, unless memory was for a form that did not fit what was there
-  pub err : IfErr r (λ e. Refused v e ⊎ ((e ≡ fault.Memory) × FitsNot Form old v))
+  pub err : IfErr r (λ e. Refused v e ⊎ ((e ≡ WireFault.Memory) × FitsNot Form old v))
   -- what was refused appended nothing
   pub unchanged : OnErr r (new.items ≡ old.items)
 
@@ -43,17 +42,17 @@ NeverRefused v e = ⊥
 
 -- the value is none that can have a form
 abbrev pub OutOfRange : {V : Type 0} → (V → Type 0) → V → WireFault → Type 0
-OutOfRange Can v e = (e ≡ fault.Range) × (Can v → ⊥)
+OutOfRange Can v e = (e ≡ WireFault.Range) × (Can v → ⊥)
 
 -- there are too many bytes
 abbrev pub TooManyBytes : Nullable (List ℕ) → WireFault → Type 0
-TooManyBytes s e = (e ≡ fault.TooLong) × (65535 < units s)
+TooManyBytes s e = (e ≡ WireFault.TooLong) × (65535 < units s)
 
 -- a character is above 127; or else there are too many
 abbrev pub NoText : Nullable (List ℕ) → WireFault → Type 0
-NoText s e = ((e ≡ fault.Range) × (IsNullOr (All (λ c. c < 128)) s → ⊥))
-    ⊎ ((e ≡ fault.TooLong) × IsNullOr (All (λ c. c < 128)) s × (65535 < units s))
+NoText s e = ((e ≡ WireFault.Range) × (IsNullOr (All (λ c. c < 128)) s → ⊥))
+    ⊎ ((e ≡ WireFault.TooLong) × IsNullOr (All (λ c. c < 128)) s × (65535 < units s))
 
 -- a bit is 1 that 256 groups do not reach
 abbrev pub TooManyBits : List Bool → WireFault → Type 0
-TooManyBits bits e = (e ≡ fault.TooLong) × HasSetBit (drop 1792 bits)
+TooManyBits bits e = (e ≡ WireFault.TooLong) × HasSetBit (drop 1792 bits)

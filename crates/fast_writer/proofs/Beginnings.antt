@@ -1,37 +1,6 @@
 -- A field whose numbers show by two bytes that they are not overlong is read at the strict level as at the usual one.
-use Rattle.std.proofs.Common.{◌≡◌, ◌≤◌, ℕ, Bool, true, false, nat_le, List, [], ◌∷◌, ◌++◌, Result, Ok, Err, refl, sym, arith, ◌⊎◌, inl, inr}
-use Rattle.std.specs.Prelude.{ℤ, ◌+ℤ◌, Option, if◌then◌else◌}
-use Rattle.std.proofs.lemmas.Bool.{le-leb}
-use Rattle.fast_wire.specs.Integer.{signed_of}
-use Rattle.fast_wire.specs.Level.{verdict}
-use Rattle.fast_wire.specs.Nullable.{received_signed}
-use Rattle.fast_wire.specs.Reading.{◌>>=◌, entity_at, signed_at, signed_nullable_at}
-use Rattle.fast_wire.specs.declared.fault.WireFault.{WireFault}
-use Rattle.fast_wire.specs.declared.level.Level.TheVariants.{Usual, Strict}
-use Rattle.fast_wire.specs.declared.nullable.Nullable.{Nullable}
-use Rattle.fast_wire.specs.declared.nullable.Nullable.TheVariants.{Null, Value}
-use Rattle.fast_value.specs.Scalar.{exponent_in_range}
-use Rattle.fast_value.specs.declared.kind.Kind.{Kind}
-use Rattle.fast_value.specs.declared.kind.Kind.TheVariants as kind
-use Rattle.fast_value.specs.declared.kind.Operator.{Operator}
-use Rattle.fast_value.specs.declared.kind.Operator.TheVariants as operator
-use Rattle.fast_value.specs.declared.kind.Part.{Part}
-use Rattle.fast_value.specs.declared.kind.Presence.{Presence}
-use Rattle.fast_value.specs.declared.kind.Presence.TheVariants.{Mandatory, Optional}
-use Rattle.fast_template.specs.declared.resolved.FieldPart.{FieldPart}
-use Rattle.fast_value.specs.declared.scalar.Scalar.{Scalar}
-use Rattle.fast_dictionary.specs.declared.entry.Entry.{Entry}
-use Rattle.fast_field.specs.declared.fault.FieldFault.{FieldFault}
-use Rattle.fast_field.specs.declared.fault.FieldFault.TheVariants as fault
-use Rattle.fast_field.specs.AsUsual.{ReadsAsUsual}
-use Rattle.fast_field.specs.Bases.{delta_base}
-use Rattle.fast_field.specs.Faults.{field_fault}
-use Rattle.fast_field.specs.FieldReading.{in_field, check, unless_null, integer_at, integer_usually_at, mantissa_entity_at, mantissa_behind, mantissa_delta_behind, integer_spelled_at, decimal_spelled_at, spelled_at, integer_delta_at, decimal_delta_at, delta_at, whole_at, row_at, field_at}
-use Rattle.fast_field.specs.Spelled.{overlong_number}
+use Rattle.fast_writer.proofs.Common.{◌≡◌, ◌≤◌, ℕ, Bool, true, false, nat_le, List, [], ◌∷◌, ◌++◌, Result, Ok, Err, refl, sym, arith, ◌⊎◌, inl, inr, ℤ, ◌+ℤ◌, Option, if◌then◌else◌, le-leb, signed_of, verdict, received_signed, ◌>>=◌, entity_at, signed_at, signed_nullable_at, WireFault, Usual, Strict, Nullable, Null, Value, exponent_in_range, Kind, Operator, Part, Presence, Mandatory, Optional, FieldPart, Scalar, Entry, FieldFault, ReadsAsUsual, delta_base, field_fault, in_field, check, unless_null, integer_at, integer_usually_at, mantissa_entity_at, mantissa_behind, mantissa_delta_behind, integer_spelled_at, decimal_spelled_at, spelled_at, integer_delta_at, decimal_delta_at, delta_at, whole_at, row_at, field_at, overlong_number, integer_starts, mantissa_starts, integer_as_usual, BeginsField, BeginsShort, BeginsShortBehind, BeginsNumber}
 use Rattle.fast_field.specs.Values.{is_unsigned, exponent_of}
-use Rattle.fast_field.proofs.FieldsBehave.{integer_starts, mantissa_starts}
-use Rattle.fast_field.proofs.FieldsBehave.{integer_as_usual}
-use Rattle.fast_writer.specs.Beginnings.{BeginsField, BeginsShort, BeginsShortBehind, BeginsNumber}
 
 -- ---- judging an entity that begins with two such bytes changes nothing
 
@@ -55,10 +24,10 @@ judging false d b c cs r short starts = by_two false d (nat_le 128 b) (nat_le 12
 
 integer : (u : Bool) (p : Presence) (b c : ℕ) (cs : List ℕ) → overlong_number u (b ∷ c ∷ []) ≡ false → integer_at Strict u p (b ∷ c ∷ cs) ≡ integer_at Usual u p (b ∷ c ∷ cs)
 unfolding integer_at
-integer u p b c cs short = judging u fault.R6 b c cs (integer_usually_at u p (b ∷ c ∷ cs)) short (integer_starts u p (b ∷ c ∷ cs))
+integer u p b c cs short = judging u FieldFault.R6 b c cs (integer_usually_at u p (b ∷ c ∷ cs)) short (integer_starts u p (b ∷ c ∷ cs))
 
 mantissa_entity : (b c : ℕ) (cs : List ℕ) → overlong_number false (b ∷ c ∷ []) ≡ false → mantissa_entity_at Strict (b ∷ c ∷ cs) ≡ mantissa_entity_at Usual (b ∷ c ∷ cs)
-mantissa_entity b c cs short = judging false fault.R6 b c cs (in_field (signed_at (b ∷ c ∷ cs))) short (mantissa_starts (b ∷ c ∷ cs))
+mantissa_entity b c cs short = judging false FieldFault.R6 b c cs (in_field (signed_at (b ∷ c ∷ cs))) short (mantissa_starts (b ∷ c ∷ cs))
 
 -- ---- one reading and then another
 
@@ -102,32 +71,32 @@ in_pair p (a ∷ bytes) more f g h same = absurd h.1
 in_pair p [] more f g h same = absurd h
 
 mantissa : {A : Type 0} (e : ℤ) (b c : ℕ) (cs : List ℕ) (k : ℤ × List ℕ → Result A FieldFault) → overlong_number false (b ∷ c ∷ []) ≡ false
-    → (check (exponent_in_range e) fault.R1 >>= λ (ok : Unit {0}). mantissa_entity_at Strict (b ∷ c ∷ cs) >>= k) ≡ (check (exponent_in_range e) fault.R1 >>= λ (ok : Unit {0}). mantissa_entity_at Usual (b ∷ c ∷ cs) >>= k)
-mantissa e b c cs k short = after (check (exponent_in_range e) fault.R1) _ _ (λ ok. first (mantissa_entity_at Strict (b ∷ c ∷ cs)) (mantissa_entity_at Usual (b ∷ c ∷ cs)) k (mantissa_entity b c cs short))
+    → (check (exponent_in_range e) FieldFault.R1 >>= λ (ok : Unit {0}). mantissa_entity_at Strict (b ∷ c ∷ cs) >>= k) ≡ (check (exponent_in_range e) FieldFault.R1 >>= λ (ok : Unit {0}). mantissa_entity_at Usual (b ∷ c ∷ cs) >>= k)
+mantissa e b c cs k short = after (check (exponent_in_range e) FieldFault.R1) _ _ (λ ok. first (mantissa_entity_at Strict (b ∷ c ∷ cs)) (mantissa_entity_at Usual (b ∷ c ∷ cs)) k (mantissa_entity b c cs short))
 
 spelled : (pt : Part) (k : Kind) (p : Presence) (bytes more : List ℕ) → BeginsNumber k (is_unsigned k) bytes → spelled_at Strict pt k p (bytes ++ more) ≡ spelled_at Usual pt k p (bytes ++ more)
 unfolding spelled_at decimal_spelled_at integer_spelled_at mantissa_behind
-spelled pt kind.Decimal p bytes more h = in_pair p bytes more (mantissa_behind Strict) (mantissa_behind Usual) h (λ e b c cs. mantissa e b c cs _)
-spelled pt kind.Ascii p bytes more h = absurd h
-spelled pt kind.Unicode p bytes more h = absurd h
-spelled pt kind.Bytes p bytes more h = absurd h
+spelled pt Kind.Decimal p bytes more h = in_pair p bytes more (mantissa_behind Strict) (mantissa_behind Usual) h (λ e b c cs. mantissa e b c cs _)
+spelled pt Kind.Ascii p bytes more h = absurd h
+spelled pt Kind.Unicode p bytes more h = absurd h
+spelled pt Kind.Bytes p bytes more h = absurd h
 spelled pt k p bytes more h = in_front (is_unsigned k) p bytes more _ h
 
 delta : (k : Kind) (i : FieldPart) (e : Entry) (bytes more : List ℕ) → BeginsNumber k false bytes → delta_at Strict k i e (bytes ++ more) ≡ delta_at Usual k i e (bytes ++ more)
 unfolding delta_at decimal_delta_at integer_delta_at mantissa_delta_behind
-delta kind.Decimal i e bytes more h = in_pair i.presence bytes more _ _ h (λ d b c cs short. after (delta_base i e) _ _ (λ base. mantissa (exponent_of base +ℤ d) b c cs _ short))
-delta kind.Ascii i e bytes more h = absurd h
-delta kind.Unicode i e bytes more h = absurd h
-delta kind.Bytes i e bytes more h = absurd h
+delta Kind.Decimal i e bytes more h = in_pair i.presence bytes more _ _ h (λ d b c cs short. after (delta_base i e) _ _ (λ base. mantissa (exponent_of base +ℤ d) b c cs _ short))
+delta Kind.Ascii i e bytes more h = absurd h
+delta Kind.Unicode i e bytes more h = absurd h
+delta Kind.Bytes i e bytes more h = absurd h
 delta k i e bytes more h = in_front false i.presence bytes more _ h
 
 -- ---- fields
 
 row : (o : Operator) (i : FieldPart) (e : Entry) (bytes more : List ℕ) → BeginsField o i.kind bytes → row_at Strict o i e true (bytes ++ more) ≡ row_at Usual o i e true (bytes ++ more)
 unfolding row_at whole_at
-row operator.Constant i e bytes more h = refl
-row operator.Delta i e bytes more h = delta i.kind i e bytes more h
-row operator.Tail i e bytes more h = absurd h
+row Operator.Constant i e bytes more h = refl
+row Operator.Delta i e bytes more h = delta i.kind i e bytes more h
+row Operator.Tail i e bytes more h = absurd h
 row o i e bytes more h = spelled i.part i.kind i.presence bytes more h
 
 -- what is sent is a number, or what is added to one, or nothing
@@ -135,7 +104,7 @@ pub as_usual : (i : FieldPart) (bytes : List ℕ) → BeginsField i.operator i.k
 unfolding field_at
 as_usual i bytes h = λ e more. first (row_at Strict i.operator i e true (bytes ++ more)) (row_at Usual i.operator i e true (bytes ++ more)) _ (row i.operator i e bytes more h)
 
-pub whole_begins : (o : Operator) (k : Kind) (bytes : List ℕ) → (o ≡ operator.Plain) ⊎ ((o ≡ operator.Default) ⊎ ((o ≡ operator.Copy) ⊎ (o ≡ operator.Increment))) → BeginsNumber k (is_unsigned k) bytes → BeginsField o k bytes
+pub whole_begins : (o : Operator) (k : Kind) (bytes : List ℕ) → (o ≡ Operator.Plain) ⊎ ((o ≡ Operator.Default) ⊎ ((o ≡ Operator.Copy) ⊎ (o ≡ Operator.Increment))) → BeginsNumber k (is_unsigned k) bytes → BeginsField o k bytes
 whole_begins o k bytes (inl is) h = rw is h
 whole_begins o k bytes (inr (inl is)) h = rw is h
 whole_begins o k bytes (inr (inr (inl is))) h = rw is h

@@ -1,17 +1,6 @@
 -- Canonical bytes are bytes of any form, at each level.
-use Rattle.std.proofs.Common.{ℕ, Bool, List}
+use Rattle.fast_writer.proofs.Common.{ℕ, Bool, List, Level, Usual, Strict, shortest_map_begins, none_set, Resolved, Form, IsBest, best_at_level, Content, MapAt, Carries, carries_weaker, IsShortestMap, IsCanonical}
 use Rattle.std.specs.FinMap as map
-use Rattle.fast_wire.specs.declared.level.Level.{Level}
-use Rattle.fast_wire.specs.declared.level.Level.TheVariants.{Usual, Strict}
-use Rattle.fast_wire.proofs.ShortMaps.{shortest_map_begins, none_set}
-use Rattle.fast_template.specs.Resolved.{Resolved}
-use Rattle.fast_field.specs.Fields.{Form}
-use Rattle.fast_field.specs.Best.{IsBest}
-use Rattle.fast_field.proofs.StrictForms.{best_at_level}
-use Rattle.fast_stream.specs.Nodes.{Content}
-use Rattle.fast_stream.specs.Streams.{MapAt, Carries}
-use Rattle.fast_stream.proofs.Weaker.{carries_weaker}
-use Rattle.fast_writer.specs.Canonical.{IsShortestMap, IsCanonical}
 
 shortest_map_at : (level : Level) (bits left : List Bool) (bytes : List ℕ) → IsShortestMap bits left bytes → MapAt level bits left bytes
 shortest_map_at Usual bits left bytes h = h.form

@@ -1,11 +1,5 @@
 -- Bits that were asked for, as they stand in the shortest map.
-use Rattle.std.proofs.Common.{◌≡◌, ℕ, zero, suc, Bool, true, false, List, [], ◌∷◌, ◌++◌, refl, sym, ◌∙◌}
-use Rattle.fast_wire.specs.Entity.{groups}
-use Rattle.fast_wire.specs.PresenceMap.{later_bits, bit_at, bits_of, IsMap}
-use Rattle.fast_wire.specs.Writing.{IsShortest}
-use Rattle.fast_stream.specs.Bits.{bit_for, after_bit}
-use Rattle.fast_writer.specs.Canonical.{IsShortestMap}
-use Rattle.fast_writer.specs.Written.{Leaves, bits_for}
+use Rattle.fast_writer.proofs.Common.{◌≡◌, ℕ, zero, suc, Bool, true, false, List, [], ◌∷◌, ◌++◌, refl, sym, ◌∙◌, groups, later_bits, bit_at, bits_of, IsMap, IsShortest, bit_for, after_bit, IsShortestMap, Leaves, bits_for}
 
 -- what is taken first, and what behind it
 pub leaves_split : (bits used all later : List Bool) → Leaves (bits ++ used) all later → (mid : List Bool) × Leaves bits all mid × Leaves used mid later

@@ -1,3 +1,4 @@
+mod Common
 pub mod LawProofs
 pub mod WorkedCanonical
 pub mod Leavings

@@ -1,14 +1,5 @@
 -- The maps that are written have room for what is asked for, since those that were read had it.
-use Rattle.std.proofs.Common.{◌≡◌, ℕ, zero, suc, Bool, true, false, List, [], ◌∷◌, ◌++◌, refl, drop, sym, append-nil, ◌∙◌}
-use Rattle.std.proofs.lemmas.Bool.{and_parts, or_parts}
-use Rattle.std.specs.Prelude.{◌&&◌, not, IsTrue}
-use Rattle.std.proofs.Math.ListN.{drop_of_length-le}
-use Rattle.fast_wire.specs.PresenceMap.{bit_at, next_bit, later_bits}
-use Rattle.fast_wire.specs.Sizes.{CanBeMap}
-use Rattle.fast_stream.specs.Bits.{after_bit, bit_for}
-use Rattle.fast_walk.specs.Room.{HasRoomInside}
-use Rattle.fast_writer.specs.Written.{Asked, Closes, Segment, bits_for, has_set}
-use Rattle.fast_writer.specs.Room.{has_room, have_room}
+use Rattle.fast_writer.proofs.Common.{◌≡◌, ℕ, zero, suc, Bool, true, false, List, [], ◌∷◌, ◌++◌, refl, drop, sym, append-nil, ◌∙◌, and_parts, or_parts, ◌&&◌, not, IsTrue, drop_of_length-le, bit_at, next_bit, later_bits, CanBeMap, after_bit, bit_for, HasRoomInside, Asked, Closes, Segment, bits_for, has_set, has_room, have_room}
 
 -- ---- of one map
 

@@ -1,32 +1,8 @@
 -- A part that was read and written at once.
-use Rattle.std.proofs.Common.{◌≡◌, ◌<◌, ℕ, ◌+◌, Bool, List, ◌++◌, ◌∷◌, Option, Some, None, true, false, [], drop, length, refl, sym, ap, subst, ◌∙◌, append-nil, arith}
-use Rattle.std.specs.Prelude.{MatchOption, slice_index}
-use Rattle.fast_template.specs.declared.resolved.FieldPart.{FieldPart}
-use Rattle.fast_value.specs.declared.scalar.Scalar.{Scalar}
-use Rattle.fast_template.specs.Resolved.{part_needs_bit}
-use Rattle.fast_dictionary.specs.declared.entry.Entry.{Entry}
-use Rattle.fast_dictionary.specs.Dictionary.{Dictionary, entry_at, set_entry, set_entry-there}
-use Rattle.fast_wire.specs.declared.level.Level.{Level}
-use Rattle.fast_field.specs.AsUsual.{ReadsAsUsual}
-use Rattle.fast_relay.specs.Relayed.{Judges}
-use Rattle.fast_relay.specs.OneByte.{RelaysByte}
+use Rattle.fast_writer.proofs.Common.{◌≡◌, ◌<◌, ℕ, ◌+◌, Bool, List, ◌++◌, ◌∷◌, Option, Some, None, true, false, [], drop, length, refl, sym, ap, subst, ◌∙◌, append-nil, arith, MatchOption, slice_index, FieldPart, Scalar, part_needs_bit, Entry, Dictionary, entry_at, set_entry, set_entry-there, Level, ReadsAsUsual, Judges, RelaysByte, Run, length_of, Passes as FieldPasses, Relayed, RelaysEntry, RelaysPart, StopsEntry, StopsPart, took_of, FieldFault, Segment, AppendsForm, Asked, Spelt, Operator, operator_needs_bit, Usual, IsBest, Cut, FormOf}
 use Rattle.fast_writer.specs.Runs.{written}
-use Rattle.fast_writer.specs.declared.run.Run.{Run}
 use Rattle.fast_writer.proofs.Runs.{settled}
-use Rattle.fast_walk.specs.Received.{length_of}
-use Rattle.fast_field.specs.Passed.{Passes as FieldPasses}
-use Rattle.fast_writer.specs.Quick.{Relayed, RelaysEntry, RelaysPart, StopsEntry, StopsPart}
-use Rattle.fast_walk.proofs.Passings.{took_of}
 use Rattle.fast_writer.proofs.MapRoom.{asked_room}
-use Rattle.fast_field.specs.declared.fault.FieldFault.{FieldFault}
-use Rattle.fast_writer.specs.Written.{Segment, AppendsForm, Asked, Spelt}
-use Rattle.fast_value.specs.declared.kind.Operator.{Operator}
-use Rattle.fast_value.specs.declared.kind.Operator.TheVariants as operator
-use Rattle.fast_template.specs.Resolved.{operator_needs_bit}
-use Rattle.fast_wire.specs.declared.level.Level.TheVariants.{Usual}
-use Rattle.fast_field.specs.Best.{IsBest}
-use Rattle.fast_field.specs.Deltas.{Cut}
-use Rattle.fast_field.specs.Fields.{FormOf}
 
 spelt_entry : {p : FieldPart} {old : Entry} {v : Option Scalar} {bit needed : Bool} {l k : Segment} {bytes : List ℕ} → needed ≡ part_needs_bit p → AppendsForm p old v bit l.bytes bytes
     → Asked needed bit (record { bits = l.bits; own = l.own; bytes = bytes }) k → Spelt p old v l k
@@ -42,13 +18,13 @@ spelt_entry {bit = bit} needs form asked = record {
 
 -- what has no bit is not given by bit 0
 zero_needs : (o : Operator) (i : FieldPart) (e : Entry) (cut : Cut) (b : List ℕ) (v : Option Scalar) → FormOf Usual o i e false cut b v → operator_needs_bit o i.presence ≡ false → false ≡ true
-zero_needs operator.Plain i e cut b v f none = absurd f
-zero_needs operator.Constant i e cut b v f none = absurd (let some = rw (f.2) at none in cc)
-zero_needs operator.Default i e cut b v f none = absurd cc
-zero_needs operator.Copy i e cut b v f none = absurd cc
-zero_needs operator.Increment i e cut b v f none = absurd cc
-zero_needs operator.Delta i e cut b v f none = absurd f
-zero_needs operator.Tail i e cut b v f none = absurd cc
+zero_needs Operator.Plain i e cut b v f none = absurd f
+zero_needs Operator.Constant i e cut b v f none = absurd (let some = rw (f.2) at none in cc)
+zero_needs Operator.Default i e cut b v f none = absurd cc
+zero_needs Operator.Copy i e cut b v f none = absurd cc
+zero_needs Operator.Increment i e cut b v f none = absurd cc
+zero_needs Operator.Delta i e cut b v f none = absurd f
+zero_needs Operator.Tail i e cut b v f none = absurd cc
 
 pub best_needs : {i : FieldPart} {e : Entry} {b : List ℕ} {v : Option Scalar} (bit : Bool) → IsBest i e bit b v → part_needs_bit i ≡ false → bit ≡ true
 best_needs true best none = refl

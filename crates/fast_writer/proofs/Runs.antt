@@ -1,8 +1,7 @@
 -- What a run of noted bytes is.
 use Rattle.std.proofs.Common.{◌≡◌, ◌≤◌, ℕ, List, ◌++◌, slice_range, sym, ap, ◌∙◌, append_assoc, append-nil}
 use Rattle.fast_writer.specs.Runs.{IsRun, written}
-use Rattle.fast_writer.specs.declared.run.Run.{Run}
-use Rattle.fast_relay.proofs.Ranges.{range_none, range_split}
+use Rattle.fast_writer.proofs.Common.{Run, range_none, range_split}
 
 -- what is noted up to a place behind is written behind what was
 pub kept : (bytes : List ℕ) (at : ℕ) (r : Run) (next : ℕ) → IsRun bytes at r → r.place ≤ next → r.out.items ++ slice_range bytes r.from next ≡ written bytes r ++ slice_range bytes at next

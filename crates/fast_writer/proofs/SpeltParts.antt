@@ -1,40 +1,5 @@
 -- What is spelled of a part of a set: a value of its type, and of a mandatory part a value.
-use Rattle.std.proofs.Common.{◌≡◌, ℕ, Bool, true, false, List, [], ◌++◌, Option, Some, None, Ok, refl, sym, ap, subst, ◌∙◌, inl, inr, append-nil}
-use Rattle.std.specs.Borrow.{Bor}
-use Rattle.std.specs.Option.{is_some, option_copied}
-use Rattle.std.specs.Prelude.{ℤ, IfSome, IsTrue}
-use Rattle.fast_wire.specs.Reader.{IsBytes}
-use Rattle.fast_wire.specs.declared.level.Level.{Level}
-use Rattle.fast_wire.specs.declared.level.Level.TheVariants.{Usual}
-use Rattle.fast_wire.proofs.Readers.{done}
-use Rattle.fast_value.specs.Scalar.{is_of}
-use Rattle.fast_value.specs.declared.kind.Kind.{Kind}
-use Rattle.fast_value.specs.declared.kind.Kind.TheVariants as kind
-use Rattle.fast_value.specs.declared.kind.Part.TheVariants as part
-use Rattle.fast_value.specs.declared.kind.Presence.TheVariants.{Mandatory}
-use Rattle.fast_value.specs.declared.scalar.Scalar.{Scalar}
-use Rattle.fast_value.specs.declared.scalar.Scalar.TheVariants.{I32, I64}
-use Rattle.fast_template.specs.declared.resolved.FieldPart.{FieldPart}
-use Rattle.fast_template.specs.TemplateSets.{IsTyped}
-use Rattle.fast_dictionary.specs.declared.entry.Entry.{Entry}
-use Rattle.fast_dictionary.specs.Dictionary.{Dictionary, entry_at}
-use Rattle.fast_field.specs.declared.fault.FieldFault.{FieldFault}
-use Rattle.fast_field.specs.declared.fault.FieldRefusal.{FieldRefusal}
-use Rattle.fast_field.specs.declared.fault.FieldRefusal.TheVariants as refusal
-use Rattle.fast_field.specs.FieldReading.{field_at}
-use Rattle.fast_field.specs.Parts.{IsFieldPart}
-use Rattle.fast_field.specs.Within.{HoldsScalar}
-use Rattle.fast_field.specs.Written.{IsRefusal}
-use Rattle.fast_field.proofs.FieldForms.{field_forms}
-use Rattle.fast_field.proofs.FieldsBehave.{read_usually}
-use Rattle.fast_field.proofs.Refused.{not_refused}
-use Rattle.fast_field.proofs.FieldsWithin.{value_kind, value_there}
-use Rattle.fast_stream.specs.Bodies.{written}
-use Rattle.fast_walk.specs.Received.{exponent_of}
-use Rattle.fast_walk.specs.Told.{HoldScalars, KeepScalars, IsTold}
-use Rattle.fast_walk.proofs.Telling.{are_kept, form_holds, kept_hold, told_part}
-use Rattle.fast_relay.specs.Relayed.{IsThere}
-use Rattle.fast_writer.specs.Written.{AppendsForm, Segment, Spelt}
+use Rattle.fast_writer.proofs.Common.{◌≡◌, ℕ, Bool, true, false, List, [], ◌++◌, Option, Some, None, Ok, refl, sym, ap, subst, ◌∙◌, inl, inr, append-nil, Bor, is_some, option_copied, ℤ, IfSome, IsTrue, IsBytes, Level, Usual, done, is_of, Kind, Part, Mandatory, Scalar, I32, I64, FieldPart, IsTyped, Entry, Dictionary, entry_at, FieldFault, FieldRefusal, field_at, IsFieldPart, HoldsScalar, IsRefusal, field_forms, read_usually, not_refused, value_kind, value_there, written, exponent_of, HoldScalars, KeepScalars, IsTold, are_kept, form_holds, kept_hold, told_part, IsThere, AppendsForm, Segment, Spelt}
 
 -- ---- values
 
@@ -52,15 +17,15 @@ is_there k None b is h = rw (is) refl
 is_there k (Some v) b is h = rw (is) (v, refl, h)
 
 -- what an exponent and a mantissa are
-is_int32 : (w : Scalar) → IsTrue (is_of kind.Int32 w) → (z : ℤ) × (w ≡ I32 z)
+is_int32 : (w : Scalar) → IsTrue (is_of Kind.Int32 w) → (z : ℤ) × (w ≡ I32 z)
 is_int32 (I32 z) h = (z, refl)
 is_int32 w h = absurd cc
 
-is_int64 : (w : Scalar) → IsTrue (is_of kind.Int64 w) → (z : ℤ) × (w ≡ I64 z)
+is_int64 : (w : Scalar) → IsTrue (is_of Kind.Int64 w) → (z : ℤ) × (w ≡ I64 z)
 is_int64 (I64 z) h = (z, refl)
 is_int64 w h = absurd cc
 
-pub exponent_there : (k : Kind) (there : Bool) (v : Option Scalar) → k ≡ kind.Int32 → IsThere k there v
+pub exponent_there : (k : Kind) (there : Bool) (v : Option Scalar) → k ≡ Kind.Int32 → IsThere k there v
     → (z : Option ℤ) × (v ≡ exponent_of z) × (is_some z ≡ there)
 exponent_there k true v is h =
     let w = is_int32 h.0 (rw (is) at h.2) in
@@ -68,14 +33,14 @@ exponent_there k true v is h =
 exponent_there k false v is h = (None, h, refl)
 
 -- a mantissa has a value, which is an integer of 64 bits
-pub mantissa_taken : (p : FieldPart) (e : Entry) (there : Bool) (v : Option Scalar) (l k : Segment) → IsTold part.Mantissa kind.Int64 p → p.presence ≡ Mandatory
+pub mantissa_taken : (p : FieldPart) (e : Entry) (there : Bool) (v : Option Scalar) (l k : Segment) → IsTold Part.Mantissa Kind.Int64 p → p.presence ≡ Mandatory
     → IsThere p.kind there v → Spelt p e v l k → (m : ℤ) × (v ≡ Some (I64 m))
 mantissa_taken p e true v l k told mandatory is s =
     let w = is_int64 is.0 (rw (told.kind_is) at is.2) in
     (w.0, is.1 ∙ ap (λ (x : Scalar). Some x) w.1)
 mantissa_taken p e false v l k told mandatory is s =
     let none = subst (λ (v : Option Scalar). Spelt p e v l k) is s in
-    absurd (value_there p (told_part part.Mantissa kind.Int64 p refl told).typed mandatory e none.bit none.form (none.best.cut, none.best.form))
+    absurd (value_there p (told_part Part.Mantissa Kind.Int64 p refl told).typed mandatory e none.bit none.form (none.best.cut, none.best.form))
 
 -- ---- entries
 
@@ -87,7 +52,7 @@ spelt_keeps p d e v l k is kept after s =
 
 -- what was read has a form, so that it is refused for want of memory alone
 pub only_memory : (level : Level) (p : FieldPart) (e : Entry) (v : Option Scalar) (bytes rest : List ℕ) (f : FieldRefusal) → IsBytes bytes → IsFieldPart p → HoldsScalar e
-    → ((more : List ℕ) → field_at level p e true (bytes ++ more) ≡ Ok (v, rest ++ more)) → IsRefusal p e v f → f ≡ refusal.Memory
+    → ((more : List ℕ) → field_at level p e true (bytes ++ more) ≡ Ok (v, rest ++ more)) → IsRefusal p e v f → f ≡ FieldRefusal.Memory
 only_memory level p e v bytes rest f fits is holds goes (inr h) = h.1
 only_memory level p e v bytes rest f fits is holds goes (inl h) =
     let read : field_at level p e true bytes ≡ Ok (v, rest) =

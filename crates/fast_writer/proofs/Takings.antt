@@ -1,40 +1,8 @@
 -- Fields that are taken one after the other into the segment that is open.
-use Rattle.std.proofs.Common.{◌≡◌, ◌≤◌, ◌<◌, ◌-◌, ◌+◌, ℕ, suc, ℤ, pos, Bool, false, List, [], ◌∷◌, ◌++◌, length, Option, Some, None, drop, take, refl, sym, ap, ◌∙◌, subst, arith}
-use Rattle.std.proofs.lemmas.List.{drop-drop, take_all}
-use Rattle.std.specs.Option.{is_some}
-use Rattle.std.specs.List.{slice_get}
-use Rattle.std.specs.Borrow.{Bor}
-use Rattle.fast_value.specs.declared.scalar.Scalar.{Scalar}
-use Rattle.fast_value.specs.declared.scalar.Scalar.TheVariants.{I64, Decimal}
-use Rattle.fast_value.specs.declared.kind.Presence.{Presence}
-use Rattle.fast_template.specs.declared.resolved.FieldPart.{FieldPart}
-use Rattle.fast_template.specs.declared.resolved.Flat.{Flat}
-use Rattle.fast_template.specs.Resolved.{Instruction, Instructions, instruction_of, whole_field, field_in_parts, group_of, sequence_of, then_instruction, list_of, part_needs_bit}
-use Rattle.fast_dictionary.specs.Dictionary.{Dictionary, entry_at, set_entry, set_entry-there}
-use Rattle.fast_dictionary.specs.declared.entry.Entry.{Entry}
-use Rattle.fast_wire.specs.declared.level.Level.{Level}
-use Rattle.fast_stream.specs.Nodes.{single}
-use Rattle.fast_stream.specs.Bits.{bit_for, after_bit}
-use Rattle.fast_walk.specs.OpenSegments.{at_instruction, at_mantissa, cursor, with_item}
-use Rattle.fast_walk.specs.Received.{Took, exponent_of}
-use Rattle.fast_walk.specs.Passing.{next_behind}
-use Rattle.fast_walk.specs.Walks.{AreServed, IsNextServed, IsServed}
-use Rattle.fast_value.specs.declared.key.Key.{Key}
-use Rattle.fast_walk.proofs.Passings.{passes_field, passes_on, passes_one}
-use Rattle.fast_walk.proofs.Steps.{count_goes, part_goes}
-use Rattle.fast_walk.proofs.Walking.{exponent_on, no_exponent_on, mantissa_on_goes, is_instruction, is_mantissa}
-use Rattle.fast_writer.specs.Written.{Segment, Spelt}
-use Rattle.fast_writer.specs.Takings.{BeginsWith, EndsPart, Front, MatchTaken, Takes, TakesPart, TakesUnder, TookFields, TookUnder, behind}
-use Rattle.fast_writer.specs.Levels.{level_in, level_of}
-use Rattle.fast_writer.specs.Quick.{Relayed, RelaysPart}
+use Rattle.fast_writer.proofs.Common.{◌≡◌, ◌≤◌, ◌<◌, ◌-◌, ◌+◌, ℕ, suc, ℤ, pos, Bool, false, List, [], ◌∷◌, ◌++◌, length, Option, Some, None, drop, take, refl, sym, ap, ◌∙◌, subst, arith, drop-drop, take_all, is_some, slice_get, Bor, Scalar, I64, Decimal, Presence, FieldPart, Flat, Instruction, Instructions, instruction_of, whole_field, field_in_parts, group_of, sequence_of, then_instruction, list_of, part_needs_bit, Dictionary, entry_at, set_entry, set_entry-there, Entry, Level, single, bit_for, after_bit, at_instruction, at_mantissa, cursor, with_item, Took, exponent_of, next_behind, AreServed, IsNextServed, IsServed, Key, passes_field, passes_on, passes_one, count_goes, part_goes, exponent_on, no_exponent_on, mantissa_on_goes, is_instruction, is_mantissa, Segment, Spelt, BeginsWith, EndsPart, Front, MatchTaken, Takes, TakesPart, TakesUnder, TookFields, TookUnder, behind, level_in, level_of, Relayed, RelaysPart, Taken, IsThere, Run, IsFieldPart, KeepScalars}
 use Rattle.fast_writer.specs.declared.segment.Segment.{Segment as LevelNow}
-use Rattle.fast_writer.specs.declared.fields.Taken.{Taken}
 use Rattle.fast_writer.specs.declared.fields.Taken.TheVariants.{Part, Elsewhere, Refused}
-use Rattle.fast_relay.specs.Relayed.{IsThere}
 use Rattle.fast_writer.specs.Runs.{IsRun, written}
-use Rattle.fast_writer.specs.declared.run.Run.{Run}
-use Rattle.fast_field.specs.Parts.{IsFieldPart}
-use Rattle.fast_walk.specs.Told.{KeepScalars}
 use Rattle.fast_writer.proofs.Relays.{relays_under}
 use Rattle.fast_writer.proofs.SpeltParts.{exponent_there, mantissa_taken, spelt_keeps}
 use Rattle.fast_writer.proofs.Writers.{has_field, has_exponent, has_mantissa}

@@ -1,47 +1,7 @@
 -- The canonical bytes of two worked streams, part by part.
-use Rattle.std.proofs.Common.{◌≡◌, ◌∙◌, ◌≤◌, ◌<◌, ◌^◌, ℕ, zero, suc, Bool, true, false, pos, negsuc, List, [], ◌∷◌, ◌++◌, length, Option, Some, None, Ok, refl, sym, ap, subst, arith, lit<, lit≤, length-append, append-nil, cond}
-use Rattle.std.specs.Prelude.{ℤ, ◌+ℤ◌, codes, nat_lt, if◌then◌else◌}
-use Rattle.std.proofs.Math.IntN.{+ℤ_idl}
+use Rattle.fast_writer.proofs.Common.{◌≡◌, ◌∙◌, ◌≤◌, ◌<◌, ◌^◌, ℕ, zero, suc, Bool, true, false, pos, negsuc, List, [], ◌∷◌, ◌++◌, length, Option, Some, None, Ok, refl, sym, ap, subst, arith, lit<, lit≤, length-append, append-nil, cond, ℤ, ◌+ℤ◌, codes, nat_lt, if◌then◌else◌, +ℤ_idl, eq_by_cmp, groups, unsigned_of, magnitude, IsSigned, groups_from, signed_size, ascii_size, entity_some, signed_sizes, ascii_sizes, Value, bits_of, bit_at, key_cmp, key_cmp-total, Key, Global, Kind, Presence, Mandatory, Optional, Operator, Whole, Scalar, U32, Ascii, Decimal, FieldPart, worked_set, Entry, Undefined, Empty, Assigned, Dictionary, Usual, delta_base, SpellsInteger, IsOfPair, Spelled, Cut, uncut, SpellsDeltas, FormOf, FormBy, NoLater, IsBest, bit_zero_is_best, at_end_first, Content, State, Then, WithMap, written, identifier, hex, message, quote, u32, IsShortestMap, CanonMessage, IsCanonical}
 use Rattle.std.specs.FinMap as finite
-use Rattle.std.specs.Ordering.{eq_by_cmp}
-use Rattle.fast_wire.specs.Entity.{groups}
-use Rattle.fast_wire.specs.Integer.{unsigned_of, magnitude, IsSigned}
-use Rattle.fast_wire.specs.Sizes.{groups_from, signed_size, ascii_size}
-use Rattle.fast_wire.proofs.UnsignedForms.{entity_some}
-use Rattle.fast_wire.proofs.FormSizes.{signed_sizes, ascii_sizes}
-use Rattle.fast_wire.specs.declared.nullable.Nullable.TheVariants.{Value}
-use Rattle.fast_wire.specs.PresenceMap.{bits_of, bit_at}
-use Rattle.fast_value.specs.Key.{key_cmp, key_cmp-total}
-use Rattle.fast_value.specs.declared.key.Key.{Key}
-use Rattle.fast_value.specs.declared.key.Scope.TheVariants.{Global}
-use Rattle.fast_value.specs.declared.kind.Kind.{Kind}
-use Rattle.fast_value.specs.declared.kind.Kind.TheVariants as kind
-use Rattle.fast_value.specs.declared.kind.Presence.{Presence}
-use Rattle.fast_value.specs.declared.kind.Presence.TheVariants.{Mandatory, Optional}
-use Rattle.fast_value.specs.declared.kind.Operator.{Operator}
-use Rattle.fast_value.specs.declared.kind.Operator.TheVariants as operator
-use Rattle.fast_value.specs.declared.kind.Part.TheVariants.{Whole}
-use Rattle.fast_value.specs.declared.scalar.Scalar.{Scalar}
-use Rattle.fast_value.specs.declared.scalar.Scalar.TheVariants.{U32, Ascii, Decimal}
-use Rattle.fast_template.specs.declared.resolved.FieldPart.{FieldPart}
-use Rattle.fast_template.proofs.WorkedSet.{worked_set}
-use Rattle.fast_dictionary.specs.declared.entry.Entry.{Entry}
-use Rattle.fast_dictionary.specs.declared.entry.Entry.TheVariants.{Undefined, Empty, Assigned}
-use Rattle.fast_dictionary.specs.Dictionary.{Dictionary}
-use Rattle.fast_wire.specs.declared.level.Level.TheVariants.{Usual}
-use Rattle.fast_field.specs.Bases.{delta_base}
 use Rattle.fast_field.specs.Values.{exponent_of, mantissa_of}
-use Rattle.fast_field.specs.Spelled.{SpellsInteger, IsOfPair, Spelled}
-use Rattle.fast_field.specs.Deltas.{Cut, uncut, SpellsDeltas}
-use Rattle.fast_field.specs.Fields.{FormOf, FormBy}
-use Rattle.fast_field.specs.Best.{NoLater, IsBest}
-use Rattle.fast_field.proofs.BestForms.{bit_zero_is_best, at_end_first}
-use Rattle.fast_stream.specs.Nodes.{Content}
-use Rattle.fast_stream.specs.Bodies.{State, Then, WithMap, written}
-use Rattle.fast_stream.specs.Streams.{identifier}
-use Rattle.fast_stream.proofs.Hex.{hex}
-use Rattle.fast_stream.proofs.Rows.{message, quote, u32}
-use Rattle.fast_writer.specs.Canonical.{IsShortestMap, CanonMessage, IsCanonical}
 
 -- ---- one behind the other
 
@@ -122,7 +82,7 @@ part_of number kind presence operator slot name =
     record { number = number; part = Whole; kind = kind; presence = presence; operator = operator; initial = None; key = record { slot = slot; scope = Global; name = name; part = Whole } }
 
 abbrev uint32 : ℕ → ℕ → List ℕ → Operator → FieldPart
-uint32 number slot name operator = part_of number kind.UInt32 Mandatory operator slot name
+uint32 number slot name operator = part_of number Kind.UInt32 Mandatory operator slot name
 
 number_some : (x : List ℕ) (number : ℤ) → SpellsInteger Usual true Mandatory x (Value number) → 1 ≤ length x
 number_some x (pos n) h = entity_some x h.entity
@@ -130,25 +90,25 @@ number_some x (negsuc n) h = absurd h
 
 -- numbers in one byte
 module _ (b n : ℕ) (stop : 128 ≤ b) (byte : b < 256) (same : n ≡ unsigned_of (b ∷ [])) (small : n < 2 ^ 32) where
-  byte_form : Spelled Usual kind.UInt32 Mandatory (b ∷ []) (Some (U32 n))
+  byte_form : Spelled Usual Kind.UInt32 Mandatory (b ∷ []) (Some (U32 n))
   byte_form = record { number = pos n; form = record { entity = (stop, byte); short = lit≤ tt; value = same }; range = grind (arith, small); value = refl }
 
-  plain_byte : {number slot : ℕ} {name : List ℕ} {e : Entry} → IsBest (uint32 number slot name operator.Plain) e true (b ∷ []) (Some (U32 n))
+  plain_byte : {number slot : ℕ} {name : List ℕ} {e : Entry} → IsBest (uint32 number slot name Operator.Plain) e true (b ∷ []) (Some (U32 n))
   plain_byte = spelled_best (record { row = (refl, byte_form); within = refl }) (λ c x h. h) (λ c x h. number_some x h.1.number h.1.form)
 
-  copied_byte : {number slot : ℕ} {name : List ℕ} → IsBest (uint32 number slot name operator.Copy) Undefined true (b ∷ []) (Some (U32 n))
+  copied_byte : {number slot : ℕ} {name : List ℕ} → IsBest (uint32 number slot name Operator.Copy) Undefined true (b ∷ []) (Some (U32 n))
   copied_byte = spelled_best (record { row = (refl, byte_form); within = refl }) (λ c x h. let none = h.2 in cc) (λ c x h. number_some x h.1.number h.1.form)
 
-  incremented_byte : {number slot : ℕ} {name : List ℕ} → IsBest (uint32 number slot name operator.Increment) Undefined true (b ∷ []) (Some (U32 n))
+  incremented_byte : {number slot : ℕ} {name : List ℕ} → IsBest (uint32 number slot name Operator.Increment) Undefined true (b ∷ []) (Some (U32 n))
   incremented_byte = spelled_best (record { row = (refl, byte_form); within = refl }) (λ c x h. let none = h.2 in cc) (λ c x h. number_some x h.1.number h.1.form)
 
 -- ---- E0 90 85 86 and 80 87: First A=5 B=6, and A=7 B=6
 
 abbrev first_a : FieldPart
-first_a = uint32 1 5 (codes "A") operator.Plain
+first_a = uint32 1 5 (codes "A") Operator.Plain
 
 abbrev first_b : FieldPart
-first_b = uint32 2 6 (codes "B") operator.Copy
+first_b = uint32 2 6 (codes "B") Operator.Copy
 
 abbrev first : Dictionary → ℕ → ℕ → Dictionary
 first d a b = behind d ((identifier, Some (U32 16)) ∷ (first_a, Some (U32 a)) ∷ (first_b, Some (U32 b)) ∷ [])
@@ -180,16 +140,16 @@ canonical_first = two_messages (hex "E0 90 85 86") (hex "80 87") first_one first
 -- ---- F0 81 81 41 C2 FE 00 E4 and 80 80 81: Quote Seq=1 Sym="AB" Px=100e-2 Qty=-, and Seq=2 Px=101e-2
 
 abbrev seq : FieldPart
-seq = uint32 1 1 (codes "Seq") operator.Increment
+seq = uint32 1 1 (codes "Seq") Operator.Increment
 
 abbrev sym_part : FieldPart
-sym_part = part_of 2 kind.Ascii Mandatory operator.Copy 2 (codes "Sym")
+sym_part = part_of 2 Kind.Ascii Mandatory Operator.Copy 2 (codes "Sym")
 
 abbrev px : FieldPart
-px = part_of 3 kind.Decimal Mandatory operator.Delta 3 (codes "Px")
+px = part_of 3 Kind.Decimal Mandatory Operator.Delta 3 (codes "Px")
 
 abbrev qty : FieldPart
-qty = part_of 4 kind.UInt32 Optional operator.Copy 4 (codes "Qty")
+qty = part_of 4 Kind.UInt32 Optional Operator.Copy 4 (codes "Qty")
 
 abbrev price : ℕ → Scalar
 price m = Decimal (negsuc 1) (pos m)

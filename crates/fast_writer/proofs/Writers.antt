@@ -1,27 +1,6 @@
 -- What has been received of a message is written, call by call.
-use Rattle.std.proofs.Common.{◌≡◌, ◌<◌, ◌≤◌, ℕ, Bool, true, false, List, [], ◌∷◌, ◌++◌, Option, Some, None, refl, sym, ap, subst, ◌∙◌, append-nil, true≢false}
+use Rattle.fast_writer.proofs.Common.{◌≡◌, ◌<◌, ◌≤◌, ℕ, Bool, true, false, List, [], ◌∷◌, ◌++◌, Option, Some, None, refl, sym, ap, subst, ◌∙◌, append-nil, true≢false, ℤ, is_some, or_parts, append_assoc, Scalar, U32, I64, Decimal, I32, Presence, FieldPart, Instruction, Instructions, Resolved, takes_bit, whole_field, field_in_parts, group_of, sequence_of, no_instructions, then_instruction, is_optional, has_map, part_needs_bit, Dictionary, entry_at, IsMap, IsShortest, IsBest, Item, single, items_of, Content, nodes_in, node_limit, group_items, no_elements, sequence_elements, State, PartBy, PieceBy, written, identifier, members_of, Body, with_item, Sequel, Inside, in_group, in_sequence, Waiting, Next, at_instruction, at_mantissa, at_element, fewer, Received, IsExponent, moved, opened, passed, entered, after_exponent, after_length, in_element, after_sequence, ended_in, content_received, exponent_of, length_of, bytes_in, CanonFrom, CanonMessage, IsShortestMap, Segment, IsEmpty, state, Opening, of_message, IsWritten, with_bytes, IsTop, IsBehind, Chain, Waits, IsOpened, IsFinished, Spelt, Asked, Ended, Closes, bits_for, more_of, elements_before-end}
 use Rattle.std.specs.FinMap as finite
-use Rattle.std.specs.Prelude.{ℤ}
-use Rattle.std.specs.Option.{is_some}
-use Rattle.std.proofs.lemmas.Bool.{or_parts}
-use Rattle.std.proofs.lemmas.List.{append_assoc}
-use Rattle.fast_value.specs.declared.scalar.Scalar.{Scalar}
-use Rattle.fast_value.specs.declared.scalar.Scalar.TheVariants.{U32, I64, Decimal, I32}
-use Rattle.fast_value.specs.declared.kind.Presence.{Presence}
-use Rattle.fast_template.specs.declared.resolved.FieldPart.{FieldPart}
-use Rattle.fast_template.specs.Resolved.{Instruction, Instructions, Resolved, takes_bit, whole_field, field_in_parts, group_of, sequence_of, no_instructions, then_instruction, is_optional, has_map, part_needs_bit}
-use Rattle.fast_dictionary.specs.Dictionary.{Dictionary, entry_at}
-use Rattle.fast_wire.specs.PresenceMap.{IsMap}
-use Rattle.fast_wire.specs.Writing.{IsShortest}
-use Rattle.fast_field.specs.Best.{IsBest}
-use Rattle.fast_stream.specs.Nodes.{Item, single, items_of, Content, nodes_in, node_limit, group_items, no_elements, sequence_elements}
-use Rattle.fast_stream.specs.Bodies.{State, PartBy, PieceBy, written}
-use Rattle.fast_stream.specs.Streams.{identifier, members_of}
-use Rattle.fast_walk.specs.OpenSegments.{Body, with_item, Sequel, Inside, in_group, in_sequence, Waiting, Next, at_instruction, at_mantissa, at_element, fewer}
-use Rattle.fast_walk.specs.Received.{Received, IsExponent, moved, opened, passed, entered, after_exponent, after_length, in_element, after_sequence, ended_in, content_received, exponent_of, length_of, bytes_in}
-use Rattle.fast_writer.specs.Canonical.{CanonFrom, CanonMessage, IsShortestMap}
-use Rattle.fast_writer.specs.Written.{Segment, IsEmpty, state, Opening, of_message, IsWritten, with_bytes, IsTop, IsBehind, Chain, Waits, IsOpened, IsFinished, Spelt, Asked, Ended, Closes, bits_for, more_of}
-use Rattle.fast_walk.proofs.Steps.{elements_before-end}
 use Rattle.fast_writer.proofs.Leavings.{closed, no_bits}
 use Rattle.fast_writer.proofs.Writings.{Inner, body_is, chain_on, chain_pop, chain_push, element_waits, ended, front_written, group_waits, level_is, new_segment, part_by, piece_written, with_map}
 

@@ -1,20 +1,5 @@
 -- What is written stays so, piece by piece.
-use Rattle.std.proofs.Common.{◌≡◌, ◌<◌, ℕ, Bool, true, false, List, [], ◌∷◌, ◌++◌, Option, refl, sym, ap, subst, ◌∙◌, append-nil, arith}
-use Rattle.std.proofs.lemmas.Bool.{or_parts}
-use Rattle.std.proofs.lemmas.List.{append_assoc}
-use Rattle.fast_value.specs.declared.scalar.Scalar.{Scalar}
-use Rattle.fast_value.specs.declared.kind.Presence.{Presence}
-use Rattle.fast_template.specs.declared.resolved.FieldPart.{FieldPart}
-use Rattle.fast_template.specs.Resolved.{Instruction, Instructions, group_of, no_instructions, then_instruction, part_needs_bit, is_optional, takes_bit, has_map}
-use Rattle.fast_dictionary.specs.Dictionary.{Dictionary, entry_at}
-use Rattle.fast_wire.specs.PresenceMap.{IsMap}
-use Rattle.fast_wire.specs.Writing.{IsShortest}
-use Rattle.fast_field.specs.Best.{IsBest}
-use Rattle.fast_stream.specs.Nodes.{Item, group_items, no_items, then_item, items_of, then_element}
-use Rattle.fast_stream.specs.Bodies.{SegmentBy, PartBy, PieceBy, written}
-use Rattle.fast_walk.specs.OpenSegments.{Body, Sequel, in_group, in_sequence, Waiting, fewer}
-use Rattle.fast_walk.proofs.Steps.{items_before-more, items_before-end, elements_before-more}
-use Rattle.fast_writer.specs.Canonical.{CanonBody, IsShortestMap}
+use Rattle.fast_writer.proofs.Common.{◌≡◌, ◌<◌, ℕ, Bool, true, false, List, [], ◌∷◌, ◌++◌, Option, refl, sym, ap, subst, ◌∙◌, append-nil, arith, or_parts, append_assoc, Scalar, Presence, FieldPart, Instruction, Instructions, group_of, no_instructions, then_instruction, part_needs_bit, is_optional, takes_bit, has_map, Dictionary, entry_at, IsMap, IsShortest, IsBest, Item, group_items, no_items, then_item, items_of, then_element, SegmentBy, PartBy, PieceBy, written, Body, Sequel, in_group, in_sequence, Waiting, fewer, items_before-more, items_before-end, elements_before-more, CanonBody, IsShortestMap}
 use Rattle.fast_writer.specs.Written.{Segment, IsEmpty, state, bits_for, Leaves, Opening, of_segment, Whole, IsWritten, more_of, WaitsElements, Waits, Chain, Spelt}
 use Rattle.fast_writer.proofs.Leavings.{leaves_split, bit_of, behind_of, no_bits, closed}
 

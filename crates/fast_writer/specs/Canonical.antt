@@ -2,13 +2,7 @@
 -- FAST 1.1, Transfer Encoding, leaves to the sender which legal form it writes.
 use Rattle.std.specs.Prelude.{◌≡◌, ◌≤◌, ℕ, Bool, false, List, length}
 use Rattle.std.specs.FinMap as map
-use Rattle.fast_template.specs.Resolved.{Instructions, Resolved}
-use Rattle.fast_dictionary.specs.Dictionary.{Dictionary}
-use Rattle.fast_wire.specs.PresenceMap.{bit_at, IsMap, IsWholeMap}
-use Rattle.fast_field.specs.Best.{IsBest}
-use Rattle.fast_stream.specs.Nodes.{Items, Content}
-use Rattle.fast_stream.specs.Bodies.{State, BodyBy}
-use Rattle.fast_stream.specs.Streams.{MessageFormBy, CarriesBy}
+use Rattle.fast_writer.specs.Prelude.{Instructions, Resolved, Dictionary, bit_at, IsMap, IsWholeMap, IsBest, Items, Content, State, BodyBy, MessageFormBy, CarriesBy}
 
 -- A map of these bits of which none is set that no instruction asked for; no map of the same bits has fewer bytes.
 -- So it ends with the group of its last 1, or is one group.

@@ -1,10 +1,7 @@
 -- What a writer of canonical bytes has of its messages.
 use Rattle.std.specs.Prelude.{ℕ, List, map}
-use Rattle.fast_template.specs.Resolved.{Resolved}
-use Rattle.fast_dictionary.specs.Dictionary.{Dictionary}
-use Rattle.fast_stream.specs.Nodes.{Content}
+use Rattle.fast_writer.specs.Prelude.{Resolved, Dictionary, Content, Received}
 use Rattle.fast_writer.specs.Runs.{written}
-use Rattle.fast_walk.specs.Received.{Received}
 use Rattle.fast_writer.specs.Written.{Segment, IsFinished, IsOpened}
 use Rattle.fast_writer.specs.declared.segment.Segment.{Segment as LevelNow}
 use Rattle.fast_writer.specs.declared.writer.Writer.{Writer}

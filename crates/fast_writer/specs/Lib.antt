@@ -1,3 +1,4 @@
+mod Prelude
 pub mod Canonical
 pub mod Written
 pub mod Quick

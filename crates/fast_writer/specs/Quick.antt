@@ -1,18 +1,6 @@
 -- A part that was relayed with no value in between. (Own.)
 use Rattle.std.specs.Prelude.{◌≡◌, ◌≢◌, ◌≤◌, ℕ, Bool, false, List, ◌++◌, length, drop, Option, Result, Ok, Err, MatchResult}
-use Rattle.fast_template.specs.declared.resolved.FieldPart.{FieldPart}
-use Rattle.fast_value.specs.declared.scalar.Scalar.{Scalar}
-use Rattle.fast_dictionary.specs.declared.entry.Entry.{Entry}
-use Rattle.fast_dictionary.specs.Dictionary.{Dictionary, entry_at}
-use Rattle.fast_wire.specs.declared.level.Level.{Level}
-use Rattle.fast_field.specs.Bases.{next}
-use Rattle.fast_field.specs.FieldReading.{field_at}
-use Rattle.fast_field.specs.Found.{value_found}
-use Rattle.fast_field.specs.declared.fault.FieldFault.{FieldFault}
-use Rattle.fast_field.specs.declared.fault.FieldFault.TheVariants.{Memory}
-use Rattle.fast_field.specs.declared.found.Found.{Found}
-use Rattle.fast_relay.specs.Relayed.{IsThere}
-use Rattle.fast_walk.specs.Received.{Took, length_of}
+use Rattle.fast_writer.specs.Prelude.{FieldPart, Scalar, Entry, Dictionary, entry_at, Level, next, field_at, value_found, FieldFault, Memory, Found, IsThere, Took, length_of}
 use Rattle.fast_writer.specs.Room.{KeepsRoom}
 use Rattle.fast_writer.specs.Written.{AppendsForm, Segment, Spelt}
 

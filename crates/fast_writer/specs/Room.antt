@@ -1,8 +1,6 @@
 -- Room in the maps of the segments that are written, for the bits that are left of those that are read.
 use Rattle.std.specs.Prelude.{◌≡◌, Bool, true, false, IsTrue, not, ◌&&◌, List, [], ◌∷◌, ◌++◌, drop, map}
-use Rattle.fast_template.specs.declared.resolved.FieldPart.{FieldPart}
-use Rattle.fast_template.specs.Resolved.{part_needs_bit}
-use Rattle.fast_stream.specs.Bits.{after_bit, bit_for}
+use Rattle.fast_writer.specs.Prelude.{FieldPart, part_needs_bit, after_bit, bit_for}
 use Rattle.fast_writer.specs.Written.{Segment, has_set}
 use Rattle.fast_writer.specs.Levels.{level_of}
 use Rattle.fast_writer.specs.declared.writer.Writer.{Writer}

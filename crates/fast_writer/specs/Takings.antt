@@ -1,23 +1,8 @@
 -- Fields that are taken one after the other into the segment that is open.
 use Rattle.std.specs.Prelude.{◌≡◌, ◌≤◌, ◌<◌, ℕ, ◌-◌, ◌&&◌, Bool, true, false, List, Option, Some, None, IsSome, IsTrue, drop, length}
-use Rattle.fast_value.specs.declared.key.Key.{Key}
-use Rattle.fast_value.specs.declared.kind.Kind.TheVariants as kind
+use Rattle.fast_writer.specs.Prelude.{Key, Kind, FieldPart, Flat, Instruction, Instructions, whole_field, field_in_parts, group_of, sequence_of, list_of, part_needs_bit, Scalar, Dictionary, Entry, after_bit, bit_for, Level, Fields, Received, IsTold, KeepScalars, AreServed, IsNextServed, bare_next, Passes, next_behind, IsThere}
 use Rattle.fast_value.specs.declared.kind.Part.TheVariants as part
 use Rattle.std.specs.Borrow.{Bor}
-use Rattle.fast_template.specs.declared.resolved.FieldPart.{FieldPart}
-use Rattle.fast_template.specs.declared.resolved.Flat.{Flat}
-use Rattle.fast_template.specs.Resolved.{Instruction, Instructions, whole_field, field_in_parts, group_of, sequence_of, list_of, part_needs_bit}
-use Rattle.fast_value.specs.declared.scalar.Scalar.{Scalar}
-use Rattle.fast_dictionary.specs.Dictionary.{Dictionary}
-use Rattle.fast_dictionary.specs.declared.entry.Entry.{Entry}
-use Rattle.fast_stream.specs.Bits.{after_bit, bit_for}
-use Rattle.fast_wire.specs.declared.level.Level.{Level}
-use Rattle.fast_walk.specs.declared.receiver.Fields.{Fields}
-use Rattle.fast_walk.specs.Received.{Received}
-use Rattle.fast_walk.specs.Told.{IsTold, KeepScalars}
-use Rattle.fast_walk.specs.Walks.{AreServed, IsNextServed, bare_next}
-use Rattle.fast_walk.specs.Passing.{Passes, next_behind}
-use Rattle.fast_relay.specs.Relayed.{IsThere}
 use Rattle.fast_writer.specs.Quick.{RelaysEntry, RelaysPart}
 use Rattle.fast_writer.specs.Runs.{IsRun, written}
 use Rattle.fast_writer.specs.Levels.{level_in}
@@ -47,14 +32,14 @@ pub record Takes (level : Level) (bytes : List ℕ) (l : Segment) (d : Dictionar
 abbrev pub BeginsWith : Instruction → FieldPart → Option (Bor FieldPart) → Type 0
 BeginsWith (whole_field name number presence whole) part mantissa = (part ≡ whole) × (mantissa ≡ None)
 BeginsWith (field_in_parts name number presence exponent behind) part mantissa =
-    (part ≡ exponent) × (part.kind ≡ kind.Int32) × ((m : Bor FieldPart) × (mantissa ≡ Some m) × (m.now ≡ behind))
+    (part ≡ exponent) × (part.kind ≡ Kind.Int32) × ((m : Bor FieldPart) × (mantissa ≡ Some m) × (m.now ≡ behind))
 BeginsWith (group_of name number presence members) part mantissa = ⊥
 BeginsWith (sequence_of name number presence length members) part mantissa = ⊥
 
 -- what is known of the part that a field begins with
 abbrev pub IsFirstTold : Option (Bor FieldPart) → FieldPart → Type 0
 IsFirstTold None p = IsTold part.Whole p.kind p
-IsFirstTold (Some mantissa) p = IsTold part.Exponent kind.Int32 p
+IsFirstTold (Some mantissa) p = IsTold part.Exponent Kind.Int32 p
 
 -- the mantissa that is next behind an exponent, whether that is there
 abbrev pub behind : Bool → Option (Bor FieldPart) → Option (Bor FieldPart)

@@ -1,20 +1,7 @@
 -- What is written of a message that is open: of each of its segments, and of the messages before it.
 use Rattle.std.specs.Prelude.{◌≡◌, ℕ, ℤ, Bool, true, false, ◌||◌, List, [], ◌∷◌, ◌++◌, Option, Some}
 use Rattle.std.specs.FinMap as map
-use Rattle.fast_value.specs.declared.scalar.Scalar.{Scalar}
-use Rattle.fast_value.specs.declared.scalar.Scalar.TheVariants.{U32, I64, Decimal}
-use Rattle.fast_template.specs.declared.resolved.FieldPart.{FieldPart}
-use Rattle.fast_template.specs.Resolved.{Instructions, Resolved, has_map, part_needs_bit}
-use Rattle.fast_dictionary.specs.Dictionary.{Dictionary, entry_at}
-use Rattle.fast_dictionary.specs.declared.entry.Entry.{Entry}
-use Rattle.fast_wire.specs.PresenceMap.{next_bit, later_bits, IsMap}
-use Rattle.fast_wire.specs.Writing.{IsShortest}
-use Rattle.fast_field.specs.Best.{IsBest}
-use Rattle.fast_stream.specs.Nodes.{single, group_items, sequence_elements, Items, Elements, element_count, Content}
-use Rattle.fast_stream.specs.Bodies.{State, SegmentBy, Then, PartBy, Each, written}
-use Rattle.fast_stream.specs.Streams.{identifier}
-use Rattle.fast_walk.specs.OpenSegments.{items_before, elements_before, Body, Sequel, Inside, in_group, in_sequence, Waiting, Next, at_instruction, at_mantissa, at_element, with_item, with_element}
-use Rattle.fast_walk.specs.Received.{Received, bytes_in}
+use Rattle.fast_writer.specs.Prelude.{Scalar, U32, I64, Decimal, FieldPart, Instructions, Resolved, has_map, part_needs_bit, Dictionary, entry_at, Entry, next_bit, later_bits, IsMap, IsShortest, IsBest, single, group_items, sequence_elements, Items, Elements, element_count, Content, State, SegmentBy, Then, PartBy, Each, written, identifier, items_before, elements_before, Body, Sequel, Inside, in_group, in_sequence, Waiting, Next, at_instruction, at_mantissa, at_element, with_item, with_element, Received, bytes_in}
 use Rattle.fast_writer.specs.Canonical.{CanonBody, CanonFrom, IsShortestMap}
 
 -- ---- the messages that are finished

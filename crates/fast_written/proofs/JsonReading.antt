@@ -1,26 +1,5 @@
 -- Reading the instructions of a template text one after another.
-use Rattle.std.proofs.Common.{min, arith, ◌⊎◌, inl, inr, Result, ◌≡◌, ◌<◌, ◌≤◌, ◌+◌, ℕ, List, [], ◌∷◌, ◌++◌, length, drop, get_or, Option, Some, Ok, Err, refl, sym, ap, ◌∙◌}
-use Rattle.std.specs.Option.{option_map_or}
-use Rattle.std.specs.Ordering.{nat_cmp, match_ordering}
-use Rattle.std.specs.declared.cmp.Ordering.{Ordering}
-use Rattle.std.specs.declared.cmp.Ordering.TheVariants.{Less, Equal, Greater}
-use Rattle.std.specs.Cmp.Lexicographic.{slice_cmp}
-use Rattle.std.proofs.lemmas.List.{drop_more, drop_all, append_assoc, append-nil}
-use Rattle.fast_written.specs.declared.fault.LoadCause.TheVariants as cause
-use Rattle.fast_written.specs.declared.fault.LoadFault.{LoadFault}
-use Rattle.fast_written.specs.LoadFaults.{want_of_memory, fault_at as load_fault}
-use Rattle.fast_written.specs.Written.{WrittenTemplate}
-use Rattle.serde_json.specs.Data.{Data, null, boolean, number, string, array, object, Members, no_members, member}
-use Rattle.serde_json.specs.Find.{get_member}
-use Rattle.serde_json.specs.View.{view, items_view}
-use Rattle.serde_json.specs.declared.value.Value.{Value}
-use Rattle.fast_written.specs.declared.profile.Word.TheVariants as word
-use Rattle.fast_written.specs.Profile.{word_text}
-use Rattle.fast_written.specs.LoadFaults.{next_number}
-use Rattle.fast_written.specs.Written.{WrittenInstruction, WrittenInstructions, no_written, then_written, written_list}
-use Rattle.fast_written.specs.declared.json.Unread.{Unread}
-use Rattle.fast_written.specs.declared.json.Unread.TheVariants as unread
-use Rattle.fast_written.specs.JsonTemplates.{Read, ReadsAs, ReadsTemplate, fault_of_unread, read_template, read_templates, then_templates, one_of, members_in, read_one, read_inside, read_all, read_items, before_others, then_others}
+use Rattle.fast_written.proofs.Common.{min, arith, ◌⊎◌, inl, inr, Result, ◌≡◌, ◌<◌, ◌≤◌, ◌+◌, ℕ, List, [], ◌∷◌, ◌++◌, length, drop, get_or, Option, Some, Ok, Err, refl, sym, ap, ◌∙◌, option_map_or, nat_cmp, match_ordering, Ordering, Less, Equal, Greater, slice_cmp, drop_more, drop_all, append_assoc, append-nil, LoadCause, LoadFault, want_of_memory, fault_at as load_fault, WrittenTemplate, Data, null, boolean, number, string, array, object, Members, no_members, member, get_member, view, items_view, Value, Word, word_text, next_number, WrittenInstruction, WrittenInstructions, no_written, then_written, written_list, Unread, Read, ReadsAs, ReadsTemplate, fault_of_unread, read_template, read_templates, then_templates, one_of, members_in, read_one, read_inside, read_all, read_items, before_others, then_others}
 
 -- what stands under a key is the same whether it is looked for or met
 inside_by : (o : Ordering) (a b c : Read WrittenInstructions) (x y z : Option Data) (n : ℕ) → a ≡ option_map_or (λ e. read_all e n) x (Ok (no_written, n)) → b ≡ option_map_or (λ e. read_all e n) y (Ok (no_written, n)) → c ≡ option_map_or (λ e. read_all e n) z (Ok (no_written, n))
@@ -31,7 +10,7 @@ inside_by Greater a b c x y z n p q r = r
 
 inside_is : (ms : Members) (n : ℕ) → read_inside ms n ≡ members_in (object ms) n
 inside_is no_members n = refl
-inside_is (member k d ms) n = inside_by (slice_cmp nat_cmp (word_text word.Instructions) k) _ _ _ (get_member (word_text word.Instructions) ms) (Some d) (get_member (word_text word.Instructions) ms) n (inside_is ms n) refl (inside_is ms n)
+inside_is (member k d ms) n = inside_by (slice_cmp nat_cmp (word_text Word.Instructions) k) _ _ _ (get_member (word_text Word.Instructions) ms) (Some d) (get_member (word_text Word.Instructions) ms) n (inside_is ms n) refl (inside_is ms n)
 
 pub one_is : (d : Data) (n : ℕ) → read_one d n ≡ one_of d n (members_in d (next_number n))
 one_is null n = refl
@@ -91,8 +70,8 @@ all_read xs vs i n le = ap (λ l. behind xs (read_items (items_view l) n)) (drop
 
 -- what cannot be read there cannot be read as a whole
 pub fails : {A B : Type 0} (f : A → WrittenInstruction) (g : B → WrittenInstructions) (e : Unread) (one : Read WrittenInstruction) (all : Read WrittenInstructions) → ((m : ℕ) → one ≡ Err m → all ≡ Err m) → ReadsAs f (Err e) one → ReadsAs g (Err e) all
-fails f g (unread.At m) one all lead reads = lead m reads
-fails f g unread.Memory one all lead reads = tt
+fails f g (Unread.At m) one all lead reads = lead m reads
+fails f g Unread.Memory one all lead reads = tt
 
 -- ---- templates
 
@@ -121,17 +100,17 @@ one_template default xs vs i d x lt is =
     behind_one xs (i + 1) x rest ∙ ap (λ r. templates_behind xs (then_templates (i + 1) r rest)) (sym is) ∙ ap (templates_behind xs) (sym (template_is default vs i d lt))
 
 pub template_at_fault : (default : Option (List ℕ)) (xs : List WrittenTemplate) (vs : List Value) (i m : ℕ) (d : Value) → i < length vs → read_template default (view (get_or vs i d)) ≡ Err m
-    → templates_behind xs (read_templates default (items_view (drop i vs)) (i + 1)) ≡ Err (load_fault cause.S1 (i + 1) m)
+    → templates_behind xs (read_templates default (items_view (drop i vs)) (i + 1)) ≡ Err (load_fault LoadCause.S1 (i + 1) m)
 template_at_fault default xs vs i m d lt is = ap (templates_behind xs) (template_is default vs i d lt ∙ ap (λ r. then_templates (i + 1) r (read_templates default (items_view (drop (i + 1) vs)) (i + 1 + 1))) is)
 
 pub all_templates : (default : Option (List ℕ)) (xs : List WrittenTemplate) (vs : List Value) (i : ℕ) → length vs ≤ i → templates_behind xs (read_templates default (items_view (drop i vs)) (i + 1)) ≡ Ok xs
 all_templates default xs vs i le = ap (λ l. templates_behind xs (read_templates default (items_view l) (i + 1))) (drop_all i vs le) ∙ ap Ok (append-nil xs)
 
 -- the fault of a template that was not read
-pub unread_template : (e : Unread) (t place : ℕ) (spec : Result WrittenTemplate ℕ) (all : Result (List WrittenTemplate) LoadFault) → place ≡ min t 4294967295 → ((m : ℕ) → e ≡ unread.At m → m ≤ 4294967295)
-    → ((m : ℕ) → spec ≡ Err m → all ≡ Err (load_fault cause.S1 t m)) → ReadsTemplate (Err e) spec → (all ≡ Err (fault_of_unread e place)) ⊎ (fault_of_unread e place ≡ want_of_memory)
-unread_template (unread.At m) t place spec all at small lead reads =
+pub unread_template : (e : Unread) (t place : ℕ) (spec : Result WrittenTemplate ℕ) (all : Result (List WrittenTemplate) LoadFault) → place ≡ min t 4294967295 → ((m : ℕ) → e ≡ Unread.At m → m ≤ 4294967295)
+    → ((m : ℕ) → spec ≡ Err m → all ≡ Err (load_fault LoadCause.S1 t m)) → ReadsTemplate (Err e) spec → (all ≡ Err (fault_of_unread e place)) ⊎ (fault_of_unread e place ≡ want_of_memory)
+unread_template (Unread.At m) t place spec all at small lead reads =
     let le = small m refl in
     let same : min m 4294967295 ≡ m = omega (arith, le) in
-    inl (lead m reads ∙ (λ i. Err (record { cause = cause.S1; template = sym at i; instruction = same i })))
-unread_template unread.Memory t place spec all at small lead reads = inr refl
+    inl (lead m reads ∙ (λ i. Err (record { cause = LoadCause.S1; template = sym at i; instruction = same i })))
+unread_template Unread.Memory t place spec all at small lead reads = inr refl

@@ -1,2 +1,3 @@
+mod Common
 pub mod JsonReading
 pub mod WorkedTemplates

@@ -1,11 +1,5 @@
 -- The templates of the worked rows, as they are written.
-use Rattle.std.proofs.Common.{ℕ, List, [], ◌∷◌, Option, Some, None}
-use Rattle.std.specs.Prelude.{codes}
-use Rattle.fast_value.specs.declared.kind.Kind.TheVariants.{UInt32, Decimal, Ascii, Unicode, Bytes}
-use Rattle.fast_value.specs.declared.kind.Presence.TheVariants.{Mandatory, Optional}
-use Rattle.fast_value.specs.declared.kind.Operator.{Operator}
-use Rattle.fast_value.specs.declared.kind.Operator.TheVariants.{Plain, Constant, Default, Copy, Increment, Delta, Tail}
-use Rattle.fast_written.specs.Written.{WrittenOperation, Surroundings, WrittenInstruction, written_field, written_parts, written_group, written_sequence, written_reference, written_list, WrittenTemplate}
+use Rattle.fast_written.proofs.Common.{ℕ, List, [], ◌∷◌, Option, Some, None, codes, UInt32, Decimal, Ascii, Unicode, Bytes, Mandatory, Optional, Operator, Plain, Constant, Default, Copy, Increment, Delta, Tail, WrittenOperation, Surroundings, WrittenInstruction, written_field, written_parts, written_group, written_sequence, written_reference, written_list, WrittenTemplate}
 
 -- an operator alone, with a value, and with a key
 abbrev pub by : Operator → WrittenOperation

@@ -10,25 +10,19 @@ use Rattle.std.specs.Cmp.Lexicographic.{pointwise, slice_cmp}
 use Rattle.serde_json.specs.Data.{Data, array, object, Items, no_items, item, Members, no_members, member}
 use Rattle.serde_json.specs.Find.{get, as_str, as_number, as_u64}
 use Rattle.fast_value.specs.declared.kind.Kind.{Kind}
-use Rattle.fast_value.specs.declared.kind.Kind.TheVariants as kind
 use Rattle.fast_value.specs.declared.kind.Presence.{Presence}
 use Rattle.fast_value.specs.declared.kind.Presence.TheVariants.{Mandatory, Optional}
 use Rattle.fast_value.specs.declared.kind.Operator.{Operator}
-use Rattle.fast_value.specs.declared.kind.Operator.TheVariants as operator
 use Rattle.fast_written.specs.declared.profile.Word.{Word}
-use Rattle.fast_written.specs.declared.profile.Word.TheVariants as word
 use Rattle.fast_written.specs.declared.profile.Row.{Row}
-use Rattle.fast_written.specs.declared.profile.Row.TheVariants as row
 use Rattle.fast_written.specs.declared.json.Form.{Form}
-use Rattle.fast_written.specs.declared.json.Form.TheVariants as form
 use Rattle.fast_written.specs.Written.{written_template_of}
 use Rattle.fast_written.specs.declared.written.Template.{Template}
 use Rattle.fast_written.specs.declared.json.Unread.{Unread}
-use Rattle.fast_written.specs.declared.json.Unread.TheVariants as unread
 use Rattle.fast_written.specs.Written.{WrittenTemplate, WrittenOperation, Surroundings, WrittenInstruction, WrittenInstructions, written_field, written_parts, written_group, written_sequence, written_reference, no_written, then_written}
 use Rattle.fast_written.specs.LoadFaults.{fault_at}
 use Rattle.fast_written.specs.Names.{is_name}
-use Rattle.fast_written.specs.declared.fault.LoadCause.TheVariants as cause
+use Rattle.fast_written.specs.declared.fault.LoadCause.{LoadCause}
 use Rattle.fast_written.specs.declared.fault.LoadFault.{LoadFault}
 use Rattle.std.specs.List.{list_all}
 use Rattle.fast_written.specs.Profile.{word_text, fits}
@@ -43,10 +37,10 @@ abbrev pub has : Word → Data → Bool
 has w d = is_some (get (word_text w) d)
 
 abbrev pub name_in : Data → List ℕ
-name_in d = unwrap_or (text_at word.Name d) []
+name_in d = unwrap_or (text_at Word.Name d) []
 
 abbrev pub around_in : Data → Surroundings
-around_in d = record { dictionary = text_at word.Dictionary d; type_ref = text_at word.TypeRef d }
+around_in d = record { dictionary = text_at Word.Dictionary d; type_ref = text_at Word.TypeRef d }
 
 -- ---- words
 
@@ -55,16 +49,16 @@ is_word w text = pointwise nat_eq text w
 
 abbrev pub form_named : List ℕ → Option Form
 form_named text =
-    if is_word (codes "int32") text then Some form.Int32
-    else if is_word (codes "uInt32") text then Some form.UInt32
-    else if is_word (codes "int64") text then Some form.Int64
-    else if is_word (codes "uInt64") text then Some form.UInt64
-    else if is_word (codes "decimal") text then Some form.Decimal
-    else if is_word (codes "string") text then Some form.Text
-    else if is_word (codes "byteVector") text then Some form.Bytes
-    else if is_word (codes "group") text then Some form.Group
-    else if is_word (codes "sequence") text then Some form.Sequence
-    else if is_word (codes "templateRef") text then Some form.Reference
+    if is_word (codes "int32") text then Some Form.Int32
+    else if is_word (codes "uInt32") text then Some Form.UInt32
+    else if is_word (codes "int64") text then Some Form.Int64
+    else if is_word (codes "uInt64") text then Some Form.UInt64
+    else if is_word (codes "decimal") text then Some Form.Decimal
+    else if is_word (codes "string") text then Some Form.Text
+    else if is_word (codes "byteVector") text then Some Form.Bytes
+    else if is_word (codes "group") text then Some Form.Group
+    else if is_word (codes "sequence") text then Some Form.Sequence
+    else if is_word (codes "templateRef") text then Some Form.Reference
     else None
 
 abbrev pub presence_named : List ℕ → Option Presence
@@ -75,52 +69,52 @@ presence_named text =
 
 abbrev pub charset_named : List ℕ → Option Kind
 charset_named text =
-    if is_word (codes "ascii") text then Some kind.Ascii
-    else if is_word (codes "unicode") text then Some kind.Unicode
+    if is_word (codes "ascii") text then Some Kind.Ascii
+    else if is_word (codes "unicode") text then Some Kind.Unicode
     else None
 
 abbrev pub operator_named : List ℕ → Option Operator
 operator_named text =
-    if is_word (codes "constant") text then Some operator.Constant
-    else if is_word (codes "default") text then Some operator.Default
-    else if is_word (codes "copy") text then Some operator.Copy
-    else if is_word (codes "increment") text then Some operator.Increment
-    else if is_word (codes "delta") text then Some operator.Delta
-    else if is_word (codes "tail") text then Some operator.Tail
+    if is_word (codes "constant") text then Some Operator.Constant
+    else if is_word (codes "default") text then Some Operator.Default
+    else if is_word (codes "copy") text then Some Operator.Copy
+    else if is_word (codes "increment") text then Some Operator.Increment
+    else if is_word (codes "delta") text then Some Operator.Delta
+    else if is_word (codes "tail") text then Some Operator.Tail
     else None
 
 -- mandatory, and ASCII, where nothing is said
 abbrev pub presence_in : Data → Option Presence
-presence_in d = option_map_or presence_named (text_at word.Presence d) (Some Mandatory)
+presence_in d = option_map_or presence_named (text_at Word.Presence d) (Some Mandatory)
 
 abbrev pub charset_in : Data → Option Kind
-charset_in d = option_map_or charset_named (text_at word.Charset d) (Some kind.Ascii)
+charset_in d = option_map_or charset_named (text_at Word.Charset d) (Some Kind.Ascii)
 
 abbrev pub form_in : Data → Option Form
-form_in d = option_and_then form_named (text_at word.Kind d)
+form_in d = option_and_then form_named (text_at Word.Kind d)
 
 -- ---- operators
 
 abbrev pub plain : WrittenOperation
-plain = record { operator = operator.Plain; initial = None; dictionary = None; key = None }
+plain = record { operator = Operator.Plain; initial = None; dictionary = None; key = None }
 
 -- what may stand beside an operator stands there
 abbrev pub says_more : Data → Bool
-says_more d = has word.Value d || has word.Dictionary d || has word.Key d
+says_more d = has Word.Value d || has Word.Dictionary d || has Word.Key d
 
 abbrev pub operation_of_word : Data → Option Operator → Option WrittenOperation
-operation_of_word d named = option_map (λ o. record { operator = o; initial = text_at word.Value d; dictionary = text_at word.Dictionary d; key = text_at word.Key d }) named
+operation_of_word d named = option_map (λ o. record { operator = o; initial = text_at Word.Value d; dictionary = text_at Word.Dictionary d; key = text_at Word.Key d }) named
 
 -- without an operator nothing may stand beside it
 abbrev pub operation_in : Data → Option WrittenOperation
-operation_in d = option_map_or (λ text. operation_of_word d (operator_named text)) (text_at word.Operator d) (if says_more d then None else Some plain)
+operation_in d = option_map_or (λ text. operation_of_word d (operator_named text)) (text_at Word.Operator d) (if says_more d then None else Some plain)
 
 -- the operator of an exponent, a mantissa or a length: an object of its own, or as if it were empty
 abbrev pub part_in : Row → Word → Data → Option WrittenOperation
 part_in r w d = option_map_or (λ inner. if fits r inner then operation_in inner else None) (get (word_text w) d) (Some plain)
 
 abbrev pub length_name_in : Data → Option (List ℕ)
-length_name_in d = option_and_then (text_at word.Name) (get (word_text word.Length) d)
+length_name_in d = option_and_then (text_at Word.Name) (get (word_text Word.Length) d)
 
 -- ---- instructions without members
 
@@ -129,32 +123,32 @@ field_in k d = option_and_then (λ presence. option_map (written_field (name_in 
 
 abbrev pub parts_in : Data → Option WrittenInstruction
 parts_in d =
-    if has word.Operator d || says_more d then None
-    else option_and_then (λ presence. option_and_then (λ exponent. option_map (written_parts (name_in d) presence exponent) (part_in row.Part word.Mantissa d)) (part_in row.Part word.Exponent d)) (presence_in d)
+    if has Word.Operator d || says_more d then None
+    else option_and_then (λ presence. option_and_then (λ exponent. option_map (written_parts (name_in d) presence exponent) (part_in Row.Part Word.Mantissa d)) (part_in Row.Part Word.Exponent d)) (presence_in d)
 
 -- one of exponent and mantissa makes separate operators
 abbrev pub decimal_in : Data → Option WrittenInstruction
-decimal_in d = if has word.Exponent d || has word.Mantissa d then parts_in d else field_in kind.Decimal d
+decimal_in d = if has Word.Exponent d || has Word.Mantissa d then parts_in d else field_in Kind.Decimal d
 
 abbrev pub leaf_in : Form → Data → Option WrittenInstruction
-leaf_in form.Int32 d = field_in kind.Int32 d
-leaf_in form.UInt32 d = field_in kind.UInt32 d
-leaf_in form.Int64 d = field_in kind.Int64 d
-leaf_in form.UInt64 d = field_in kind.UInt64 d
-leaf_in form.Decimal d = decimal_in d
-leaf_in form.Text d = option_and_then (λ k. field_in k d) (charset_in d)
-leaf_in form.Bytes d = field_in kind.Bytes d
-leaf_in form.Reference d = Some (written_reference (name_in d))
+leaf_in Form.Int32 d = field_in Kind.Int32 d
+leaf_in Form.UInt32 d = field_in Kind.UInt32 d
+leaf_in Form.Int64 d = field_in Kind.Int64 d
+leaf_in Form.UInt64 d = field_in Kind.UInt64 d
+leaf_in Form.Decimal d = decimal_in d
+leaf_in Form.Text d = option_and_then (λ k. field_in k d) (charset_in d)
+leaf_in Form.Bytes d = field_in Kind.Bytes d
+leaf_in Form.Reference d = Some (written_reference (name_in d))
 leaf_in f d = None
 
 -- the row of the table that an instruction has to fit
 abbrev pub row_of_form : Form → Row
-row_of_form form.Text = row.Text
-row_of_form form.Decimal = row.Decimal
-row_of_form form.Group = row.Group
-row_of_form form.Sequence = row.Sequence
-row_of_form form.Reference = row.Reference
-row_of_form f = row.Field
+row_of_form Form.Text = Row.Text
+row_of_form Form.Decimal = Row.Decimal
+row_of_form Form.Group = Row.Group
+row_of_form Form.Sequence = Row.Sequence
+row_of_form Form.Reference = Row.Reference
+row_of_form f = Row.Field
 
 -- ---- instructions, with the number of the one after them, or the number of the one at fault
 
@@ -174,11 +168,11 @@ group_in d n inside = option_map_or (λ presence. around_members (written_group 
 
 abbrev pub sequence_in : Data → ℕ → Read WrittenInstructions → Read WrittenInstruction
 sequence_in d n inside =
-    option_map_or (λ presence. option_map_or (λ length. around_members (written_sequence (name_in d) presence (around_in d) (length_name_in d) length) inside) (part_in row.Length word.Length d) (Err n)) (presence_in d) (Err n)
+    option_map_or (λ presence. option_map_or (λ length. around_members (written_sequence (name_in d) presence (around_in d) (length_name_in d) length) inside) (part_in Row.Length Word.Length d) (Err n)) (presence_in d) (Err n)
 
 abbrev pub of_form : Form → Data → ℕ → Read WrittenInstructions → Read WrittenInstruction
-of_form form.Group d n inside = group_in d n inside
-of_form form.Sequence d n inside = sequence_in d n inside
+of_form Form.Group d n inside = group_in d n inside
+of_form Form.Sequence d n inside = sequence_in d n inside
 of_form f d n inside = leaf n (leaf_in f d)
 
 -- an instruction's own shape comes before that of its members
@@ -201,7 +195,7 @@ abbrev mutual
   -- what stands under the key of instructions
   pub read_inside : Members → ℕ → Read WrittenInstructions
   read_inside no_members n = Ok (no_written, n)
-  read_inside (member key d ms) n = match_ordering (slice_cmp nat_cmp (word_text word.Instructions) key) (read_inside ms n) (read_all d n) (read_inside ms n)
+  read_inside (member key d ms) n = match_ordering (slice_cmp nat_cmp (word_text Word.Instructions) key) (read_inside ms n) (read_all d n) (read_inside ms n)
 
   pub read_all : Data → ℕ → Read WrittenInstructions
   read_all (array ds) n = read_items ds n
@@ -215,29 +209,29 @@ abbrev mutual
 
 -- what stands under the key of instructions, where it stands
 abbrev pub members_in : Data → ℕ → Read WrittenInstructions
-members_in d n = option_map_or (λ e. read_all e n) (get (word_text word.Instructions) d) (Ok (no_written, n))
+members_in d n = option_map_or (λ e. read_all e n) (get (word_text Word.Instructions) d) (Ok (no_written, n))
 
 abbrev pub id_of : Option ℕ → Option ℕ
 id_of None = None
 id_of (Some n) = if nat_lt n (2 ^ 32) then Some n else None
 
 abbrev pub id_in : Data → Option ℕ
-id_in d = id_of (option_and_then as_u64 (option_and_then as_number (get (word_text word.Id) d)))
+id_in d = id_of (option_and_then as_u64 (option_and_then as_number (get (word_text Word.Id) d)))
 
 -- a dictionary of the text is put on each template that names none
 abbrev pub template_with : Option (List ℕ) → Data → WrittenInstructions → WrittenTemplate
 template_with default d members =
-    record { name = name_in d; id = id_in d; around = record { dictionary = option_or (text_at word.Dictionary d) default; type_ref = text_at word.TypeRef d }; members = members }
+    record { name = name_in d; id = id_in d; around = record { dictionary = option_or (text_at Word.Dictionary d) default; type_ref = text_at Word.TypeRef d }; members = members }
 
 abbrev pub template_of_members : Option (List ℕ) → Data → Read WrittenInstructions → Result WrittenTemplate ℕ
 template_of_members default d (Err n) = Err n
 template_of_members default d (Ok p) = Ok (template_with default d p.0)
 
 abbrev pub read_template : Option (List ℕ) → Data → Result WrittenTemplate ℕ
-read_template default d = if fits row.Template d then template_of_members default d (members_in d 1) else Err 0
+read_template default d = if fits Row.Template d then template_of_members default d (members_in d 1) else Err 0
 
 abbrev pub then_templates : ℕ → Result WrittenTemplate ℕ → Result (List WrittenTemplate) LoadFault → Result (List WrittenTemplate) LoadFault
-then_templates t (Err i) others = Err (fault_at cause.S1 t i)
+then_templates t (Err i) others = Err (fault_at LoadCause.S1 t i)
 then_templates t (Ok w) (Err fault) = Err fault
 then_templates t (Ok w) (Ok ws) = Ok (w ∷ ws)
 
@@ -248,30 +242,30 @@ read_templates default (item d ds) t = then_templates t (read_template default d
 
 abbrev pub templates_under : Option (List ℕ) → Option Data → Result (List WrittenTemplate) LoadFault
 templates_under default (Some (array ds)) = read_templates default ds 1
-templates_under default d = Err (fault_at cause.S1 0 0)
+templates_under default d = Err (fault_at LoadCause.S1 0 0)
 
 -- The templates of a text's data: of the text as a whole its object's shape and the name of its dictionary come first.
 abbrev pub templates_of : Data → Result (List WrittenTemplate) LoadFault
 templates_of d =
-    if fits row.Top d && list_all is_name (option_to_list (text_at word.Dictionary d)) then templates_under (text_at word.Dictionary d) (get (word_text word.Templates) d)
-    else Err (fault_at cause.S1 0 0)
+    if fits Row.Top d && list_all is_name (option_to_list (text_at Word.Dictionary d)) then templates_under (text_at Word.Dictionary d) (get (word_text Word.Templates) d)
+    else Err (fault_at LoadCause.S1 0 0)
 
 -- ---- what a reader in a program answers: the same, or want of memory
 
 abbrev pub ReadsAs : {A B : Type 0} → (A → B) → Result (A × ℕ) Unread → Read B → Type 0
 ReadsAs f (Ok p) spec = spec ≡ Ok (f p.0, p.1)
-ReadsAs f (Err (unread.At n)) spec = spec ≡ Err n
-ReadsAs f (Err unread.Memory) spec = Unit {0}
+ReadsAs f (Err (Unread.At n)) spec = spec ≡ Err n
+ReadsAs f (Err Unread.Memory) spec = Unit {0}
 
 abbrev pub ReadsTemplate : Result Template Unread → Result WrittenTemplate ℕ → Type 0
 ReadsTemplate (Ok template) spec = spec ≡ Ok (written_template_of template)
-ReadsTemplate (Err (unread.At n)) spec = spec ≡ Err n
-ReadsTemplate (Err unread.Memory) spec = Unit {0}
+ReadsTemplate (Err (Unread.At n)) spec = spec ≡ Err n
+ReadsTemplate (Err Unread.Memory) spec = Unit {0}
 
 abbrev pub ReadsTemplates : Result (Vec Template Global) LoadFault → Result (List WrittenTemplate) LoadFault → Type 0
 ReadsTemplates (Ok templates) spec = spec ≡ Ok (map written_template_of templates.items)
 ReadsTemplates (Err fault) spec = (spec ≡ Err fault) ⊎ (fault ≡ want_of_memory)
 
 abbrev pub fault_of_unread : Unread → ℕ → LoadFault
-fault_of_unread (unread.At n) t = record { cause = cause.S1; template = t; instruction = n }
-fault_of_unread unread.Memory t = want_of_memory
+fault_of_unread (Unread.At n) t = record { cause = LoadCause.S1; template = t; instruction = n }
+fault_of_unread Unread.Memory t = want_of_memory

@@ -2,7 +2,6 @@
 -- Own: the numbers of instructions in faults, and that a number past 4,294,967,295 is given as that.
 use Rattle.std.specs.Prelude.{ℕ, ◌+◌, min}
 use Rattle.fast_written.specs.declared.fault.LoadCause.{LoadCause}
-use Rattle.fast_written.specs.declared.fault.LoadCause.TheVariants as cause
 use Rattle.fast_written.specs.declared.fault.LoadFault.{LoadFault}
 
 -- the number after one
@@ -15,4 +14,4 @@ fault_at c t i = record { cause = c; template = min t 4294967295; instruction = 
 
 -- the fault where memory is refused, whichever step asked for it
 abbrev pub want_of_memory : LoadFault
-want_of_memory = fault_at cause.Memory 0 0
+want_of_memory = fault_at LoadCause.Memory 0 0

@@ -6,50 +6,47 @@ use Rattle.std.specs.Cmp.Lexicographic.{pointwise}
 use Rattle.serde_json.specs.Data.{Data, number, string, array, object, Members, no_members, member, unsigned}
 use Rattle.serde_json.specs.Find.{get}
 use Rattle.fast_written.specs.declared.profile.Word.{Word}
-use Rattle.fast_written.specs.declared.profile.Word.TheVariants as word
 use Rattle.fast_written.specs.declared.profile.Shape.{Shape}
-use Rattle.fast_written.specs.declared.profile.Shape.TheVariants as shape
 use Rattle.fast_written.specs.declared.profile.Need.{Need}
 use Rattle.fast_written.specs.declared.profile.Need.TheVariants.{Needed, Allowed}
 use Rattle.fast_written.specs.declared.profile.Row.{Row}
-use Rattle.fast_written.specs.declared.profile.Row.TheVariants as row
 
 abbrev pub word_text : Word → List ℕ
-word_text word.Templates = codes "templates"
-word_text word.Dictionary = codes "dictionary"
-word_text word.Name = codes "name"
-word_text word.Id = codes "id"
-word_text word.TypeRef = codes "typeRef"
-word_text word.Instructions = codes "instructions"
-word_text word.Kind = codes "kind"
-word_text word.Presence = codes "presence"
-word_text word.Charset = codes "charset"
-word_text word.Operator = codes "operator"
-word_text word.Value = codes "value"
-word_text word.Key = codes "key"
-word_text word.Exponent = codes "exponent"
-word_text word.Mantissa = codes "mantissa"
-word_text word.Length = codes "length"
+word_text Word.Templates = codes "templates"
+word_text Word.Dictionary = codes "dictionary"
+word_text Word.Name = codes "name"
+word_text Word.Id = codes "id"
+word_text Word.TypeRef = codes "typeRef"
+word_text Word.Instructions = codes "instructions"
+word_text Word.Kind = codes "kind"
+word_text Word.Presence = codes "presence"
+word_text Word.Charset = codes "charset"
+word_text Word.Operator = codes "operator"
+word_text Word.Value = codes "value"
+word_text Word.Key = codes "key"
+word_text Word.Exponent = codes "exponent"
+word_text Word.Mantissa = codes "mantissa"
+word_text Word.Length = codes "length"
 
 -- the keys of a kind of object, the type of what stands under each, and whether it has to be there
 abbrev pub row_of : Row → List (Word × Shape × Need)
-row_of row.Top = (word.Templates, shape.Array, Needed) ∷ (word.Dictionary, shape.Text, Allowed) ∷ []
-row_of row.Template = (word.Name, shape.Text, Needed) ∷ (word.Instructions, shape.Array, Needed) ∷ (word.Id, shape.Whole, Allowed) ∷ (word.Dictionary, shape.Text, Allowed) ∷ (word.TypeRef, shape.Text, Allowed) ∷ []
-row_of row.Field = (word.Kind, shape.Text, Needed) ∷ (word.Name, shape.Text, Needed) ∷ (word.Presence, shape.Text, Allowed) ∷ (word.Operator, shape.Text, Allowed) ∷ (word.Value, shape.Text, Allowed) ∷ (word.Dictionary, shape.Text, Allowed) ∷ (word.Key, shape.Text, Allowed) ∷ []
-row_of row.Text = (word.Kind, shape.Text, Needed) ∷ (word.Name, shape.Text, Needed) ∷ (word.Presence, shape.Text, Allowed) ∷ (word.Charset, shape.Text, Allowed) ∷ (word.Operator, shape.Text, Allowed) ∷ (word.Value, shape.Text, Allowed) ∷ (word.Dictionary, shape.Text, Allowed) ∷ (word.Key, shape.Text, Allowed) ∷ []
-row_of row.Decimal = (word.Kind, shape.Text, Needed) ∷ (word.Name, shape.Text, Needed) ∷ (word.Presence, shape.Text, Allowed) ∷ (word.Operator, shape.Text, Allowed) ∷ (word.Value, shape.Text, Allowed) ∷ (word.Dictionary, shape.Text, Allowed) ∷ (word.Key, shape.Text, Allowed) ∷ (word.Exponent, shape.Object, Allowed) ∷ (word.Mantissa, shape.Object, Allowed) ∷ []
-row_of row.Group = (word.Kind, shape.Text, Needed) ∷ (word.Name, shape.Text, Needed) ∷ (word.Instructions, shape.Array, Needed) ∷ (word.Presence, shape.Text, Allowed) ∷ (word.Dictionary, shape.Text, Allowed) ∷ (word.TypeRef, shape.Text, Allowed) ∷ []
-row_of row.Sequence = (word.Kind, shape.Text, Needed) ∷ (word.Name, shape.Text, Needed) ∷ (word.Instructions, shape.Array, Needed) ∷ (word.Presence, shape.Text, Allowed) ∷ (word.Dictionary, shape.Text, Allowed) ∷ (word.TypeRef, shape.Text, Allowed) ∷ (word.Length, shape.Object, Allowed) ∷ []
-row_of row.Reference = (word.Kind, shape.Text, Needed) ∷ (word.Name, shape.Text, Needed) ∷ []
-row_of row.Part = (word.Operator, shape.Text, Allowed) ∷ (word.Value, shape.Text, Allowed) ∷ (word.Dictionary, shape.Text, Allowed) ∷ (word.Key, shape.Text, Allowed) ∷ []
-row_of row.Length = (word.Name, shape.Text, Allowed) ∷ (word.Operator, shape.Text, Allowed) ∷ (word.Value, shape.Text, Allowed) ∷ (word.Dictionary, shape.Text, Allowed) ∷ (word.Key, shape.Text, Allowed) ∷ []
+row_of Row.Top = (Word.Templates, Shape.Array, Needed) ∷ (Word.Dictionary, Shape.Text, Allowed) ∷ []
+row_of Row.Template = (Word.Name, Shape.Text, Needed) ∷ (Word.Instructions, Shape.Array, Needed) ∷ (Word.Id, Shape.Whole, Allowed) ∷ (Word.Dictionary, Shape.Text, Allowed) ∷ (Word.TypeRef, Shape.Text, Allowed) ∷ []
+row_of Row.Field = (Word.Kind, Shape.Text, Needed) ∷ (Word.Name, Shape.Text, Needed) ∷ (Word.Presence, Shape.Text, Allowed) ∷ (Word.Operator, Shape.Text, Allowed) ∷ (Word.Value, Shape.Text, Allowed) ∷ (Word.Dictionary, Shape.Text, Allowed) ∷ (Word.Key, Shape.Text, Allowed) ∷ []
+row_of Row.Text = (Word.Kind, Shape.Text, Needed) ∷ (Word.Name, Shape.Text, Needed) ∷ (Word.Presence, Shape.Text, Allowed) ∷ (Word.Charset, Shape.Text, Allowed) ∷ (Word.Operator, Shape.Text, Allowed) ∷ (Word.Value, Shape.Text, Allowed) ∷ (Word.Dictionary, Shape.Text, Allowed) ∷ (Word.Key, Shape.Text, Allowed) ∷ []
+row_of Row.Decimal = (Word.Kind, Shape.Text, Needed) ∷ (Word.Name, Shape.Text, Needed) ∷ (Word.Presence, Shape.Text, Allowed) ∷ (Word.Operator, Shape.Text, Allowed) ∷ (Word.Value, Shape.Text, Allowed) ∷ (Word.Dictionary, Shape.Text, Allowed) ∷ (Word.Key, Shape.Text, Allowed) ∷ (Word.Exponent, Shape.Object, Allowed) ∷ (Word.Mantissa, Shape.Object, Allowed) ∷ []
+row_of Row.Group = (Word.Kind, Shape.Text, Needed) ∷ (Word.Name, Shape.Text, Needed) ∷ (Word.Instructions, Shape.Array, Needed) ∷ (Word.Presence, Shape.Text, Allowed) ∷ (Word.Dictionary, Shape.Text, Allowed) ∷ (Word.TypeRef, Shape.Text, Allowed) ∷ []
+row_of Row.Sequence = (Word.Kind, Shape.Text, Needed) ∷ (Word.Name, Shape.Text, Needed) ∷ (Word.Instructions, Shape.Array, Needed) ∷ (Word.Presence, Shape.Text, Allowed) ∷ (Word.Dictionary, Shape.Text, Allowed) ∷ (Word.TypeRef, Shape.Text, Allowed) ∷ (Word.Length, Shape.Object, Allowed) ∷ []
+row_of Row.Reference = (Word.Kind, Shape.Text, Needed) ∷ (Word.Name, Shape.Text, Needed) ∷ []
+row_of Row.Part = (Word.Operator, Shape.Text, Allowed) ∷ (Word.Value, Shape.Text, Allowed) ∷ (Word.Dictionary, Shape.Text, Allowed) ∷ (Word.Key, Shape.Text, Allowed) ∷ []
+row_of Row.Length = (Word.Name, Shape.Text, Allowed) ∷ (Word.Operator, Shape.Text, Allowed) ∷ (Word.Value, Shape.Text, Allowed) ∷ (Word.Dictionary, Shape.Text, Allowed) ∷ (Word.Key, Shape.Text, Allowed) ∷ []
 
 -- a whole number of 32 bits in digits alone; any text, array or object
 abbrev pub is_of : Shape → Data → Bool
-is_of shape.Text (string s) = true
-is_of shape.Whole (number (unsigned n)) = nat_lt n (2 ^ 32)
-is_of shape.Array (array ds) = true
-is_of shape.Object (object ms) = true
+is_of Shape.Text (string s) = true
+is_of Shape.Whole (number (unsigned n)) = nat_lt n (2 ^ 32)
+is_of Shape.Array (array ds) = true
+is_of Shape.Object (object ms) = true
 is_of s d = false
 
 abbrev pub is_needed : Need → Bool

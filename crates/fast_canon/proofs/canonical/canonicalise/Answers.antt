@@ -1,5 +1,4 @@
-use Rattle.std.proofs.Common.{◌≡◌, ◌≤◌, ℕ, length, arith}
-use Rattle.fast_io.specs.Counts.{counted_by}
+use Rattle.fast_canon.proofs.Common.{◌≡◌, ◌≤◌, ℕ, length, arith, counted_by}
 use Rattle.fast_canon.proofs.CanonicalBytes.{canonicalised}
 use Rattle.fast_canon.proofs.canonical.canonicalise.Goals as goal
 

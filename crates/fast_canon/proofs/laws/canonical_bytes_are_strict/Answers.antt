@@ -1,6 +1,4 @@
-use Rattle.fast_wire.specs.declared.level.Level.TheVariants.{Strict}
-use Rattle.fast_stream.proofs.Framings.{in_mode}
-use Rattle.fast_writer.proofs.LawProofs.{canonical_carries}
+use Rattle.fast_canon.proofs.Common.{Strict, in_mode, canonical_carries}
 use Rattle.fast_canon.proofs.StreamLaws.{canonical_exists}
 use Rattle.fast_canon.proofs.laws.canonical_bytes_are_strict.Goals as goal
 

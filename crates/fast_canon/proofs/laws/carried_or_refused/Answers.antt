@@ -1,7 +1,4 @@
-use Rattle.fast_template.specs.TemplateSets.{templates_in}
-use Rattle.fast_stream.proofs.MessageReaders.{message_reader}
-use Rattle.fast_stream.proofs.ModeReaders.{next_reader}
-use Rattle.fast_stream.proofs.ModeStreams.{one_of_two, not_both, one_fault}
+use Rattle.fast_canon.proofs.Common.{templates_in, message_reader, next_reader, one_of_two, not_both, one_fault}
 use Rattle.fast_canon.proofs.laws.carried_or_refused.Goals as goal
 
 pub returns-clause-one_of_the_two : goal.returns-clause-one_of_the_two

@@ -1,7 +1,4 @@
-use Rattle.fast_template.specs.TemplateSets.{templates_in}
-use Rattle.fast_stream.proofs.MessageReaders.{message_reader}
-use Rattle.fast_stream.proofs.ModeReaders.{next_reader}
-use Rattle.fast_stream.proofs.ModeStreams.{one_list}
+use Rattle.fast_canon.proofs.Common.{templates_in, message_reader, next_reader, one_list}
 use Rattle.fast_canon.proofs.laws.one_reading.Goals as goal
 
 pub returns : goal.returns

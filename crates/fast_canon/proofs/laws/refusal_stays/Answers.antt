@@ -1,7 +1,4 @@
-use Rattle.fast_template.specs.TemplateSets.{templates_in}
-use Rattle.fast_stream.proofs.MessageReaders.{message_reader}
-use Rattle.fast_stream.proofs.ModeReaders.{next_reader}
-use Rattle.fast_stream.proofs.ModeStreams.{fault_stays}
+use Rattle.fast_canon.proofs.Common.{templates_in, message_reader, next_reader, fault_stays}
 use Rattle.fast_canon.proofs.laws.refusal_stays.Goals as goal
 
 pub returns : goal.returns

@@ -1,9 +1,4 @@
-use Rattle.std.proofs.Common.{◌≡◌, None, rules, ap, ◌∙◌}
-use Rattle.std.specs.Map.{lookup}
-use Rattle.std.specs.BTreeMap.{is_at}
-use Rattle.fast_value.specs.Key.{key_cmp}
-use Rattle.fast_dictionary.specs.declared.entry.Entry.TheVariants.{Undefined}
-use Rattle.fast_dictionary.specs.Dictionary.{from_pairs, set_entry}
+use Rattle.fast_dictionary.proofs.Common.{◌≡◌, None, rules, ap, ◌∙◌, lookup, is_at, key_cmp, Undefined, from_pairs, set_entry}
 use Rattle.fast_dictionary.proofs.OrderedMaps.{held_is}
 use Rattle.fast_dictionary.proofs.map.hold.Goals as goal
 

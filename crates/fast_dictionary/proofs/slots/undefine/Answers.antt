@@ -1,5 +1,4 @@
-use Rattle.std.proofs.Common.{rules, arith}
-use Rattle.std.proofs.lemmas.Grind.{common_steps}
+use Rattle.fast_dictionary.proofs.Common.{rules, arith, common_steps}
 use Rattle.fast_dictionary.proofs.slots.undefine.Goals as goal
 
 pub returns-clause-undefined : goal.returns-clause-undefined

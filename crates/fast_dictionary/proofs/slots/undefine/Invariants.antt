@@ -1,5 +1,4 @@
-use Rattle.std.proofs.Common.{◌≡◌, ◌<◌, ℕ, slice_index_or, vec_len}
-use Rattle.fast_dictionary.specs.declared.entry.Entry.TheVariants.{Undefined}
+use Rattle.fast_dictionary.proofs.Common.{◌≡◌, ◌<◌, ℕ, slice_index_or, vec_len, Undefined}
 use Rattle.fast_dictionary.proofs.slots.undefine.Given as goal
 
 abbrev pub invariant-loop-slot : goal.invariant-loop-slot

@@ -1,7 +1,4 @@
-use Rattle.std.proofs.Common.{arith}
-use Rattle.std.proofs.lemmas.List.{length-map}
-use Rattle.std.specs.Prelude.{◌%◌}
-use Rattle.fast_wire.specs.Entity.{groups}
+use Rattle.fast_field.proofs.Common.{arith, length-map, ◌%◌, groups}
 use Rattle.fast_field.proofs.CutsAtEnd.{few_shared}
 use Rattle.fast_field.proofs.cut_at_end.is_cut_at_end.Goals as goal
 

@@ -1,8 +1,4 @@
-use Rattle.std.specs.Int.{w128}
-use Rattle.std.specs.Int.RustNames.{FitsSigned}
-use Rattle.std.proofs.Common.{sym, ◌∙◌, arith, rules}
-use Rattle.std.proofs.lemmas.Int.{ints, to_z-of_z}
-use Rattle.fast_field.specs.Numbers.{IsFieldNumber}
+use Rattle.fast_field.proofs.Common.{w128, FitsSigned, sym, ◌∙◌, arith, rules, ints, to_z-of_z, IsFieldNumber}
 use Rattle.fast_field.proofs.Passing.{next_passes}
 use Rattle.fast_field.proofs.passed.pass_next.Goals as goal
 

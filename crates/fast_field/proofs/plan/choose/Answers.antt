@@ -1,6 +1,4 @@
-use Rattle.std.proofs.Common.{sym, ap, ◌∙◌}
-use Rattle.std.specs.Option.{option_copied}
-use Rattle.fast_dictionary.specs.Dictionary.{entry_of}
+use Rattle.fast_field.proofs.Common.{sym, ap, ◌∙◌, option_copied, entry_of}
 use Rattle.fast_field.proofs.BestValues.{operator_allows}
 use Rattle.fast_field.proofs.ChosenForms.{left_out_best, null_best, chosen_best, chosen_can, value_can}
 use Rattle.fast_field.proofs.plan.choose.Goals as goal

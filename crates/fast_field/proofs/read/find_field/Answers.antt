@@ -1,6 +1,4 @@
-use Rattle.fast_dictionary.specs.Dictionary.{entry_of}
-use Rattle.fast_field.specs.FieldReading.{field_at}
-use Rattle.fast_field.specs.Found.{value_found}
+use Rattle.fast_field.proofs.Common.{entry_of, field_at, value_found}
 use Rattle.fast_field.proofs.FieldsBehave.{field_goes}
 use Rattle.fast_field.proofs.ReadFields.{call_goes}
 use Rattle.fast_field.proofs.read.find_field.Goals as goal

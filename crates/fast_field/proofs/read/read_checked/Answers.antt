@@ -1,5 +1,4 @@
-use Rattle.std.proofs.lemmas.Result.{err_from_is_err_and}
-use Rattle.fast_dictionary.specs.Dictionary.{entry_of}
+use Rattle.fast_field.proofs.Common.{err_from_is_err_and, entry_of}
 use Rattle.fast_field.proofs.CallSteps.{row_fails}
 use Rattle.fast_field.proofs.read.read_checked.Goals as goal
 

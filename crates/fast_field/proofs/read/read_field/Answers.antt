@@ -1,7 +1,4 @@
-use Rattle.std.proofs.Common.{arith}
-use Rattle.fast_dictionary.specs.Dictionary.{entry_of}
-use Rattle.fast_field.specs.FieldReading.{field_at}
-use Rattle.fast_field.specs.Fields.{Form}
+use Rattle.fast_field.proofs.Common.{arith, entry_of, field_at, Form}
 use Rattle.fast_field.proofs.FieldForms.{field_forms}
 use Rattle.fast_field.proofs.FieldsBehave.{field_goes}
 use Rattle.fast_field.proofs.ReadFields.{bytes_from, call_answers, call_goes, call_only}

@@ -1,6 +1,4 @@
-use Rattle.std.proofs.Common.{◌≡◌, ◌+◌, ◌++◌, length, arith, length-append}
-use Rattle.std.proofs.lemmas.Result.{err_from_is_err_and}
-use Rattle.fast_field.specs.Sent.{units_sent}
+use Rattle.fast_field.proofs.Common.{◌≡◌, ◌+◌, ◌++◌, length, arith, length-append, err_from_is_err_and, units_sent}
 use Rattle.fast_field.proofs.PutTogether.{no_room, sent_length}
 use Rattle.fast_field.proofs.string.sent_behind.Goals as goal
 

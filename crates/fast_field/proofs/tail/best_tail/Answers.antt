@@ -1,5 +1,4 @@
-use Rattle.std.proofs.Common.{◌-◌, arith}
-use Rattle.std.proofs.lemmas.List.{take_rest}
+use Rattle.fast_field.proofs.Common.{◌-◌, arith, take_rest}
 use Rattle.fast_field.proofs.BestTails.{longer_is_best, shortest_is_best}
 use Rattle.fast_field.proofs.tail.best_tail.Goals as goal
 

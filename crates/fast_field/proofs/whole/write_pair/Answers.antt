@@ -1,7 +1,4 @@
-use Rattle.std.specs.Int.{w128}
-use Rattle.std.proofs.lemmas.Int.{to_z-of_z}
-use Rattle.fast_value.specs.declared.kind.Presence.TheVariants.{Mandatory}
-use Rattle.fast_field.specs.Chosen.{ShortestSigned}
+use Rattle.fast_field.proofs.Common.{w128, to_z-of_z, Mandatory, ShortestSigned}
 use Rattle.fast_field.proofs.TwoPieces.{both_appended, small_fits}
 use Rattle.fast_field.proofs.whole.write_pair.Goals as goal
 

@@ -1,6 +1,4 @@
-use Rattle.std.specs.Option.{option_copied}
-use Rattle.fast_dictionary.specs.Dictionary.{entry_of}
-use Rattle.fast_field.specs.Chosen.{ShortestPieces}
+use Rattle.fast_field.proofs.Common.{option_copied, entry_of, ShortestPieces}
 use Rattle.fast_field.proofs.WrittenForms.{appends_best}
 use Rattle.fast_field.proofs.write.append_best.Goals as goal
 

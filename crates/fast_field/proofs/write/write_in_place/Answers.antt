@@ -1,6 +1,4 @@
-use Rattle.std.proofs.Common.{rules}
-use Rattle.std.specs.Option.{option_copied}
-use Rattle.fast_field.specs.Chosen.{ShortestPieces}
+use Rattle.fast_field.proofs.Common.{rules, option_copied, ShortestPieces}
 use Rattle.fast_field.proofs.WrittenForms.{appends_best}
 use Rattle.fast_field.proofs.write.write_in_place.Goals as goal
 

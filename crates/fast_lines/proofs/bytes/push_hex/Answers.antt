@@ -1,6 +1,5 @@
-use Rattle.std.proofs.Common.{◌++◌, ◌∷◌, [], sym, ap, ◌∙◌, get_or, take}
+use Rattle.fast_lines.proofs.Common.{◌++◌, ◌∷◌, [], sym, ap, ◌∙◌, get_or, take, encode_lower}
 use Rattle.std.proofs.lemmas.List.{append-nil, append_assoc}
-use Rattle.hex.specs.Hex.{encode_lower}
 use Rattle.fast_lines.proofs.Written.{encode_none, encode_one}
 use Rattle.fast_lines.proofs.bytes.push_hex.Goals as goal
 

@@ -1,5 +1,4 @@
-use Rattle.std.proofs.Common.{◌≡◌, ◌++◌, take}
-use Rattle.hex.specs.Hex.{encode_lower}
+use Rattle.fast_lines.proofs.Common.{◌≡◌, ◌++◌, take, encode_lower}
 use Rattle.fast_lines.proofs.bytes.push_hex.Given as goal
 
 abbrev pub invariant-loop-byte : goal.invariant-loop-byte

@@ -1,10 +1,4 @@
-use Rattle.std.proofs.Common.{arith, ◌≡◌, [], ◌++◌, Err, map, sym, ap, ◌∙◌}
-use Rattle.std.specs.Prelude.{codes}
-use Rattle.std.proofs.lemmas.Result.{err_from_is_err_and}
-use Rattle.fast_template.specs.Resolved.{instruction_of, list_of}
-use Rattle.fast_stream.specs.Nodes.{item_of, items_in, elements_of, sequence_elements}
-use Rattle.fast_lines.specs.Lines.{label, members_text, node_text, sequence_text}
-use Rattle.fast_lines.specs.declared.lines.ShowFault.TheVariants.{Memory}
+use Rattle.fast_lines.proofs.Common.{arith, ◌≡◌, [], ◌++◌, Err, map, sym, ap, ◌∙◌, codes, err_from_is_err_and, instruction_of, list_of, item_of, items_in, elements_of, sequence_elements, label, members_text, node_text, sequence_text, Memory}
 use Rattle.fast_lines.proofs.Written.{adds_between, extends_same, shows_behind}
 use Rattle.fast_lines.proofs.Nested.{elements_end, elements_next, elements_stop, item_of-sequence, lengths_differ, members_end, members_next, members_stop, next_of, node_text-sequence, shows_bracketed_err}
 use Rattle.fast_lines.proofs.lines.+showing.Goals as goal

@@ -1,5 +1,4 @@
-use Rattle.std.proofs.Common.{ℕ, List, [], ◌∷◌, ◌∙◌, sym, ap, append_assoc}
-use Rattle.fast_lines.specs.Pieces.{laid}
+use Rattle.fast_lines.proofs.Common.{ℕ, List, [], ◌∷◌, ◌∙◌, sym, ap, append_assoc, laid}
 use Rattle.fast_lines.proofs.Written.{plain_text}
 use Rattle.fast_lines.proofs.strings.lay_quoted.Goals as goal
 

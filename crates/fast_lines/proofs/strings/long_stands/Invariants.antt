@@ -1,5 +1,4 @@
-use Rattle.std.proofs.Common.{◌≡◌, ℕ, ◌<◌, ◌≤◌, ◌-◌, true, slice_index, length}
-use Rattle.fast_lines.specs.Signs.{is_plain}
+use Rattle.fast_lines.proofs.Common.{◌≡◌, ℕ, ◌<◌, ◌≤◌, ◌-◌, true, slice_index, length, is_plain}
 use Rattle.fast_lines.proofs.strings.long_stands.Given as goal
 
 abbrev pub invariant-loop-at : goal.invariant-loop-at

@@ -1,7 +1,5 @@
-use Rattle.std.proofs.Common.{◌++◌, ◌+◌, ◌-◌, sym, ap, ◌∙◌, take, drop, length, arith}
+use Rattle.fast_lines.proofs.Common.{◌++◌, ◌+◌, ◌-◌, sym, ap, ◌∙◌, take, drop, length, arith, flat_map, unit_text}
 use Rattle.std.proofs.lemmas.List.{append_assoc}
-use Rattle.std.specs.List.{flat_map}
-use Rattle.fast_lines.specs.Signs.{unit_text}
 use Rattle.fast_lines.proofs.Written.{flat_map_piece, flat_map_rest, writes_behind}
 use Rattle.fast_lines.proofs.strings.push_pieces.Goals as goal
 

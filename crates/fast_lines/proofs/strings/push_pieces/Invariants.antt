@@ -1,6 +1,4 @@
-use Rattle.std.proofs.Common.{◌≡◌, ◌++◌, ◌≤◌, ◌-◌, length, take}
-use Rattle.std.specs.List.{flat_map}
-use Rattle.fast_lines.specs.Signs.{unit_text}
+use Rattle.fast_lines.proofs.Common.{◌≡◌, ◌++◌, ◌≤◌, ◌-◌, length, take, flat_map, unit_text}
 use Rattle.fast_lines.proofs.strings.push_pieces.Given as goal
 
 abbrev pub invariant-loop-at : goal.invariant-loop-at

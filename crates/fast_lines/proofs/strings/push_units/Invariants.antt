@@ -1,6 +1,4 @@
-use Rattle.std.proofs.Common.{◌≡◌, ◌++◌, take}
-use Rattle.std.specs.List.{flat_map}
-use Rattle.fast_lines.specs.Signs.{unit_text}
+use Rattle.fast_lines.proofs.Common.{◌≡◌, ◌++◌, take, flat_map, unit_text}
 use Rattle.fast_lines.proofs.strings.push_units.Given as goal
 
 abbrev pub invariant-loop-byte : goal.invariant-loop-byte

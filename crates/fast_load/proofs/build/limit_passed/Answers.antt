@@ -1,7 +1,4 @@
-use Rattle.std.proofs.Common.{◌≡◌, ◌≤◌, List, map, length, sym, subst, ap, ◌∙◌}
-use Rattle.std.proofs.lemmas.List.{length-map}
-use Rattle.fast_written.specs.Written.{WrittenTemplate, written_template_of}
-use Rattle.fast_load.specs.Extents.{too_large}
+use Rattle.fast_load.proofs.Common.{◌≡◌, ◌≤◌, List, map, length, sym, subst, ap, ◌∙◌, length-map, WrittenTemplate, written_template_of, too_large}
 use Rattle.fast_load.proofs.LimitPhase.{limit_is, there_are_lists}
 use Rattle.fast_load.proofs.build.limit_passed.Goals as goal
 

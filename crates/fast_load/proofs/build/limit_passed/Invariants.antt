@@ -1,6 +1,4 @@
-use Rattle.std.proofs.Common.{map}
-use Rattle.fast_written.specs.Written.{written_template_of}
-use Rattle.fast_load.specs.Duplicates.{place_or}
+use Rattle.fast_load.proofs.Common.{map, written_template_of, place_or}
 use Rattle.fast_load.proofs.build.limit_passed.Given as goal
 
 abbrev pub ghost-extents_of : goal.ghost-extents_of

@@ -1,5 +1,4 @@
-use Rattle.std.proofs.Common.{List, map}
-use Rattle.fast_written.specs.Written.{WrittenTemplate, written_template_of}
+use Rattle.fast_load.proofs.Common.{List, map, WrittenTemplate, written_template_of}
 use Rattle.fast_load.proofs.PhaseOrder.{first_fault, and_this}
 use Rattle.fast_load.proofs.build.order_within_limits.Goals as goal
 

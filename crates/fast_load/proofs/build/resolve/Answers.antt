@@ -1,5 +1,4 @@
-use Rattle.std.proofs.Common.{List, map}
-use Rattle.fast_written.specs.Written.{WrittenTemplate, written_template_of}
+use Rattle.fast_load.proofs.Common.{List, map, WrittenTemplate, written_template_of}
 use Rattle.fast_load.proofs.Building.{accepted}
 use Rattle.fast_load.proofs.build.resolve.Goals as goal
 

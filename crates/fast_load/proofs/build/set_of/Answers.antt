@@ -1,12 +1,4 @@
-use Rattle.std.proofs.Common.{◌≡◌, ◌≤◌, ◌++◌, ◌∷◌, List, map, length, take, drop, sym, subst}
-use Rattle.std.proofs.lemmas.List.{length-map}
-use Rattle.fast_template.specs.declared.resolved.FlatTemplate.{FlatTemplate}
-use Rattle.fast_written.specs.Written.{WrittenTemplate, written_template_of}
-use Rattle.fast_template.specs.Resolved.{resolved_of}
-use Rattle.fast_load.specs.FlatLists.{AreResolved}
-use Rattle.fast_load.specs.Slots.{AreSettled}
-use Rattle.fast_template.specs.TemplateSets.{AreSound, templates_in}
-use Rattle.fast_template.specs.TemplateSets.{identifier_key, keys_of_all, HasSlots}
+use Rattle.fast_load.proofs.Common.{◌≡◌, ◌≤◌, ◌++◌, ◌∷◌, List, map, length, take, drop, sym, subst, length-map, FlatTemplate, WrittenTemplate, written_template_of, resolved_of, AreResolved, AreSettled, AreSound, templates_in, identifier_key, keys_of_all, HasSlots}
 use Rattle.fast_load.proofs.LimitPhase.{there_are_lists}
 use Rattle.fast_load.proofs.Building.{flats_small, flats_bare, are_resolved, are_sound, settled_len, written_back}
 use Rattle.fast_load.proofs.build.set_of.Goals as goal

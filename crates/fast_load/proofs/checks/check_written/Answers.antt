@@ -1,8 +1,4 @@
-use Rattle.std.proofs.Common.{◌≤◌, ◌<◌, inl, length, map, List, subst, sym}
-use Rattle.std.proofs.lemmas.List.{length-map}
-use Rattle.fast_written.specs.Written.{WrittenTemplate, written_template_of}
-use Rattle.fast_load.specs.LoadChecks.{IsFirstFault}
-use Rattle.fast_written.specs.LoadFaults.{want_of_memory}
+use Rattle.fast_load.proofs.Common.{◌≤◌, ◌<◌, inl, length, map, List, subst, sym, length-map, WrittenTemplate, written_template_of, IsFirstFault, want_of_memory}
 use Rattle.fast_load.proofs.PhaseOrder.{all_pass, templates_fault, templates_pass, none_before_first, and_this, either}
 use Rattle.fast_load.proofs.checks.check_written.Goals as goal
 

@@ -1,7 +1,4 @@
-use Rattle.std.proofs.Common.{◌≡◌, ◌≤◌, inl, length, map, List, [], Some, None, subst, sym}
-use Rattle.std.proofs.lemmas.List.{length-map}
-use Rattle.fast_written.specs.Written.{WrittenTemplate, written_template_of}
-use Rattle.fast_load.specs.Duplicates.{NamesLead, first_duplicate}
+use Rattle.fast_load.proofs.Common.{◌≡◌, ◌≤◌, inl, length, map, List, [], Some, None, subst, sym, length-map, WrittenTemplate, written_template_of, NamesLead, first_duplicate}
 use Rattle.fast_load.proofs.DuplicatePhase.{duplicates_pass, duplicates_fault}
 use Rattle.fast_load.proofs.duplicates.check_duplicates.Goals as goal
 

@@ -1,8 +1,4 @@
-use Rattle.std.proofs.Common.{◌≡◌, ◌<◌, ◌+◌, rules, false, is_some, length, Some, Ok, string_bytes, get_or, ap, subst, ◌∙◌}
-use Rattle.std.specs.Ordering.{nat_cmp}
-use Rattle.std.specs.Cmp.Lexicographic.{slice_cmp}
-use Rattle.std.specs.BTreeMap.{get, Updates}
-use Rattle.fast_load.specs.Duplicates.{has_entry, EntersId}
+use Rattle.fast_load.proofs.Common.{◌≡◌, ◌<◌, ◌+◌, rules, false, is_some, length, Some, Ok, string_bytes, get_or, ap, subst, ◌∙◌, nat_cmp, slice_cmp, get, Updates, has_entry, EntersId}
 use Rattle.fast_load.proofs.Places.{IndexedUpTo, indexed_more}
 use Rattle.fast_load.proofs.duplicates.index_names.Goals as goal
 

@@ -1,7 +1,4 @@
-use Rattle.std.proofs.Common.{◌≡◌, map, drop, take, []}
-use Rattle.std.proofs.Common.{◌+◌}
-use Rattle.fast_written.specs.Written.{written_template_of}
-use Rattle.fast_load.specs.Duplicates.{NamesLead, IdsLead, first_duplicate}
+use Rattle.fast_load.proofs.Common.{◌≡◌, map, drop, take, [], ◌+◌, written_template_of, NamesLead, IdsLead, first_duplicate}
 use Rattle.fast_load.proofs.duplicates.index_names.Given as goal
 
 abbrev pub invariant-loop-template : goal.invariant-loop-template

@@ -1,7 +1,4 @@
-use Rattle.std.proofs.Common.{◌≡◌, ◌+◌, map, ap, ◌∙◌, arith}
-use Rattle.fast_load.specs.declared.extents.Extent.{Extent}
-use Rattle.fast_written.specs.Written.{written_list, written_of}
-use Rattle.fast_load.specs.Extents.{depth_named, size_named, stopped_size}
+use Rattle.fast_load.proofs.Common.{◌≡◌, ◌+◌, map, ap, ◌∙◌, arith, Extent, written_list, written_of, depth_named, size_named, stopped_size}
 use Rattle.fast_load.proofs.InOrderLaws.{depth_end, depth_more, size_end, size_more}
 use Rattle.fast_load.proofs.LinkLaws.{along_start, along_taken, linked_along}
 use Rattle.fast_load.proofs.extents.extent_of_all.Goals as goal

@@ -1,7 +1,4 @@
-use Rattle.std.proofs.Common.{◌≡◌, ◌≤◌, ◌+◌, map, max, drop}
-use Rattle.fast_load.specs.InOrder.{found_of, leveled_of}
-use Rattle.fast_load.specs.Extents.{depth_along, depth_named, size_along, size_named, stopped_depth, stopped_size}
-use Rattle.fast_load.specs.Links.{referred_along}
+use Rattle.fast_load.proofs.Common.{◌≡◌, ◌≤◌, ◌+◌, map, max, drop, found_of, leveled_of, depth_along, depth_named, size_along, size_named, stopped_depth, stopped_size, referred_along}
 use Rattle.fast_load.proofs.extents.extent_of_all.Given as goal
 
 abbrev pub ghost-own_extent : goal.ghost-own_extent

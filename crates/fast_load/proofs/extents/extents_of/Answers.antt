@@ -1,14 +1,4 @@
-use Rattle.std.proofs.Common.{◌≡◌, ◌<◌, ℕ, List, map, length, option_map, Some, refl, sym, ap, subst, ◌∙◌, arith}
-use Rattle.std.specs.Prelude.{slice_get, slice_index_or}
-use Rattle.std.proofs.lemmas.Option.{slice_get-get_or, slice_get_read, slice_get-map}
-use Rattle.std.proofs.lemmas.List.{length-map, length-set}
-use Rattle.fast_written.specs.declared.written.Template.{Template}
-use Rattle.fast_written.specs.Written.{WrittenTemplate, WrittenInstructions, written_list, written_of, written_template_of}
-use Rattle.fast_template.specs.Resolved.{Instructions}
-use Rattle.fast_load.specs.FlatLists.{AreFlatLists}
-use Rattle.fast_load.specs.Extents.{IsExtentOf, size_with, size_named, stopped_size, depth_with, depth_named, stopped_depth}
-use Rattle.fast_load.specs.Duplicates.{place_named, place_or}
-use Rattle.fast_load.specs.Links.{places_of, references_in}
+use Rattle.fast_load.proofs.Common.{◌≡◌, ◌<◌, ℕ, List, map, length, option_map, Some, refl, sym, ap, subst, ◌∙◌, arith, slice_get, slice_index_or, slice_get-get_or, slice_get_read, slice_get-map, length-map, length-set, Template, WrittenTemplate, WrittenInstructions, written_list, written_of, written_template_of, Instructions, AreFlatLists, IsExtentOf, size_with, size_named, stopped_size, depth_with, depth_named, stopped_depth, place_named, place_or, places_of, references_in}
 use Rattle.fast_load.proofs.KeptLaws.{row_within}
 use Rattle.fast_load.proofs.LinkRows.{link_row, map_same}
 use Rattle.fast_load.proofs.ExtentLaws.{extent_is, extents_more, extents_all}

@@ -1,5 +1,4 @@
-use Rattle.std.proofs.Common.{◌≡◌, map, length}
-use Rattle.fast_written.specs.Written.{written_template_of}
+use Rattle.fast_load.proofs.Common.{◌≡◌, map, length, written_template_of}
 use Rattle.fast_load.proofs.ExtentLaws.{KnowsExtents}
 use Rattle.fast_load.proofs.extents.extents_of.Given as goal
 

@@ -1,5 +1,4 @@
-use Rattle.std.proofs.Common.{◌≡◌, ◌≤◌, ◌+◌, drop}
-use Rattle.fast_load.specs.Extents.{too_large}
+use Rattle.fast_load.proofs.Common.{◌≡◌, ◌≤◌, ◌+◌, drop, too_large}
 use Rattle.fast_load.proofs.extents.first_too_large.Given as goal
 
 abbrev pub invariant-loop-extent : goal.invariant-loop-extent

@@ -1,11 +1,6 @@
-use Rattle.std.proofs.Common.{◌≡◌, map, option_map, string_bytes, ap, subst, sym, ◌∙◌}
-use Rattle.fast_load.specs.FlatLists.{flat_list, length_part}
-use Rattle.fast_template.specs.Resolved.{joined, list_of, instruction_of, sequence_of}
-use Rattle.fast_written.specs.Written.{written_list, written_of, operation_of}
+use Rattle.fast_load.proofs.Common.{◌≡◌, map, option_map, string_bytes, ap, subst, sym, ◌∙◌, flat_list, length_part, joined, list_of, instruction_of, sequence_of, written_list, written_of, operation_of, list_named, place_among, context_in}
 use Rattle.fast_load.proofs.FlatLaws.{flat_more, flat_end, field_put, parts_put, group_put, sequence_put}
 use Rattle.fast_load.proofs.KeptLaws.{links_end, links_member, rest_member, rest_end}
-use Rattle.fast_load.specs.NamedLists.{list_named, place_among}
-use Rattle.fast_load.specs.Surroundings.{context_in}
 use Rattle.fast_load.proofs.flat_lists.+appends.Goals as goal
 
 pub append_all-loop-member-preserved : goal.append_all-loop-member-preserved

@@ -1,11 +1,4 @@
-use Rattle.std.proofs.Common.{◌≡◌, ◌++◌, map, drop, length}
-use Rattle.fast_load.specs.FlatLists.{flat_list}
-use Rattle.fast_load.specs.Initials.{initials_in}
-use Rattle.fast_load.specs.Links.{references_in}
-use Rattle.fast_load.specs.NamedLists.{list_named, place_among}
-use Rattle.fast_template.specs.Resolved.{joined, list_of}
-use Rattle.fast_load.specs.Surroundings.{context_in}
-use Rattle.fast_written.specs.Written.{written_list, written_of}
+use Rattle.fast_load.proofs.Common.{◌≡◌, ◌++◌, map, drop, length, flat_list, initials_in, references_in, list_named, place_among, joined, list_of, context_in, written_list, written_of}
 use Rattle.fast_load.proofs.flat_lists.+appends.Given as goal
 
 abbrev pub invariant-append_all-loop-member : goal.invariant-append_all-loop-member

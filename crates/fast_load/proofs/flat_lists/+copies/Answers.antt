@@ -1,6 +1,4 @@
-use Rattle.std.proofs.Common.{map, ap, ◌∙◌, arith}
-use Rattle.std.proofs.lemmas.Grind.{common_steps}
-use Rattle.fast_template.specs.Resolved.{instruction_of}
+use Rattle.fast_load.proofs.Common.{map, ap, ◌∙◌, arith, common_steps, instruction_of}
 use Rattle.fast_load.proofs.FlatLaws.{group_again, sequence_again}
 use Rattle.fast_load.proofs.flat_lists.+copies.Goals as goal
 

@@ -1,5 +1,4 @@
-use Rattle.std.proofs.Common.{◌≡◌, map, take}
-use Rattle.fast_template.specs.Resolved.{instruction_of}
+use Rattle.fast_load.proofs.Common.{◌≡◌, map, take, instruction_of}
 use Rattle.fast_load.proofs.flat_lists.+copies.Given as goal
 
 abbrev pub invariant-copy_all-loop-flat : goal.invariant-copy_all-loop-flat

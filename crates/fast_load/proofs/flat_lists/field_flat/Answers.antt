@@ -1,8 +1,4 @@
-use Rattle.std.proofs.Common.{ap, ◌∙◌}
-use Rattle.fast_value.specs.declared.kind.Part.TheVariants.{Whole}
-use Rattle.fast_load.specs.FlatLists.{part_of, field_part}
-use Rattle.fast_load.specs.Surroundings.{context_in}
-use Rattle.fast_written.specs.Written.{operation_of}
+use Rattle.fast_load.proofs.Common.{ap, ◌∙◌, Whole, part_of, field_part, context_in, operation_of}
 use Rattle.fast_load.proofs.FlatLaws.{field_made}
 use Rattle.fast_load.proofs.flat_lists.field_flat.Goals as goal
 

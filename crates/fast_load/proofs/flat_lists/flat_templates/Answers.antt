@@ -1,20 +1,8 @@
-use Rattle.std.proofs.Common.{◌≡◌, ◌<◌, ◌+◌, ℕ, List, map, length, option_map, Some, refl, sym, ap, subst, ◌∙◌, arith}
-use Rattle.std.specs.Prelude.{slice_get, slice_index_or}
-use Rattle.std.proofs.lemmas.Option.{slice_get-get_or, slice_get_read, slice_get-map}
-use Rattle.std.proofs.lemmas.List.{length-map}
-use Rattle.fast_written.specs.declared.written.Template.{Template}
-use Rattle.fast_template.specs.declared.resolved.FlatTemplate.{FlatTemplate}
-use Rattle.fast_written.specs.Written.{WrittenTemplate, written_list, written_of, written_template_of}
-use Rattle.fast_template.specs.Resolved.{Instructions, joined, list_of}
-use Rattle.fast_load.specs.FlatLists.{AreFlatLists, context_of, flat_list}
-use Rattle.fast_load.specs.Initials.{Leads, initials_in}
-use Rattle.fast_load.specs.NamedLists.{list_named, place_among}
-use Rattle.fast_load.specs.Surroundings.{context_in}
+use Rattle.fast_load.proofs.Common.{◌≡◌, ◌<◌, ◌+◌, ℕ, List, map, length, option_map, Some, refl, sym, ap, subst, ◌∙◌, arith, slice_get, slice_index_or, slice_get-get_or, slice_get_read, slice_get-map, length-map, Template, FlatTemplate, WrittenTemplate, written_list, written_of, written_template_of, Instructions, joined, list_of, AreFlatLists, context_of, flat_list, Leads, initials_in, list_named, place_among, context_in, references_in}
 use Rattle.fast_load.proofs.Flattening.{list_is, lists_more, flattened, headings_kept, headings_len}
 use Rattle.fast_load.proofs.Flattening.{placed_within}
 use Rattle.fast_load.proofs.KeptLaws.{row_led}
 use Rattle.fast_load.proofs.LinkRows.{among, row_linked}
-use Rattle.fast_load.specs.Links.{references_in}
 use Rattle.fast_load.proofs.flat_lists.flat_templates.Goals as goal
 
 pub bounds-templates-place : goal.bounds-templates-place

@@ -1,6 +1,4 @@
-use Rattle.std.proofs.Common.{◌≡◌, map}
-use Rattle.fast_load.specs.NamedLists.{heading, heading_of}
-use Rattle.fast_written.specs.Written.{written_template_of}
+use Rattle.fast_load.proofs.Common.{◌≡◌, map, heading, heading_of, written_template_of}
 use Rattle.fast_load.proofs.Flattening.{KnowsLists}
 use Rattle.fast_load.proofs.flat_lists.flat_templates.Given as goal
 

@@ -1,9 +1,4 @@
-use Rattle.std.proofs.Common.{ap, ◌∙◌}
-use Rattle.fast_value.specs.declared.kind.Kind.TheVariants.{UInt32}
-use Rattle.fast_value.specs.declared.kind.Part.TheVariants.{Length}
-use Rattle.fast_load.specs.FlatLists.{part_of}
-use Rattle.fast_load.specs.Surroundings.{context_in}
-use Rattle.fast_written.specs.Written.{operation_of}
+use Rattle.fast_load.proofs.Common.{ap, ◌∙◌, UInt32, Length, part_of, context_in, operation_of}
 use Rattle.fast_load.proofs.flat_lists.length_of.Goals as goal
 
 pub returns : goal.returns

@@ -1,11 +1,4 @@
-use Rattle.std.proofs.Common.{[], ◌∷◌, None, get_or, ap, ◌∙◌}
-use Rattle.fast_value.specs.declared.kind.Kind.TheVariants.{Int32, Int64}
-use Rattle.fast_value.specs.declared.kind.Presence.TheVariants.{Mandatory}
-use Rattle.fast_value.specs.declared.kind.Part.TheVariants.{Exponent, Mantissa}
-use Rattle.fast_load.specs.FlatLists.{part_of, exponent_part, mantissa_part}
-use Rattle.fast_load.specs.Initials.{initial_in}
-use Rattle.fast_load.specs.Surroundings.{context_in}
-use Rattle.fast_written.specs.Written.{operation_of}
+use Rattle.fast_load.proofs.Common.{[], ◌∷◌, None, get_or, ap, ◌∙◌, Int32, Int64, Mandatory, Exponent, Mantissa, part_of, exponent_part, mantissa_part, initial_in, context_in, operation_of}
 use Rattle.fast_load.proofs.FlatLaws.{parts_made}
 use Rattle.fast_load.proofs.KeptLaws.{first_led, second_led}
 use Rattle.fast_load.proofs.flat_lists.parts_flat.Goals as goal

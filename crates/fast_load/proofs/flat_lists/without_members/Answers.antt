@@ -1,5 +1,4 @@
-use Rattle.std.proofs.Common.{arith}
-use Rattle.std.proofs.lemmas.Grind.{common_steps}
+use Rattle.fast_load.proofs.Common.{arith, common_steps}
 use Rattle.fast_load.proofs.flat_lists.without_members.Goals as goal
 
 pub loop-template-preserved : goal.loop-template-preserved

@@ -1,6 +1,4 @@
-use Rattle.std.proofs.Common.{◌≡◌, map, take}
-use Rattle.fast_load.specs.NamedLists.{heading, heading_of}
-use Rattle.fast_written.specs.Written.{written_template_of}
+use Rattle.fast_load.proofs.Common.{◌≡◌, map, take, heading, heading_of, written_template_of}
 use Rattle.fast_load.proofs.flat_lists.without_members.Given as goal
 
 abbrev pub invariant-loop-template : goal.invariant-loop-template

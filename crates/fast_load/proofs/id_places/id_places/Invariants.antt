@@ -1,5 +1,4 @@
-use Rattle.std.proofs.Common.{◌≡◌, take}
-use Rattle.fast_load.specs.IdPlaces.{LeadsToFirst}
+use Rattle.fast_load.proofs.Common.{◌≡◌, take, LeadsToFirst}
 use Rattle.fast_load.proofs.id_places.id_places.Given as goal
 
 abbrev pub invariant-loop-template : goal.invariant-loop-template

@@ -1,6 +1,4 @@
-use Rattle.std.proofs.Common.{◌≡◌, ◌∷◌, map, ap, sym, ◌∙◌, arith}
-use Rattle.fast_load.specs.InOrder.{level_inside, leveled}
-use Rattle.fast_written.specs.Written.{written_list, written_of}
+use Rattle.fast_load.proofs.Common.{◌≡◌, ◌∷◌, map, ap, sym, ◌∙◌, arith, level_inside, leveled, written_list, written_of}
 use Rattle.fast_load.proofs.InOrderLaws.{entered}
 use Rattle.fast_load.proofs.in_order.enter.Goals as goal
 

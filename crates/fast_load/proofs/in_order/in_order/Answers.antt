@@ -1,6 +1,4 @@
-use Rattle.std.proofs.Common.{◌≡◌, map, rules}
-use Rattle.fast_load.specs.InOrder.{leveled, leveled_of}
-use Rattle.fast_written.specs.Written.{written_list, written_of}
+use Rattle.fast_load.proofs.Common.{◌≡◌, map, rules, leveled, leveled_of, written_list, written_of}
 use Rattle.fast_load.proofs.InOrderLaws.{found_in_order}
 use Rattle.fast_load.proofs.in_order.in_order.Goals as goal
 

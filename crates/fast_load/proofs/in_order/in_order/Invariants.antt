@@ -1,6 +1,4 @@
-use Rattle.std.proofs.Common.{◌≡◌, ◌++◌, map}
-use Rattle.fast_load.specs.InOrder.{left_of, leveled, leveled_of, to_come}
-use Rattle.fast_written.specs.Written.{written_list, written_of}
+use Rattle.fast_load.proofs.Common.{◌≡◌, ◌++◌, map, left_of, leveled, leveled_of, to_come, written_list, written_of}
 use Rattle.fast_load.proofs.in_order.in_order.Given as goal
 
 abbrev pub invariant-loop-front : goal.invariant-loop-front

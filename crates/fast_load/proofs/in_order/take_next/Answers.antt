@@ -1,6 +1,4 @@
-use Rattle.std.proofs.Common.{◌++◌, map, ap}
-use Rattle.fast_load.specs.InOrder.{leveled, leveled_of}
-use Rattle.fast_written.specs.Written.{written_list, written_of}
+use Rattle.fast_load.proofs.Common.{◌++◌, map, ap, leveled, leveled_of, written_list, written_of}
 use Rattle.fast_load.proofs.InOrderLaws.{none_in, none_less, none_taken, taken_less, taken_one}
 use Rattle.fast_load.proofs.in_order.take_next.Goals as goal
 

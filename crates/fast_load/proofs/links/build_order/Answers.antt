@@ -1,7 +1,4 @@
-use Rattle.std.proofs.Common.{◌≤◌, subst, sym}
-use Rattle.std.proofs.lemmas.List.{length-map}
-use Rattle.fast_order.specs.Order.{IsOrder, IsFirstOnCycle}
-use Rattle.fast_written.specs.Written.{written_template_of}
+use Rattle.fast_load.proofs.Common.{◌≤◌, subst, sym, length-map, IsOrder, IsFirstOnCycle, written_template_of}
 use Rattle.fast_load.proofs.LinkOrder.{links_within, cycles_pass, cycles_fault, build_order_is}
 use Rattle.fast_load.proofs.links.build_order.Goals as goal
 

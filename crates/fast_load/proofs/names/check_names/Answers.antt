@@ -1,7 +1,4 @@
-use Rattle.std.proofs.Common.{◌≡◌, ◌≤◌, rules, inl, length, map, List, Some, None, subst, sym}
-use Rattle.std.proofs.lemmas.List.{length-map}
-use Rattle.fast_written.specs.Written.{WrittenTemplate, written_template_of}
-use Rattle.fast_load.specs.Walks.{first_at_fault}
+use Rattle.fast_load.proofs.Common.{◌≡◌, ◌≤◌, rules, inl, length, map, List, Some, None, subst, sym, length-map, WrittenTemplate, written_template_of, first_at_fault}
 use Rattle.fast_load.proofs.NamePhase.{of_template, of_instruction, names_pass, names_fault}
 use Rattle.fast_load.proofs.names.check_names.Goals as goal
 

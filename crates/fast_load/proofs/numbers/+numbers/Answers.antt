@@ -1,5 +1,4 @@
-use Rattle.std.proofs.Common.{◌<◌, ◌≤◌, length, take, sym, ap, ◌∙◌, arith}
-use Rattle.fast_template.specs.Resolved.{list_of, numbered, joined}
+use Rattle.fast_load.proofs.Common.{◌<◌, ◌≤◌, length, take, sym, ap, ◌∙◌, arith, list_of, numbered, joined}
 use Rattle.fast_load.proofs.Rewritten.{unvisited_more, all_front, no_back, joined_end}
 use Rattle.fast_load.proofs.Numbering.{partly, one_more, left}
 use Rattle.fast_load.proofs.numbers.+numbers.Goals as goal

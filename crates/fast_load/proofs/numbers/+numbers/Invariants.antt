@@ -1,5 +1,4 @@
-use Rattle.std.proofs.Common.{◌≡◌, ◌+◌, drop}
-use Rattle.fast_template.specs.Resolved.{list_of, numbered, size_of}
+use Rattle.fast_load.proofs.Common.{◌≡◌, ◌+◌, drop, list_of, numbered, size_of}
 use Rattle.fast_load.proofs.Numbering.{partly}
 use Rattle.fast_load.proofs.numbers.+numbers.Given as goal
 

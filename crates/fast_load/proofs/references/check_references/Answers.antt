@@ -1,13 +1,4 @@
-use Rattle.std.proofs.Common.{◌≡◌, ◌≤◌, rules, inl, length, map, List, ℕ, Bool, is_some, Some, None, Vec, subst, sym, ap}
-use Rattle.std.proofs.lemmas.List.{length-map}
-use Rattle.std.specs.Ordering.{nat_cmp}
-use Rattle.std.specs.Cmp.Lexicographic.{slice_cmp}
-use Rattle.std.specs.BTreeMap.{get}
-use Rattle.fast_load.specs.References.{reference_cause}
-use Rattle.fast_written.specs.Written.{WrittenTemplate, written_template_of}
-use Rattle.std.specs.declared.alloc.Global.{Global}
-use Rattle.fast_load.specs.Links.{place_in, places_of, referred_by}
-use Rattle.fast_load.specs.Walks.{first_at_fault, kept_of}
+use Rattle.fast_load.proofs.Common.{◌≡◌, ◌≤◌, rules, inl, length, map, List, ℕ, Bool, is_some, Some, None, Vec, subst, sym, ap, length-map, nat_cmp, slice_cmp, get, reference_cause, WrittenTemplate, written_template_of, Global, place_in, places_of, referred_by, first_at_fault, kept_of}
 use Rattle.fast_load.proofs.LinkLaws.{are_links}
 use Rattle.fast_load.proofs.ReferencePhase.{references_pass, references_fault}
 use Rattle.fast_load.proofs.references.check_references.Goals as goal

@@ -1,7 +1,4 @@
-use Rattle.std.proofs.Common.{◌≡◌, ◌++◌, get_or, map, take, rules, subst, sym, ap, ◌∙◌}
-use Rattle.fast_template.specs.Resolved.{keys_of, list_of, resolved_of}
-use Rattle.fast_load.specs.Slots.{EntersKeys}
-use Rattle.fast_template.specs.TemplateSets.{keys_of_all}
+use Rattle.fast_load.proofs.Common.{◌≡◌, ◌++◌, get_or, map, take, rules, subst, sym, ap, ◌∙◌, keys_of, list_of, resolved_of, EntersKeys, keys_of_all}
 use Rattle.fast_load.proofs.Slotting.{more_keys}
 use Rattle.fast_load.proofs.Settling.{all_more}
 use Rattle.fast_load.proofs.settle.enter_all.Goals as goal

@@ -1,8 +1,4 @@
-use Rattle.std.proofs.Common.{◌∷◌, map, rules, subst, sym}
-use Rattle.std.specs.BTreeMap.{btree_map_len}
-use Rattle.fast_template.specs.Resolved.{resolved_of}
-use Rattle.fast_load.specs.Slots.{EntersKeys}
-use Rattle.fast_template.specs.TemplateSets.{HasSlots, identifier_key, keys_of_all}
+use Rattle.fast_load.proofs.Common.{◌∷◌, map, rules, subst, sym, btree_map_len, resolved_of, EntersKeys, HasSlots, identifier_key, keys_of_all}
 use Rattle.fast_load.proofs.Settling.{settled_slots, counted_slots}
 use Rattle.fast_load.proofs.settle.settle.Goals as goal
 

@@ -1,6 +1,4 @@
-use Rattle.std.proofs.Common.{◌<◌, ◌≤◌, length, subst, sym, arith}
-use Rattle.fast_template.specs.Resolved.{resolved_of, size_of}
-use Rattle.fast_load.specs.Slots.{settled, slot_in}
+use Rattle.fast_load.proofs.Common.{◌<◌, ◌≤◌, length, subst, sym, arith, resolved_of, size_of, settled, slot_in}
 use Rattle.fast_load.proofs.Settling.{settled_more, small_at, at_same}
 use Rattle.fast_load.proofs.settle.settle_all.Goals as goal
 

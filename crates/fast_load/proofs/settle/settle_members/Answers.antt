@@ -1,7 +1,4 @@
-use Rattle.std.proofs.Common.{ap, ◌∙◌, arith}
-use Rattle.fast_value.specs.declared.key.Key.{Key}
-use Rattle.fast_template.specs.Resolved.{list_of, size_of}
-use Rattle.fast_load.specs.Slots.{slot_in}
+use Rattle.fast_load.proofs.Common.{ap, ◌∙◌, arith, Key, list_of, size_of, slot_in}
 use Rattle.fast_load.proofs.Settling.{size_with_keys}
 use Rattle.fast_load.proofs.settle.settle_members.Goals as goal
 

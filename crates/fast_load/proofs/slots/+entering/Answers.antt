@@ -1,6 +1,4 @@
-use Rattle.std.proofs.Common.{◌≡◌, ◌∷◌, ◌++◌, [], take, get_or, rules, subst, sym, ap, ◌∙◌}
-use Rattle.fast_template.specs.Resolved.{instruction_of, keys_of, keys_of_one, list_of}
-use Rattle.fast_load.specs.Slots.{EntersKeys}
+use Rattle.fast_load.proofs.Common.{◌≡◌, ◌∷◌, ◌++◌, [], take, get_or, rules, subst, sym, ap, ◌∙◌, instruction_of, keys_of, keys_of_one, list_of, EntersKeys}
 use Rattle.fast_load.proofs.Slotting.{keys_more, more_keys, after_ok, keys_of_parts, keys_of_sequence}
 use Rattle.fast_load.proofs.slots.+entering.Goals as goal
 

@@ -1,6 +1,4 @@
-use Rattle.std.proofs.Common.{take}
-use Rattle.fast_template.specs.Resolved.{list_of, keys_of}
-use Rattle.fast_load.specs.Slots.{EntersKeys}
+use Rattle.fast_load.proofs.Common.{take, list_of, keys_of, EntersKeys}
 use Rattle.fast_load.proofs.slots.+entering.Given as goal
 
 abbrev pub invariant-enter_keys-loop-flat : goal.invariant-enter_keys-loop-flat

@@ -1,7 +1,4 @@
-use Rattle.std.proofs.Common.{◌<◌, ◌≤◌, length, take, sym, ap, ◌∙◌, arith}
-use Rattle.fast_value.specs.declared.key.Key.{Key}
-use Rattle.fast_template.specs.Resolved.{list_of, with_keys, joined}
-use Rattle.fast_load.specs.Slots.{slot_in}
+use Rattle.fast_load.proofs.Common.{◌<◌, ◌≤◌, length, take, sym, ap, ◌∙◌, arith, Key, list_of, with_keys, joined, slot_in}
 use Rattle.fast_load.proofs.Rewritten.{unvisited_more, all_front, no_back, joined_end}
 use Rattle.fast_load.proofs.Slotting.{one_more}
 use Rattle.fast_load.proofs.slots.+giving.Goals as goal

@@ -1,6 +1,4 @@
-use Rattle.std.proofs.Common.{◌≡◌}
-use Rattle.fast_template.specs.Resolved.{list_of, with_keys}
-use Rattle.fast_load.specs.Slots.{slot_in}
+use Rattle.fast_load.proofs.Common.{◌≡◌, list_of, with_keys, slot_in}
 use Rattle.fast_load.proofs.Slotting.{partly}
 use Rattle.fast_load.proofs.slots.+giving.Given as goal
 

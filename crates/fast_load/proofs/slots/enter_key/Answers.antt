@@ -1,6 +1,4 @@
-use Rattle.std.proofs.Common.{◌≡◌, ◌+◌, Some, None, sym, ◌∙◌, rules}
-use Rattle.std.specs.BTreeMap.{get, Updates, btree_map_len}
-use Rattle.fast_value.specs.Key.{key_cmp}
+use Rattle.fast_load.proofs.Common.{◌≡◌, ◌+◌, Some, None, sym, ◌∙◌, rules, get, Updates, btree_map_len, key_cmp}
 use Rattle.fast_load.proofs.Slotting.{key_there, key_new}
 use Rattle.fast_load.proofs.slots.enter_key.Goals as goal
 

@@ -1,6 +1,4 @@
-use Rattle.std.proofs.Common.{◌≡◌, ◌+◌, map, drop, take}
-use Rattle.fast_written.specs.Written.{written_template_of}
-use Rattle.fast_load.specs.Walks.{first_at_fault, kept_of}
+use Rattle.fast_load.proofs.Common.{◌≡◌, ◌+◌, map, drop, take, written_template_of, first_at_fault, kept_of}
 use Rattle.fast_load.proofs.walk.judge_all.Given as goal
 
 abbrev pub invariant-loop-template : goal.invariant-loop-template

@@ -1,5 +1,4 @@
-use Rattle.std.proofs.Common.{map, sym, ap, Ok, ◌∙◌}
-use Rattle.fast_written.specs.Written.{written_list, written_of}
+use Rattle.fast_load.proofs.Common.{map, sym, ap, Ok, ◌∙◌, written_list, written_of}
 use Rattle.fast_load.proofs.KeptLaws.{kept_more, kept_end}
 use Rattle.fast_load.proofs.WalkLaws.{along_end, along_fault, along_more, along_walk}
 use Rattle.fast_load.proofs.walk.walk.Goals as goal

@@ -1,6 +1,4 @@
-use Rattle.std.proofs.Common.{◌≡◌, ◌++◌, map, drop}
-use Rattle.std.specs.List.{flat_map}
-use Rattle.fast_load.specs.InOrder.{found_of}
+use Rattle.fast_load.proofs.Common.{◌≡◌, ◌++◌, map, drop, flat_map, found_of}
 use Rattle.fast_load.proofs.WalkLaws.{along}
 use Rattle.fast_load.proofs.walk.walk.Given as goal
 

@@ -1,12 +1,4 @@
-use Rattle.std.proofs.Common.{rules, ◌≢◌, ◌∙◌, [], Some, Ok, Err, ap, length, arith}
-use Rattle.std.proofs.lemmas.Result.{err_from_is_err_and}
-use Rattle.fast_value.specs.declared.scalar.Scalar.TheVariants.{I64}
-use Rattle.fast_template.specs.Resolved.{has_map, list_of}
-use Rattle.fast_stream.specs.Nodes.{items_in}
-use Rattle.fast_nodes.specs.Added.{CanTry, books_of, of_part}
-use Rattle.fast_writer.specs.Levels.{level_of}
-use Rattle.fast_writer.specs.Written.{IsEmpty}
-use Rattle.fast_walk.proofs.Pieces.{is_group, is_parts, is_sequence}
+use Rattle.fast_nodes.proofs.Common.{rules, ◌≢◌, ◌∙◌, [], Some, Ok, Err, ap, length, arith, err_from_is_err_and, I64, has_map, list_of, items_in, CanTry, books_of, of_part, level_of, IsEmpty, is_group, is_parts, is_sequence}
 use Rattle.fast_nodes.proofs.Views.{count_seen, is_absent, is_elements, is_value, other_number}
 use Rattle.fast_nodes.proofs.Tries.{can_each, can_segment, element_refused, elements_end, elements_next, group_put, next_of, nodes_end, nodes_next, puts_then, refused_then, segment_put, sequence_put}
 use Rattle.fast_nodes.proofs.Additions.{no_group_added}

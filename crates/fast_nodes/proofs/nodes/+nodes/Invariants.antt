@@ -1,6 +1,4 @@
-use Rattle.std.proofs.Common.{◌≡◌, length}
-use Rattle.fast_nodes.specs.Added.{books_of}
-use Rattle.fast_writer.specs.Levels.{level_of}
+use Rattle.fast_nodes.proofs.Common.{◌≡◌, length, books_of, level_of}
 use Rattle.fast_nodes.proofs.Tries.{NodesLeft, ElementsLeft}
 use Rattle.fast_nodes.proofs.nodes.+nodes.Given as goal
 

@@ -1,7 +1,4 @@
-use Rattle.std.proofs.Common.{◌≡◌, length, drop, map}
-use Rattle.fast_template.specs.Resolved.{list_of}
-use Rattle.fast_stream.specs.Nodes.{elements_of, items_in}
-use Rattle.fast_nodes.specs.FirstRefusal.{elements_fit, items_fit}
+use Rattle.fast_nodes.proofs.Common.{◌≡◌, length, drop, map, list_of, elements_of, items_in, elements_fit, items_fit}
 use Rattle.fast_nodes.proofs.shape.+shape.Given as goal
 
 abbrev pub invariant-all_fit-members : goal.invariant-all_fit-members

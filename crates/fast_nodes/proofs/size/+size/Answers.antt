@@ -1,10 +1,4 @@
-use Rattle.std.proofs.Common.{rules, ◌≡◌, ◌<◌, ◌≤◌, ◌+◌, ◌∷◌, ◌∙◌, sym, ap, length, drop, inr, None, Some}
-use Rattle.std.specs.Prelude.{nat_lt}
-use Rattle.std.specs.Global.{Vec}
-use Rattle.std.proofs.lemmas.Bool.{lt-ltb, or_left}
-use Rattle.std.proofs.lemmas.List.{drop_more}
-use Rattle.fast_stream.specs.declared.message.Node.{Node}
-use Rattle.fast_nodes.specs.FirstRefusal.{has_large_in}
+use Rattle.fast_nodes.proofs.Common.{rules, ◌≡◌, ◌<◌, ◌≤◌, ◌+◌, ◌∷◌, ◌∙◌, sym, ap, length, drop, inr, None, Some, nat_lt, Vec, lt-ltb, or_left, drop_more, Node, has_large_in}
 use Rattle.fast_nodes.proofs.Sizes.{of_sequence, none_left, element_refused, all_left}
 use Rattle.fast_nodes.proofs.Views.{seen}
 use Rattle.fast_nodes.proofs.size.+size.Goals as goal

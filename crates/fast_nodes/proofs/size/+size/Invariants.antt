@@ -1,6 +1,4 @@
-use Rattle.std.proofs.Common.{◌≡◌, ◌+◌, drop, map}
-use Rattle.fast_stream.specs.Nodes.{elements_of, items_in, nodes_in, nodes_in_elements}
-use Rattle.fast_nodes.specs.FirstRefusal.{has_large, has_large_in}
+use Rattle.fast_nodes.proofs.Common.{◌≡◌, ◌+◌, drop, map, elements_of, items_in, nodes_in, nodes_in_elements, has_large, has_large_in}
 use Rattle.fast_nodes.proofs.size.+size.Given as goal
 
 abbrev pub invariant-left_behind_all-nodes : goal.invariant-left_behind_all-nodes

@@ -1,5 +1,4 @@
-use Rattle.std.proofs.Common.{◌≡◌, ◌<◌, ◌⊎◌, ℕ, Some, length}
-use Rattle.std.specs.Prelude.{slice_get}
+use Rattle.fast_order.proofs.Common.{◌≡◌, ◌<◌, ◌⊎◌, ℕ, Some, length, slice_get}
 use Rattle.fast_order.proofs.order.drop_above.Given as goal
 
 abbrev pub invariant-loop-start : goal.invariant-loop-start

@@ -1,6 +1,4 @@
-use Rattle.std.proofs.Common.{◌≡◌, ◌<◌, ℕ, Some, true}
-use Rattle.std.specs.Prelude.{slice_get}
-use Rattle.fast_order.specs.declared.order.Mark.TheVariants.{Done}
+use Rattle.fast_order.proofs.Common.{◌≡◌, ◌<◌, ℕ, Some, true, slice_get, Done}
 use Rattle.fast_order.proofs.order.first_on_cycle.Given as goal
 
 abbrev pub invariant-loop-node : goal.invariant-loop-node

@@ -1,5 +1,4 @@
-use Rattle.std.proofs.Common.{◌≡◌, ◌<◌, ℕ, Some}
-use Rattle.std.specs.Prelude.{slice_get}
+use Rattle.fast_order.proofs.Common.{◌≡◌, ◌<◌, ℕ, Some, slice_get}
 use Rattle.fast_order.proofs.order.has_place.Given as goal
 
 abbrev pub invariant-loop-other : goal.invariant-loop-other

@@ -1,5 +1,4 @@
-use Rattle.std.proofs.Common.{◌≡◌, drop, length}
-use Rattle.fast_order.specs.Search.{set_all}
+use Rattle.fast_order.proofs.Common.{◌≡◌, drop, length, set_all}
 use Rattle.fast_order.proofs.order.mark_all.Given as goal
 
 abbrev pub invariant-loop-node : goal.invariant-loop-node

@@ -1,5 +1,4 @@
-use Rattle.std.proofs.Common.{refl, sym}
-use Rattle.std.proofs.lemmas.Option.{slice_get_read}
+use Rattle.fast_order.proofs.Common.{refl, sym, slice_get_read}
 use Rattle.fast_order.proofs.order.row_of.Goals as goal
 
 pub returns : goal.returns

@@ -1,5 +1,4 @@
-use Rattle.std.proofs.Common.{◌≡◌, ◌<◌, ℕ, None, []}
-use Rattle.fast_order.specs.Search.{Stands, IsDone, state_of}
+use Rattle.fast_order.proofs.Common.{◌≡◌, ◌<◌, ℕ, None, [], Stands, IsDone, state_of}
 use Rattle.fast_order.proofs.order.searched.Given as goal
 
 abbrev pub invariant-loop-root : goal.invariant-loop-root

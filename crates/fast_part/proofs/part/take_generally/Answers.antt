@@ -1,17 +1,7 @@
-use Rattle.std.proofs.Common.{◌≡◌, ◌≢◌, Option, inl, inr, Result, Err, drop, sym, ap, ◌∙◌}
-use Rattle.std.proofs.lemmas.Result.{err_from_is_err_and}
-use Rattle.fast_value.specs.declared.scalar.Scalar.{Scalar}
-use Rattle.fast_dictionary.specs.declared.entry.Entry.{Entry}
-use Rattle.fast_field.specs.FieldReading.{field_at}
-use Rattle.fast_field.specs.Found.{value_found}
-use Rattle.fast_field.specs.Bases.{next}
-use Rattle.fast_field.specs.declared.fault.FieldFault.{FieldFault}
-use Rattle.fast_field.specs.declared.fault.FieldFault.TheVariants as fault
-use Rattle.fast_field.specs.Calls.{OrRefused}
-use Rattle.fast_wire.specs.Reading.{Fails}
+use Rattle.fast_part.proofs.Common.{◌≡◌, ◌≢◌, Option, inl, inr, Result, Err, drop, sym, ap, ◌∙◌, err_from_is_err_and, Scalar, Entry, field_at, value_found, next, FieldFault, OrRefused, Fails}
 use Rattle.fast_part.proofs.part.take_generally.Goals as goal
 
-failed : {Y : Type 0} (f : FieldFault) (read : Result Y FieldFault) → Fails OrRefused f read → f ≢ fault.Memory → read ≡ Err f
+failed : {Y : Type 0} (f : FieldFault) (read : Result Y FieldFault) → Fails OrRefused f read → f ≢ FieldFault.Memory → read ≡ Err f
 failed f read (inl is) other = is
 failed f read (inr refused) other = absurd (other refused.0)
 

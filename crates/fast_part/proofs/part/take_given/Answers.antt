@@ -1,20 +1,13 @@
-use Rattle.std.proofs.Common.{◌≡◌, ℕ, true, List, ◌++◌, Option, Some, None, Ok, refl}
-use Rattle.fast_wire.specs.declared.level.Level.{Level}
-use Rattle.fast_value.specs.declared.kind.Operator.TheVariants as operator
-use Rattle.fast_value.specs.declared.kind.Part.TheVariants as part
-use Rattle.fast_value.specs.declared.scalar.Scalar.{Scalar}
-use Rattle.fast_template.specs.declared.resolved.FieldPart.{FieldPart}
-use Rattle.fast_dictionary.specs.declared.entry.Entry.{Entry}
-use Rattle.fast_field.specs.FieldReading.{field_at, row_at, part_checked}
+use Rattle.fast_part.proofs.Common.{◌≡◌, ℕ, true, List, ◌++◌, Option, Some, None, Ok, refl, Level, Operator, Part, Scalar, FieldPart, Entry, field_at, row_at, part_checked}
 use Rattle.fast_part.proofs.part.take_given.Goals as goal
 
-whole_checked : (v : Option Scalar) → part_checked part.Whole v ≡ Ok v
+whole_checked : (v : Option Scalar) → part_checked Part.Whole v ≡ Ok v
 unfolding part_checked
 whole_checked None = refl
 whole_checked (Some v) = refl
 
 -- a constant that is no part of a decimal or a sequence is given at each level, and no byte of it is read
-constant_given : (level : Level) (i : FieldPart) (e : Entry) (bytes : List ℕ) → i.operator ≡ operator.Constant → i.part ≡ part.Whole → field_at level i e true bytes ≡ Ok (i.initial, bytes)
+constant_given : (level : Level) (i : FieldPart) (e : Entry) (bytes : List ℕ) → i.operator ≡ Operator.Constant → i.part ≡ Part.Whole → field_at level i e true bytes ≡ Ok (i.initial, bytes)
 unfolding field_at row_at
 constant_given level i e bytes constant whole = rw (constant, whole, whole_checked i.initial) refl
 

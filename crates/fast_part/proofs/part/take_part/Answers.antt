@@ -1,5 +1,4 @@
-use Rattle.std.proofs.Common.{ap}
-use Rattle.std.specs.Result.{is_ok}
+use Rattle.fast_part.proofs.Common.{ap, is_ok}
 use Rattle.fast_part.proofs.TakenKinds.{under_key}
 use Rattle.fast_part.proofs.part.take_part.Goals as goal
 

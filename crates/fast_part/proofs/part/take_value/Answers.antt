@@ -1,6 +1,4 @@
-use Rattle.std.proofs.Common.{drop, arith, ap, ◌∙◌}
-use Rattle.fast_dictionary.specs.declared.entry.Entry.{Entry}
-use Rattle.fast_field.specs.Found.{value_found}
+use Rattle.fast_part.proofs.Common.{drop, arith, ap, ◌∙◌, Entry, value_found}
 use Rattle.fast_part.proofs.TakenKinds.{took_as_usual}
 use Rattle.fast_part.proofs.part.take_value.Goals as goal
 

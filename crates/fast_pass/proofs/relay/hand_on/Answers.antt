@@ -1,11 +1,4 @@
-use Rattle.std.proofs.Common.{◌∷◌, ◌++◌, ◌∙◌, ℕ, List, [], length, append_assoc, append-nil, ap, refl, sym, subst, inl}
-use Rattle.fast_template.specs.TemplateSets.{templates_in}
-use Rattle.fast_machine.specs.Following.{mode_of}
-use Rattle.fast_machine.proofs.Followings.{follows_behind}
-use Rattle.fast_decoder.proofs.Inputs.{reached_with}
-use Rattle.fast_io.proofs.Outputs.{Appends-nil, Appends-trans}
-use Rattle.fast_walk.specs.Received.{handed_on}
-use Rattle.fast_pass.specs.Relays.{GoesOn, handing}
+use Rattle.fast_pass.proofs.Common.{◌∷◌, ◌++◌, ◌∙◌, ℕ, List, [], length, append_assoc, append-nil, ap, refl, sym, subst, inl, templates_in, mode_of, follows_behind, reached_with, Appends-nil, Appends-trans, handed_on, GoesOn, handing}
 use Rattle.fast_pass.proofs.Relayings.{counts_more, taken_on}
 use Rattle.fast_pass.proofs.relay.hand_on.Goals as goal
 

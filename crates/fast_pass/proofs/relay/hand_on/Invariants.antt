@@ -1,6 +1,4 @@
-use Rattle.std.proofs.Common.{◌≡◌, ◌+◌, [], false, cond}
-use Rattle.fast_io.specs.Traffic.{Taken}
-use Rattle.fast_pass.specs.Relays.{HandsOn, StandsStill}
+use Rattle.fast_pass.proofs.Common.{◌≡◌, ◌+◌, [], false, cond, Taken, HandsOn, StandsStill}
 use Rattle.fast_pass.proofs.relay.hand_on.Given as goal
 
 abbrev pub invariant-fronts : goal.invariant-fronts

@@ -1,5 +1,4 @@
-use Rattle.std.proofs.Common.{[], refl, append-nil}
-use Rattle.fast_io.proofs.Outputs.{Appends-nil}
+use Rattle.fast_pass.proofs.Common.{[], refl, append-nil, Appends-nil}
 use Rattle.fast_pass.proofs.relay.hand_on_many.Goals as goal
 
 pub returns-then-finished-lt-MANY-clause-hands : goal.returns-then-finished-lt-MANY-clause-hands

@@ -1,10 +1,5 @@
-use Rattle.std.proofs.Common.{[], ◌∷◌, refl, arith, inr}
+use Rattle.fast_pass.proofs.Common.{[], ◌∷◌, refl, arith, inr, templates_in, at_start, none_read, handed_on, Appends-nil}
 use Rattle.std.specs.FinMap as finite
-use Rattle.fast_template.specs.TemplateSets.{templates_in}
-use Rattle.fast_stream.specs.Blocks.{at_start}
-use Rattle.fast_decoder.proofs.Inputs.{none_read}
-use Rattle.fast_walk.specs.Received.{handed_on}
-use Rattle.fast_io.proofs.Outputs.{Appends-nil}
 use Rattle.fast_pass.proofs.relay.pass_through.Goals as goal
 
 pub returns-in-Err-clause-answer : goal.returns-in-Err-clause-answer

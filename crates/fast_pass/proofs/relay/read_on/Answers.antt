@@ -1,10 +1,4 @@
-use Rattle.std.proofs.Common.{◌<◌, ◌∷◌, [], take, sym, subst, arith, length-take}
-use Rattle.std.proofs.lemmas.Result.{MatchResult-weaker}
-use Rattle.fast_decoder.specs.declared.input.Reached.TheVariants as reached
-use Rattle.fast_decoder.specs.Inputs.{Reader, reader_by}
-use Rattle.fast_decoder.proofs.Inputs.{caused_by_end, caused_by_feed, caused_by_read, empty_read, failed_read, one_read, refused_by_bytes, refused_by_read}
-use Rattle.fast_walk.specs.Received.{handed_on}
-use Rattle.fast_pass.specs.Relays.{Relays}
+use Rattle.fast_pass.proofs.Common.{◌<◌, ◌∷◌, [], take, sym, subst, arith, length-take, MatchResult-weaker, Reached, Reader, reader_by, caused_by_end, caused_by_feed, caused_by_read, empty_read, failed_read, one_read, refused_by_bytes, refused_by_read, handed_on, Relays}
 use Rattle.fast_pass.proofs.Relayings.{stays, stops}
 use Rattle.fast_pass.proofs.relay.read_on.Given as given
 use Rattle.fast_pass.proofs.relay.read_on.Goals as goal
@@ -19,7 +13,7 @@ returns-in-Ok-finish-clause-read g c =
     let ok = c.in-Ok-finish.ensures.ok in (
       [],
       empty_read _ _ _ _ p.call p.bytes.1 zero,
-      λ turns way r. stays _ (subst (λ m. Relays g.O.Output.waiting g.O.Output.makes reached.End m turns (g.R.ByteInput.left c.pull.new.self) way) (sym ok.0) (record {
+      λ turns way r. stays _ (subst (λ m. Relays g.O.Output.waiting g.O.Output.makes Reached.End m turns (g.R.ByteInput.left c.pull.new.self) way) (sym ok.0) (record {
         holds = record { carried = ok.1 (handed_on way.handed ∷ way.messages) way.input way.messages r.holds.follows; ended = p.bytes.2 zero (omega arith) };
         made = r.made;
         counts = λ e. r.holds.follows.counts;

@@ -1,12 +1,4 @@
-use Rattle.std.proofs.Common.{◌≡◌, ◌≤◌, ◌+◌, ◌++◌, ◌∷◌, [], length, length-append, arith, append-nil, refl, ◌∙◌}
-use Rattle.std.proofs.lemmas.Result.{err_from_is_err_and}
-use Rattle.fast_decoder.specs.declared.input.Reached.TheVariants as reached
-use Rattle.fast_decoder.specs.Inputs.{IsCaused, Reader, reader_by}
-use Rattle.fast_decoder.proofs.Inputs.{causes_on, causes_weaker, more_read, refused_by_turns}
-use Rattle.fast_walk.specs.Received.{handed_on}
-use Rattle.fast_machine.specs.Calls.{IsSameStream}
-use Rattle.fast_machine.proofs.Calls.{same_on}
-use Rattle.fast_pass.specs.Relays.{Step, outset}
+use Rattle.fast_pass.proofs.Common.{◌≡◌, ◌≤◌, ◌+◌, ◌++◌, ◌∷◌, [], length, length-append, arith, append-nil, refl, ◌∙◌, err_from_is_err_and, Reached, IsCaused, Reader, reader_by, causes_on, causes_weaker, more_read, refused_by_turns, handed_on, IsSameStream, same_on, Step, outset}
 use Rattle.fast_pass.proofs.Relayings.{behind, breaks, breaks_on, broke_off, front_of, goes_farther, hands_on}
 use Rattle.fast_pass.proofs.relay.relay.Given as given
 use Rattle.fast_pass.proofs.relay.relay.Goals as goal
@@ -26,7 +18,7 @@ stepped g c because =
 caused : (g : given.Over) (c : After-saturating_add-written-in-reads g) → IsCaused c.in_ok-came.came ⊥ (read_by g c.args.reader.now) (read_by g c.read_on.new.reader)
 caused g c =
     let s = c.reads.invariant.relays.2 in
-    causes_on reached.Open reached.Open c.in_ok-came.came (read_by g c.args.reader.now) (read_by g c.reads.reader) (read_by g c.read_on.new.reader) refl s.because.1 (c.in_ok-came.ensures.read.2 c.args.turns (behind s) s.relays).because.1
+    causes_on Reached.Open Reached.Open c.in_ok-came.came (read_by g c.args.reader.now) (read_by g c.reads.reader) (read_by g c.read_on.new.reader) refl s.because.1 (c.in_ok-came.ensures.read.2 c.args.turns (behind s) s.relays).because.1
 
 same : (g : given.Over) (c : After-saturating_add-written-in-reads g) → IsSameStream c.args.machine.now c.hand_on.new.machine
 same g c = same_on c.reads.invariant.same (same_on c.in_ok-came.ensures.same c.in_ok-hand_on.ensures.still.same)
@@ -40,7 +32,7 @@ reads-preserved g c =
     let i = v.relays in
     let size = length-append i.0 r.read.0 in
     let some = (r.read.2 c.args.turns (behind i.2) i.2.relays).because.0 c.in-Open.is in
-    let because : (c.reads.reads + 1 ≤ length (i.0 ++ r.read.0)) × IsCaused reached.Open ⊥ (read_by g c.args.reader.now) (read_by g c.read_on.new.reader) = (omega (arith, some, size), rw (c.in-Open.is) at (caused g at)) in
+    let because : (c.reads.reads + 1 ≤ length (i.0 ++ r.read.0)) × IsCaused Reached.Open ⊥ (read_by g c.args.reader.now) (read_by g c.read_on.new.reader) = (omega (arith, some, size), rw (c.in-Open.is) at (caused g at)) in
     record {
       few = omega arith;
       empty = h.empty;
@@ -105,7 +97,7 @@ returns-in-Fault-clause-answer g c =
       more_read _ _ _ c.reads.reads i.0 r.read.0 i.1 r.read.1,
       omega arith,
       rw (← all.mode, ← all.set) (record { messages = s.ended; out = s.more; refuses = s.relays.holds; made = rw (c.in_ok-hand_on.ensures.empty, append-nil s.more) at s.relays.made; written = s.written }),
-      causes_weaker reached.Open (reached.Fault c.in-Fault.fault) (c.reads.reads + 1 ≡ c.args.turns) (read_by g c.args.reader.now) (read_by g c.read_on.new.reader) s.because,
+      causes_weaker Reached.Open (Reached.Fault c.in-Fault.fault) (c.reads.reads + 1 ≡ c.args.turns) (read_by g c.args.reader.now) (read_by g c.read_on.new.reader) s.because,
     )
 
 pub returns-clause-answer : goal.returns-clause-answer

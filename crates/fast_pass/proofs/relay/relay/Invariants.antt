@@ -1,8 +1,4 @@
-use Rattle.std.proofs.Common.{◌≡◌, ◌≤◌, ◌-◌, ℕ, List, [], length}
-use Rattle.fast_decoder.specs.Inputs.{IsCaused, Reads, reader_by}
-use Rattle.fast_decoder.specs.declared.input.Reached.TheVariants as reached
-use Rattle.fast_machine.specs.Calls.{IsSameStream}
-use Rattle.fast_pass.specs.Relays.{Step, outset}
+use Rattle.fast_pass.proofs.Common.{◌≡◌, ◌≤◌, ◌-◌, ℕ, List, [], length, IsCaused, Reads, reader_by, Reached, IsSameStream, Step, outset}
 use Rattle.fast_pass.proofs.relay.relay.Given as goal
 
 abbrev pub invariant-reads : goal.invariant-reads
@@ -19,7 +15,7 @@ invariant-reads g l =
       errors : W.errors l.writer ≡ W.errors l.fn.writer;
       flushes : W.flushes l.writer ≡ W.flushes l.fn.writer;
       relays : (input : List ℕ) × Reads a b l.reads input
-          × Step O.waiting O.makes reached.Open l.machine l.turns (R.left l.reader) (W.taken l.fn.writer) (W.taken l.writer) l.written outset input ((l.reads ≤ length input) × IsCaused reached.Open ⊥ a b);
+          × Step O.waiting O.makes Reached.Open l.machine l.turns (R.left l.reader) (W.taken l.fn.writer) (W.taken l.writer) l.written outset input ((l.reads ≤ length input) × IsCaused Reached.Open ⊥ a b);
     }
 
 abbrev pub decreases-reads : goal.decreases-reads

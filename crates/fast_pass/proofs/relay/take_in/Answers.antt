@@ -1,9 +1,4 @@
-use Rattle.std.proofs.Common.{◌++◌, ◌∷◌, ◌-◌, ◌+◌, ◌∙◌, ℕ, List, length, length-drop, take, drop, take-append-drop, refl, arith, ap}
-use Rattle.std.proofs.lemmas.List.{take_all, take_rest}
-use Rattle.std.proofs.lemmas.Result.{err_from_is_err_and}
-use Rattle.fast_decoder.proofs.Inputs.{of_bytes, refused_by_bytes}
-use Rattle.fast_machine.proofs.Calls.{same_on}
-use Rattle.fast_walk.specs.Received.{handed_on}
+use Rattle.fast_pass.proofs.Common.{◌++◌, ◌∷◌, ◌-◌, ◌+◌, ◌∙◌, ℕ, List, length, length-drop, take, drop, take-append-drop, refl, arith, ap, take_all, take_rest, err_from_is_err_and, of_bytes, refused_by_bytes, same_on, handed_on}
 use Rattle.fast_pass.proofs.Relayings.{behind, breaks, feeds_on, hands_on, reads_on, stays, stops}
 use Rattle.fast_pass.proofs.relay.take_in.Goals as goal
 

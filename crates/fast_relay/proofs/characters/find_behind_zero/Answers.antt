@@ -1,6 +1,4 @@
-use Rattle.std.proofs.Common.{◌≡◌, ◌+◌, ◌∷◌, ◌∙◌, ap, drop, slice_range, arith, ℕ}
-use Rattle.std.proofs.lemmas.List.{drop_more}
-use Rattle.std.proofs.lemmas.List.Folds.{drop_split}
+use Rattle.fast_relay.proofs.Common.{◌≡◌, ◌+◌, ◌∷◌, ◌∙◌, ap, drop, slice_range, arith, ℕ, drop_more, drop_split}
 use Rattle.fast_relay.proofs.PlainTexts.{behind_zero}
 use Rattle.fast_relay.proofs.characters.find_behind_zero.Goals as goal
 

@@ -1,5 +1,4 @@
-use Rattle.std.proofs.Common.{◌≤◌, ◌∙◌, length, sym, arith}
-use Rattle.std.proofs.lemmas.List.{take_all}
+use Rattle.fast_relay.proofs.Common.{◌≤◌, ◌∙◌, length, sym, arith, take_all}
 use Rattle.fast_relay.proofs.copied.copy_few.Goals as goal
 
 pub returns : goal.returns

@@ -1,5 +1,4 @@
-use Rattle.std.proofs.Common.{◌≡◌, ◌<◌, ◌%◌, ℕ}
-use Rattle.std.specs.Prelude.{slice_index}
+use Rattle.fast_relay.proofs.Common.{◌≡◌, ◌<◌, ◌%◌, ℕ, slice_index}
 use Rattle.fast_relay.proofs.cut.count_same.Given as goal
 
 abbrev pub invariant-loop-i : goal.invariant-loop-i

@@ -1,6 +1,4 @@
-use Rattle.std.proofs.Common.{◌≡◌, ◌≤◌, ◌+◌, ◌-◌, length, take, drop, slice_range, arith, length-drop}
-use Rattle.std.proofs.lemmas.List.{take_all}
-use Rattle.fast_wire.specs.Plain.{IsPlain}
+use Rattle.fast_relay.proofs.Common.{◌≡◌, ◌≤◌, ◌+◌, ◌-◌, length, take, drop, slice_range, arith, length-drop, take_all, IsPlain}
 use Rattle.fast_relay.proofs.PlainTexts.{agree, cut_less, slice_length}
 use Rattle.fast_relay.proofs.cut.less_removed.Goals as goal
 

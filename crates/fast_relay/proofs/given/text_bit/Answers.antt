@@ -1,6 +1,4 @@
-use Rattle.std.proofs.Common.{ap, sym, refl, ◌∙◌}
-use Rattle.fast_wire.specs.Entity.{groups}
-use Rattle.fast_value.specs.declared.scalar.Scalar.TheVariants.{Ascii}
+use Rattle.fast_relay.proofs.Common.{ap, sym, refl, ◌∙◌, groups, Ascii}
 use Rattle.fast_relay.proofs.Giving.{copied, initial}
 use Rattle.fast_relay.proofs.given.text_bit.Goals as goal
 

@@ -1,6 +1,4 @@
-use Rattle.std.proofs.Common.{ap, sym, ◌∙◌}
-use Rattle.std.specs.Prelude.{Some}
-use Rattle.fast_field.specs.Values.{of_units}
+use Rattle.fast_relay.proofs.Common.{ap, sym, ◌∙◌, Some, of_units}
 use Rattle.fast_relay.proofs.Giving.{copied, initial}
 use Rattle.fast_relay.proofs.given.units_bit.Goals as goal
 

@@ -1,11 +1,4 @@
-use Rattle.std.specs.Int.{w64}
-use Rattle.std.specs.Int.RustNames.{FitsSigned}
-use Rattle.std.specs.Prelude.{◌≡◌, ◌+ℤ◌, ℤ}
-use Rattle.std.proofs.Common.{rules, subst}
-use Rattle.std.proofs.lemmas.Int.{to_z-of_z}
-use Rattle.fast_dictionary.specs.declared.entry.Entry.TheVariants.{Assigned}
-use Rattle.fast_value.specs.Scalar.{of_integer}
-use Rattle.fast_field.specs.Numbers.{IsFieldNumber}
+use Rattle.fast_relay.proofs.Common.{w64, FitsSigned, ◌≡◌, ◌+ℤ◌, ℤ, rules, subst, to_z-of_z, Assigned, of_integer, IsFieldNumber}
 use Rattle.fast_relay.proofs.judged.add_as.Goals as goal
 
 pub returns-clause-added : goal.returns-clause-added

@@ -1,5 +1,4 @@
-use Rattle.std.proofs.Common.{◌∙◌, sym, arith}
-use Rattle.fast_field.proofs.ReadFields.{bytes_from}
+use Rattle.fast_relay.proofs.Common.{◌∙◌, sym, arith, bytes_from}
 use Rattle.fast_relay.proofs.Needless.{one_less, two_less}
 use Rattle.fast_relay.proofs.Standing.{entity_in, not_overlong}
 use Rattle.fast_relay.proofs.judged.find_behind.Goals.{then-is_overlong, else-is_overlong}

@@ -1,9 +1,4 @@
-use Rattle.std.specs.Int.{w64}
-use Rattle.std.specs.Int.RustNames.{FitsSigned}
-use Rattle.std.specs.Prelude.{◌≡◌, ◌+ℤ◌, pos}
-use Rattle.std.proofs.Common.{rules, refl, sym, ◌∙◌}
-use Rattle.std.proofs.lemmas.Int.{to_z-of_z}
-use Rattle.fast_field.specs.Numbers.{next_number}
+use Rattle.fast_relay.proofs.Common.{w64, FitsSigned, ◌≡◌, ◌+ℤ◌, pos, rules, refl, sym, ◌∙◌, to_z-of_z, next_number}
 use Rattle.fast_relay.proofs.Judging.{increment_gives, increment_sends}
 use Rattle.fast_relay.proofs.judged.judge_increment.Goals as goal
 

@@ -1,8 +1,4 @@
-use Rattle.std.specs.Int.{w64}
-use Rattle.std.specs.Int.RustNames.{FitsSigned}
-use Rattle.std.proofs.Common.{rules, refl}
-use Rattle.std.proofs.lemmas.Int.{to_z-of_z}
-use Rattle.fast_relay.specs.Judged.{LeavesWhole, NumberGives}
+use Rattle.fast_relay.proofs.Common.{w64, FitsSigned, rules, refl, to_z-of_z, LeavesWhole, NumberGives}
 use Rattle.fast_relay.proofs.Judging.{found_as}
 use Rattle.fast_relay.proofs.Taking.{added_gives, whole_gives}
 use Rattle.fast_relay.proofs.judged.judge_number.Goals as goal

@@ -1,5 +1,4 @@
-use Rattle.std.proofs.Common.{arith}
-use Rattle.fast_field.proofs.ReadFields.{bytes_from}
+use Rattle.fast_relay.proofs.Common.{arith, bytes_from}
 use Rattle.fast_relay.proofs.Judging.{stands_at}
 use Rattle.fast_relay.proofs.Standing.{standing_entity}
 use Rattle.fast_relay.proofs.judged.stands_shortest.Goals as goal

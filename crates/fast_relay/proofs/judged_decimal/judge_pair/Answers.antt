@@ -1,12 +1,4 @@
-use Rattle.std.specs.Int.{w64}
-use Rattle.std.specs.Int.RustNames.{FitsSigned}
-use Rattle.std.specs.Prelude.{◌≡◌, ◌+ℤ◌, Some}
-use Rattle.std.proofs.Common.{rules, ◌∙◌}
-use Rattle.std.proofs.lemmas.Int.{to_z-of_z}
-use Rattle.std.proofs.lemmas.Option.{IfSome_then}
-use Rattle.fast_value.specs.declared.scalar.Scalar.TheVariants.{Decimal}
-use Rattle.fast_relay.specs.Judged.{Leaves}
-use Rattle.fast_relay.specs.Numbers.{SpellsWhole}
+use Rattle.fast_relay.proofs.Common.{w64, FitsSigned, ◌≡◌, ◌+ℤ◌, Some, rules, ◌∙◌, to_z-of_z, IfSome_then, Decimal, Leaves, SpellsWhole}
 use Rattle.fast_relay.proofs.DecimalJudging.{decimal_adds, decimal_gives}
 use Rattle.fast_relay.proofs.judged_decimal.judge_pair.Goals as goal
 

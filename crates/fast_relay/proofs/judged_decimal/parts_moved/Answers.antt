@@ -1,8 +1,4 @@
-use Rattle.std.specs.Int.{w64}
-use Rattle.std.specs.Int.RustNames.{FitsSigned}
-use Rattle.std.specs.Prelude.{◌≡◌, ◌+ℤ◌}
-use Rattle.std.proofs.Common.{rules}
-use Rattle.std.proofs.lemmas.Int.{to_z-of_z}
+use Rattle.fast_relay.proofs.Common.{w64, FitsSigned, ◌≡◌, ◌+ℤ◌, rules, to_z-of_z}
 use Rattle.fast_relay.proofs.judged_decimal.parts_moved.Goals as goal
 
 pub returns-clause-exponent : goal.returns-clause-exponent

@@ -1,5 +1,4 @@
-use Rattle.std.proofs.Common.{◌-◌, ◌≡◌, length, take, drop, arith, length-drop}
-use Rattle.std.proofs.lemmas.List.{take_all}
+use Rattle.fast_relay.proofs.Common.{◌-◌, ◌≡◌, length, take, drop, arith, length-drop, take_all}
 use Rattle.fast_relay.proofs.StringJudging.{end_given, end_stands}
 use Rattle.fast_relay.proofs.judged_string.judge_end.Goals as goal
 

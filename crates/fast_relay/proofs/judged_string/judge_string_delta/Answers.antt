@@ -1,6 +1,4 @@
-use Rattle.std.proofs.Common.{◌+◌, ◌-◌, ◌++◌, length, take, slice_range, arith}
-use Rattle.fast_wire.specs.Entity.{groups}
-use Rattle.fast_value.specs.declared.scalar.Scalar.TheVariants.{Ascii}
+use Rattle.fast_relay.proofs.Common.{◌+◌, ◌-◌, ◌++◌, length, take, slice_range, arith, groups, Ascii}
 use Rattle.fast_relay.proofs.StringJudging.{cut_stands}
 use Rattle.fast_relay.proofs.judged_string.judge_string_delta.Goals as goal
 

@@ -1,7 +1,4 @@
-use Rattle.std.proofs.Common.{sym}
-use Rattle.std.specs.Prelude.{Some, slice_range}
-use Rattle.fast_wire.specs.Entity.{groups}
-use Rattle.fast_value.specs.declared.scalar.Scalar.TheVariants.{Ascii}
+use Rattle.fast_relay.proofs.Common.{sym, Some, slice_range, groups, Ascii}
 use Rattle.fast_relay.proofs.StringJudging.{text_stands}
 use Rattle.fast_relay.proofs.Taking.{leaves}
 use Rattle.fast_relay.proofs.judged_string.judge_string_once.Goals as goal

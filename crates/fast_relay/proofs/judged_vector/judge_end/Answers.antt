@@ -1,5 +1,4 @@
-use Rattle.std.proofs.Common.{arith, length, ◌-◌}
-use Rattle.fast_field.specs.Values.{units_of}
+use Rattle.fast_relay.proofs.Common.{arith, length, ◌-◌, units_of}
 use Rattle.fast_relay.proofs.TextRelaying.{text_few}
 use Rattle.fast_relay.proofs.VectorTexts.{end_gives, front_text, put_behind}
 use Rattle.fast_relay.proofs.judged_vector.judge_end.Goals as goal

@@ -1,6 +1,4 @@
-use Rattle.std.proofs.Common.{arith, drop, length, ◌-◌, refl, slice_range}
-use Rattle.std.specs.Prelude.{pos}
-use Rattle.fast_field.specs.Values.{units_of}
+use Rattle.fast_relay.proofs.Common.{arith, drop, length, ◌-◌, refl, slice_range, pos, units_of}
 use Rattle.fast_relay.proofs.Ranges.{range_split}
 use Rattle.fast_relay.proofs.Standing.{shortest_signed}
 use Rattle.fast_relay.proofs.TextRelaying.{text_few}

@@ -1,6 +1,4 @@
-use Rattle.std.proofs.Common.{◌≡◌, arith, rules}
-use Rattle.fast_value.specs.declared.kind.Operator.TheVariants.{Plain}
-use Rattle.fast_value.specs.declared.kind.Presence.TheVariants.{Optional}
+use Rattle.fast_relay.proofs.Common.{◌≡◌, arith, rules, Plain, Optional}
 use Rattle.fast_relay.proofs.ShortLengths.{length_relays, null_length_relays}
 use Rattle.fast_relay.proofs.one_byte.read_short_length.Goals as goal
 

@@ -1,5 +1,4 @@
-use Rattle.std.proofs.Common.{Some, ap, sym, ◌∙◌}
-use Rattle.fast_field.proofs.Passing.{initial_passes, no_initial_passes}
+use Rattle.fast_relay.proofs.Common.{Some, ap, sym, ◌∙◌, initial_passes, no_initial_passes}
 use Rattle.fast_relay.proofs.passed.pass_initial.Goals as goal
 
 pub returns-then-can_begin : goal.returns-then-can_begin

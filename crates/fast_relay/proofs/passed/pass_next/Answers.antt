@@ -1,10 +1,4 @@
-use Rattle.std.specs.Int.{w64}
-use Rattle.std.specs.Int.RustNames.{FitsSigned}
-use Rattle.std.specs.Prelude.{◌+ℤ◌, pos}
-use Rattle.std.proofs.Common.{◌≡◌, rules}
-use Rattle.std.proofs.lemmas.Int.{to_z-of_z}
-use Rattle.fast_field.specs.Numbers.{IsFieldNumber, next_number}
-use Rattle.fast_field.proofs.Passing.{next_passes}
+use Rattle.fast_relay.proofs.Common.{w64, FitsSigned, ◌+ℤ◌, pos, ◌≡◌, rules, to_z-of_z, IsFieldNumber, next_number, next_passes}
 use Rattle.fast_relay.proofs.passed.pass_next.Goals as goal
 
 pub returns : goal.returns

@@ -1,6 +1,4 @@
-use Rattle.std.proofs.Common.{rules, ◌≡◌, ◌++◌, ◌∙◌, true, is_ok, refl, take, inr, ap}
-use Rattle.fast_wire.proofs.UnsignedForms.{entity_some}
-use Rattle.fast_field.proofs.PutTogether.{last_cleared}
+use Rattle.fast_relay.proofs.Common.{rules, ◌≡◌, ◌++◌, ◌∙◌, true, is_ok, refl, take, inr, ap, entity_some, last_cleared}
 use Rattle.fast_relay.proofs.plain.put_anew.Goals as goal
 
 pub returns-in-Ok-clause-put : goal.returns-in-Ok-clause-put

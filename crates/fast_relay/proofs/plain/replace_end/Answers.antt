@@ -1,9 +1,4 @@
-use Rattle.std.proofs.Common.{◌-◌, arith, length}
-use Rattle.std.proofs.lemmas.List.{length-map}
-use Rattle.std.specs.Prelude.{◌%◌}
-use Rattle.fast_wire.specs.Entity.{groups}
-use Rattle.fast_wire.proofs.UnsignedForms.{entity_some}
-use Rattle.fast_field.proofs.CutsAtEnd.{few_shared}
+use Rattle.fast_relay.proofs.Common.{◌-◌, arith, length, length-map, ◌%◌, groups, entity_some, few_shared}
 use Rattle.fast_relay.proofs.plain.replace_end.Goals as goal
 
 pub returns-clause-end : goal.returns-clause-end

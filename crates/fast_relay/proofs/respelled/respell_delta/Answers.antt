@@ -1,7 +1,4 @@
-use Rattle.std.proofs.Common.{◌-◌, ◌∷◌, [], ◌++◌, length, take, drop, slice_range, refl, arith}
-use Rattle.std.specs.Prelude.{Some}
-use Rattle.fast_wire.specs.Entity.{groups}
-use Rattle.fast_value.specs.declared.scalar.Scalar.TheVariants.{Ascii}
+use Rattle.fast_relay.proofs.Common.{◌-◌, ◌∷◌, [], ◌++◌, length, take, drop, slice_range, refl, arith, Some, groups, Ascii}
 use Rattle.fast_relay.proofs.PlainTexts.{characters_text, plain_delta_judges}
 use Rattle.fast_relay.proofs.respelled.respell_delta.Goals as goal
 

@@ -1,7 +1,4 @@
-use Rattle.std.specs.Int.{w64}
-use Rattle.std.specs.Int.RustNames.{FitsSigned}
-use Rattle.std.proofs.Common.{rules}
-use Rattle.std.proofs.lemmas.Int.{to_z-of_z}
+use Rattle.fast_relay.proofs.Common.{w64, FitsSigned, rules, to_z-of_z}
 use Rattle.fast_relay.proofs.Taking.{number_aside}
 use Rattle.fast_relay.proofs.taken.take_number_as.Goals as goal
 

@@ -1,5 +1,4 @@
-use Rattle.std.proofs.Common.{◌+◌, ◌≤◌, length, arith, length-drop}
-use Rattle.std.proofs.lemmas.List.{take_rest}
+use Rattle.fast_relay.proofs.Common.{◌+◌, ◌≤◌, length, arith, length-drop, take_rest}
 use Rattle.fast_relay.proofs.utf8.is_ascii_word.Goals as goal
 
 pub returns-in-Some : goal.returns-in-Some

@@ -1,5 +1,4 @@
-use Rattle.std.proofs.Common.{◌-◌, length}
-use Rattle.fast_relay.specs.Skips.{Skips}
+use Rattle.fast_relay.proofs.Common.{◌-◌, length, Skips}
 use Rattle.fast_relay.proofs.utf8.is_utf8.Given as goal
 
 abbrev pub invariant-loop-at : goal.invariant-loop-at

@@ -1,5 +1,4 @@
-use Rattle.std.proofs.Common.{arith}
-use Rattle.std.proofs.str.Valid.{of_one}
+use Rattle.fast_relay.proofs.Common.{arith, of_one}
 use Rattle.fast_relay.proofs.Utf8Steps.{further}
 use Rattle.fast_relay.proofs.utf8.skip_ascii.Goals as goal
 

@@ -1,5 +1,4 @@
-use Rattle.std.proofs.Common.{arith}
-use Rattle.std.proofs.str.Valid.{of_two}
+use Rattle.fast_relay.proofs.Common.{arith, of_two}
 use Rattle.fast_relay.proofs.Utf8Steps.{further}
 use Rattle.fast_relay.proofs.utf8.skip_pairs.Goals as goal
 

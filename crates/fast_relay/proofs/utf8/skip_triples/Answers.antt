@@ -1,5 +1,4 @@
-use Rattle.std.proofs.Common.{arith, inl}
-use Rattle.std.proofs.str.Valid.{of_three}
+use Rattle.fast_relay.proofs.Common.{arith, inl, of_three}
 use Rattle.fast_relay.proofs.Utf8Steps.{further}
 use Rattle.fast_relay.proofs.utf8.skip_triples.Goals as goal
 

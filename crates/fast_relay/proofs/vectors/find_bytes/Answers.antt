@@ -1,9 +1,4 @@
-use Rattle.std.specs.Int.{w128}
-use Rattle.std.specs.Int.RustNames.{FitsSigned}
-use Rattle.std.specs.Prelude.{ℤ, drop, true}
-use Rattle.std.proofs.Common.{arith, subst, sym, ◌∙◌}
-use Rattle.std.proofs.lemmas.Int.{ints, to_z-of_z}
-use Rattle.fast_relay.specs.Numbers.{Spelt}
+use Rattle.fast_relay.proofs.Common.{w128, FitsSigned, ℤ, drop, true, arith, subst, sym, ◌∙◌, ints, to_z-of_z, Spelt}
 use Rattle.fast_relay.proofs.VectorTexts.{bytes_found}
 use Rattle.fast_relay.proofs.vectors.find_bytes.Goals as goal
 

@@ -1,6 +1,4 @@
-use Rattle.std.proofs.Common.{true, ap, ◌∙◌}
-use Rattle.clap.specs.Words.{App}
-use Rattle.clap.specs.Simple.{app_of_fields, on_top}
+use Rattle.fast_request.proofs.Common.{true, ap, ◌∙◌, App, app_of_fields, on_top}
 use Rattle.fast_request.proofs.request.bare_line.Goals as goal
 
 pub returns : goal.returns

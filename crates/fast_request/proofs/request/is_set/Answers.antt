@@ -1,6 +1,4 @@
-use Rattle.std.proofs.Common.{◌∙◌}
-use Rattle.clap.specs.Words.{found_of}
-use Rattle.clap.proofs.WalkLemmas.{one_text-rows}
+use Rattle.fast_request.proofs.Common.{◌∙◌, found_of, one_text-rows}
 use Rattle.fast_request.proofs.request.is_set.Goals as goal
 
 pub returns : goal.returns

@@ -1,6 +1,4 @@
-use Rattle.std.proofs.Common.{map}
-use Rattle.clap.specs.Words.{app_of, found_of, rows_of}
-use Rattle.fast_request.specs.CommandLine.{asked_by, rows_among}
+use Rattle.fast_request.proofs.Common.{map, app_of, found_of, rows_of, asked_by, rows_among}
 use Rattle.fast_request.proofs.Words.{asks, rows_found}
 use Rattle.fast_request.proofs.request.parse_words.Goals as goal
 

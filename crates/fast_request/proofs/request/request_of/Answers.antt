@@ -1,8 +1,4 @@
-use Rattle.std.proofs.Common.{◌≡◌, ◌∙◌, Option, None, Some, option_map, ap, sym, refl}
-use Rattle.std.specs.Prelude.{codes, option_and_then}
-use Rattle.clap.specs.Words.{Text, first_of, found_of, rows_of}
-use Rattle.fast_request.specs.CommandLine.{command_named}
-use Rattle.fast_command.specs.declared.command.Command.{Command}
+use Rattle.fast_request.proofs.Common.{◌≡◌, ◌∙◌, Option, None, Some, option_map, ap, sym, refl, codes, option_and_then, Text, first_of, found_of, rows_of, command_named, Command}
 use Rattle.fast_request.proofs.request.request_of.Goals as goal
 
 -- a word that names a command is there

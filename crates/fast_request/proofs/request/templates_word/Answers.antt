@@ -1,6 +1,4 @@
-use Rattle.std.proofs.Common.{codes, true, Some, ap, ◌∙◌}
-use Rattle.clap.specs.Words.{Rule, rule_of}
-use Rattle.clap.specs.declared.builder.arg.Arg.{Arg}
+use Rattle.fast_request.proofs.Common.{codes, true, Some, ap, ◌∙◌, Rule, rule_of, Arg}
 use Rattle.fast_request.proofs.request.templates_word.Goals as goal
 
 pub returns-clause-rule : goal.returns-clause-rule

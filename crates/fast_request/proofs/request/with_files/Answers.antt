@@ -1,5 +1,4 @@
-use Rattle.std.proofs.lemmas.Result.{IfOk-weaker}
-use Rattle.std.proofs.Common.{refl}
+use Rattle.fast_request.proofs.Common.{IfOk-weaker, refl}
 use Rattle.fast_request.proofs.Words.{next}
 use Rattle.fast_request.proofs.request.with_files.Goals as goal
 

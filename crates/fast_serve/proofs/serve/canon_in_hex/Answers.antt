@@ -1,8 +1,4 @@
-use Rattle.std.proofs.Common.{Err, List, ℕ, rules, subst}
-use Rattle.std.proofs.lemmas.Result.{err_from_is_err_and}
-use Rattle.fast_host.specs.Devices.{writer_by}
-use Rattle.fast_pass.specs.declared.fault.CanonFault.TheVariants as fault
-use Rattle.fast_serve.specs.Served.{AnswersInHex, CanonInHex}
+use Rattle.fast_serve.proofs.Common.{Err, List, ℕ, rules, subst, err_from_is_err_and, writer_by, CanonFault, AnswersInHex, CanonInHex}
 use Rattle.fast_serve.proofs.Sayings.{failed_line}
 use Rattle.fast_serve.proofs.serve.canon_in_hex.Goals as goal
 
@@ -19,11 +15,11 @@ returns-in_err-write_hex_line-in-Err-Stream g c =
       in_old = _;
       in_new = _;
       bytes = c.run.new.writer.bytes.items;
-      answer = Err (fault.Stream c.in-Err-Stream.fault);
+      answer = Err (CanonFault.Stream c.in-Err-Stream.fault);
       begins = search rules;
       read = record { reads = e.2; bounded = e.3 };
       ran = search rules;
-      answered = subst (λ (b : List ℕ). AnswersInHex old new b (Err (fault.Stream c.in-Err-Stream.fault)) (Err refusal)) c.deref-in-Err-Stream.ensures.value
+      answered = subst (λ (b : List ℕ). AnswersInHex old new b (Err (CanonFault.Stream c.in-Err-Stream.fault)) (Err refusal)) c.deref-in-Err-Stream.ensures.value
           (failed_line old new c.deref-in-Err-Stream.result.now c.in-Err-Stream.fault refusal c.in_err-write_hex_line-in-Err-Stream.ensures);
     } in
     rw (p.1, p.2) all

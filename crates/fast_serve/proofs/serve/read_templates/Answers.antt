@@ -1,6 +1,4 @@
-use Rattle.std.proofs.Common.{ℕ, List, Ok, Err, inl, inr, refl, subst}
-use Rattle.fast_decoder.specs.Inputs.{reader_by}
-use Rattle.fast_serve.specs.Served.{LoadsText}
+use Rattle.fast_serve.proofs.Common.{ℕ, List, Ok, Err, inl, inr, refl, subst, reader_by, LoadsText}
 use Rattle.fast_serve.proofs.Texts.{has_text}
 use Rattle.fast_serve.proofs.serve.read_templates.Goals as goal
 

@@ -1,6 +1,4 @@
-use Rattle.std.proofs.Common.{List, ℕ, ◌∙◌, subst}
-use Rattle.fast_host.specs.Devices.{writer_by}
-use Rattle.fast_serve.specs.Served.{SaysText}
+use Rattle.fast_serve.proofs.Common.{List, ℕ, ◌∙◌, subst, writer_by, SaysText}
 use Rattle.fast_serve.proofs.Sayings.{handed_text}
 use Rattle.fast_serve.proofs.serve.report.Goals as goal
 

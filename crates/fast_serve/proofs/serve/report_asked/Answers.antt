@@ -1,8 +1,4 @@
-use Rattle.std.proofs.Common.{List, ℕ, [], refl, sym, subst}
-use Rattle.std.proofs.lemmas.List.{append-nil}
-use Rattle.fast_host.specs.Devices.{writer_by}
-use Rattle.fast_host.specs.Refusals.{text_of}
-use Rattle.fast_serve.specs.Served.{SaysText}
+use Rattle.fast_serve.proofs.Common.{List, ℕ, [], refl, sym, subst, append-nil, writer_by, text_of, SaysText}
 use Rattle.fast_serve.proofs.serve.report_asked.Goals as goal
 
 pub returns-else-request-clause-said : goal.returns-else-request-clause-said

@@ -1,5 +1,4 @@
-use Rattle.std.proofs.Common.{Err, inl, inr, map, refl}
-use Rattle.fast_request.specs.CommandLine.{asked_by}
+use Rattle.fast_serve.proofs.Common.{Err, inl, inr, map, refl, asked_by}
 use Rattle.fast_serve.proofs.Sayings.{said_alone, said_asked}
 use Rattle.fast_serve.proofs.serve.serve.Goals as goal
 

@@ -1,5 +1,4 @@
-use Rattle.std.proofs.Common.{refl, inl, inr, Err}
-use Rattle.fast_host.specs.declared.refusal.Refusal.TheVariants.{Memory}
+use Rattle.fast_serve.proofs.Common.{refl, inl, inr, Err, Memory}
 use Rattle.fast_serve.proofs.Sayings.{said_alone}
 use Rattle.fast_serve.proofs.serve.serve_words.Goals as goal
 

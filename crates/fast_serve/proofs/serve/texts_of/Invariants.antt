@@ -1,5 +1,4 @@
-use Rattle.std.proofs.Common.{◌≡◌, take}
-use Rattle.std.specs.Prelude.{map, string_bytes}
+use Rattle.fast_serve.proofs.Common.{◌≡◌, take, map, string_bytes}
 use Rattle.fast_serve.proofs.serve.texts_of.Given as goal
 
 abbrev pub invariant-loop-word : goal.invariant-loop-word

@@ -1,7 +1,4 @@
-use Rattle.std.proofs.Common.{ap, arith}
-use Rattle.fast_template.specs.Resolved.{list_of}
-use Rattle.fast_value.specs.declared.kind.Part.TheVariants as part
-use Rattle.fast_walk.proofs.Telling.{asked_for, told_keeps}
+use Rattle.fast_told.proofs.Common.{ap, arith, list_of, Part, asked_for, told_keeps}
 use Rattle.fast_told.proofs.Taking.{tells_none, tells_one}
 use Rattle.fast_told.proofs.fields.tell_field.Goals as goal
 
@@ -22,4 +19,4 @@ returns-in-Ok-clause-kept g c =
     let served = rw (c.requires.first.1) at c.requires.served in
     told_keeps c.args.level c.args.whole.now c.first_for-bit.result (g.E.Entries.contents c.args.entries.now) (g.E.Entries.contents c.tell.new.entries) c.args.bytes.now c.args.fields.now.place c.in-Ok.next
     (λ k. omega (arith, c.type_inv.bytes k)) (asked_for c.args.whole.now c.part_needs_bit-needs.result c.first_for-bit.result c.args.bits.now c.part_needs_bit-needs.ensures c.first_for-bit.ensures)
-    part.Whole c.args.whole.now.kind c.in-Ok.ensures.told.0 tt served.0.0.1 c.in-Ok.ensures.told.1 c.requires.kept
+    Part.Whole c.args.whole.now.kind c.in-Ok.ensures.told.0 tt served.0.0.1 c.in-Ok.ensures.told.1 c.requires.kept

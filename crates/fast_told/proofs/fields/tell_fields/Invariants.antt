@@ -1,8 +1,4 @@
-use Rattle.std.proofs.Common.{◌≡◌, ◌≤◌, None, length}
-use Rattle.fast_template.specs.Resolved.{list_of}
-use Rattle.fast_walk.specs.Told.{KeepScalars}
-use Rattle.fast_walk.specs.Walks.{AreServed}
-use Rattle.fast_told.specs.Taking.{TellsFields}
+use Rattle.fast_told.proofs.Common.{◌≡◌, ◌≤◌, None, length, list_of, KeepScalars, AreServed, TellsFields}
 use Rattle.fast_told.proofs.fields.tell_fields.Given as goal
 
 abbrev pub invariant-fields : goal.invariant-fields

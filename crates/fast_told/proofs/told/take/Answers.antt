@@ -1,6 +1,4 @@
-use Rattle.std.proofs.Common.{ap, ◌∙◌, refl, drop, arith}
-use Rattle.fast_field.specs.Found.{assigned_of}
-use Rattle.fast_part.proofs.TakenKinds.{took_as_usual}
+use Rattle.fast_told.proofs.Common.{ap, ◌∙◌, refl, drop, arith, assigned_of, took_as_usual}
 use Rattle.fast_told.proofs.ToldFields.{tells}
 use Rattle.fast_told.proofs.told.take.Goals as goal
 

@@ -1,14 +1,4 @@
-use Rattle.std.proofs.Common.{ap, subst, ◌∙◌}
-use Rattle.std.specs.Result.{is_ok}
-use Rattle.std.proofs.lemmas.Result.{err_from_is_err_and}
-use Rattle.fast_dictionary.specs.Dictionary.{set_entry, set_entry-there}
-use Rattle.fast_walk.proofs.Passings.{took_of}
-use Rattle.fast_value.specs.declared.kind.Part.TheVariants as part
-use Rattle.fast_value.specs.declared.kind.Presence.{Presence}
-use Rattle.fast_stream.specs.Nodes.{single}
-use Rattle.fast_lines.specs.Lines.{field_text}
-use Rattle.fast_told.specs.Told.{Said, line_now}
-use Rattle.fast_walk.proofs.Telling.{kept_hold, told_part}
+use Rattle.fast_told.proofs.Common.{ap, subst, ◌∙◌, is_ok, err_from_is_err_and, set_entry, set_entry-there, took_of, Part, Presence, single, field_text, Said, line_now, kept_hold, told_part}
 use Rattle.fast_told.proofs.told.tell.Goals as goal
 
 pub returns-in_err-next-clause-stops : goal.returns-in_err-next-clause-stops
@@ -37,6 +27,6 @@ returns-clause-told g c =
 pub take-requires-clause-next : goal.take-requires-clause-next
 take-requires-clause-next g c = record {
   place = c.requires.place;
-  part = told_part part.Whole c.args.part.now.kind c.args.part.now tt c.requires.told;
+  part = told_part Part.Whole c.args.part.now.kind c.args.part.now tt c.requires.told;
   entry = rw (c.in_ok-entry.ensures.value) (kept_hold (g.E.Entries.contents c.args.entries.now) c.requires.kept c.args.part.now.key);
 }

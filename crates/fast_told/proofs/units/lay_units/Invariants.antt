@@ -1,7 +1,4 @@
-use Rattle.std.proofs.Common.{◌≡◌, ◌≤◌, ◌+◌, ◌*◌, ◌-◌, length, drop}
-use Rattle.std.specs.List.{flat_map}
-use Rattle.fast_lines.specs.Pieces.{laid}
-use Rattle.fast_lines.specs.Signs.{unit_text}
+use Rattle.fast_told.proofs.Common.{◌≡◌, ◌≤◌, ◌+◌, ◌*◌, ◌-◌, length, drop, flat_map, laid, unit_text}
 use Rattle.fast_told.proofs.units.lay_units.Given as goal
 
 abbrev pub invariant-loop-left : goal.invariant-loop-left

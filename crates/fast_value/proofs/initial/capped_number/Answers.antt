@@ -1,5 +1,4 @@
-use Rattle.std.proofs.Common.{◌≡◌, ◌<◌, ◌+◌, ◌-◌, ◌*◌, ◌^◌, rules, length, drop, min, fold, get_or, sym, ap, ◌∙◌}
-use Rattle.std.proofs.lemmas.List.{drop_more}
+use Rattle.fast_value.proofs.Common.{◌≡◌, ◌<◌, ◌+◌, ◌-◌, ◌*◌, ◌^◌, rules, length, drop, min, fold, get_or, sym, ap, ◌∙◌, drop_more}
 use Rattle.fast_value.proofs.NumberLaws.{capped_fold}
 use Rattle.fast_value.proofs.initial.capped_number.Goals as goal
 

@@ -1,7 +1,4 @@
-use Rattle.std.proofs.Common.{◌≡◌, ◌==◌, rules, Some}
-use Rattle.std.specs.List.{before_first, after_first}
-use Rattle.fast_value.specs.InitialValues.{integer_of}
-use Rattle.fast_value.specs.Numbers.{small_integer}
+use Rattle.fast_value.proofs.Common.{◌≡◌, ◌==◌, rules, Some, before_first, after_first, integer_of, small_integer}
 use Rattle.fast_value.proofs.NumberLaws.{decimal_some}
 use Rattle.fast_value.proofs.initial.decimal.Goals as goal
 

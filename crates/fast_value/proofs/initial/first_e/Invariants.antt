@@ -1,5 +1,4 @@
-use Rattle.std.proofs.Common.{◌≡◌, ◌+◌, ◌==◌, drop}
-use Rattle.std.specs.List.{position_or_len}
+use Rattle.fast_value.proofs.Common.{◌≡◌, ◌+◌, ◌==◌, drop, position_or_len}
 use Rattle.fast_value.proofs.initial.first_e.Given as goal
 
 abbrev pub invariant-loop-at : goal.invariant-loop-at

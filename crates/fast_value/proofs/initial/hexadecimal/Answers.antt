@@ -1,8 +1,4 @@
-use Rattle.std.proofs.Common.{ap, sym, ◌∙◌, Some}
-use Rattle.hex.specs.Hex.{decode_of}
-use Rattle.std.specs.Prelude.{is_some}
-use Rattle.fast_value.specs.InitialValues.{hex_bytes_of}
-use Rattle.fast_value.specs.declared.scalar.Scalar.TheVariants.{Bytes}
+use Rattle.fast_value.proofs.Common.{ap, sym, ◌∙◌, Some, decode_of, is_some, hex_bytes_of, Bytes}
 use Rattle.fast_value.proofs.HexTexts.{value_of_hex, spelled_none, spelled_bytes}
 use Rattle.fast_value.proofs.initial.hexadecimal.Goals as goal
 

@@ -1,5 +1,4 @@
-use Rattle.std.proofs.Common.{arith, sym, ◌∙◌}
-use Rattle.std.proofs.lemmas.Bool.{leb-true}
+use Rattle.fast_value.proofs.Common.{arith, sym, ◌∙◌, leb-true}
 use Rattle.fast_value.proofs.HexTexts.{spells_by_digits, odd_spells_none, long_spells_none}
 use Rattle.fast_value.proofs.initial.spells_bytes.Goals as goal
 use Rattle.fast_value.proofs.initial.spells_bytes.Goals.{then-text, else-text}

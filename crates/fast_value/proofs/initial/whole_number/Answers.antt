@@ -1,6 +1,4 @@
-use Rattle.std.proofs.Common.{◌≡◌, rules, true, false, sym, ap, ◌∙◌, Some}
-use Rattle.fast_value.specs.InitialValues.{where_so, in_range_of}
-use Rattle.fast_value.specs.Scalar.{in_range, of_integer}
+use Rattle.fast_value.proofs.Common.{◌≡◌, rules, true, false, sym, ap, ◌∙◌, Some, where_so, in_range_of, in_range, of_integer}
 use Rattle.fast_value.proofs.NumberLaws.{integer_value_some, integer_value_none, in_type}
 use Rattle.fast_value.proofs.initial.whole_number.Goals as goal
 

@@ -1,5 +1,4 @@
-use Rattle.std.proofs.Common.{drop, refl}
-use Rattle.fast_wire.proofs.GoingOn.{map_goes}
+use Rattle.fast_walk.proofs.Common.{drop, refl, map_goes}
 use Rattle.fast_walk.proofs.Steps.{judge_goes}
 use Rattle.fast_walk.proofs.bits.read_own_map.Goals as goal
 

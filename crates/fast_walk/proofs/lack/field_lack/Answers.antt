@@ -1,5 +1,4 @@
-use Rattle.std.proofs.Common.{rules}
-use Rattle.std.proofs.lemmas.Option.{IfSome_then}
+use Rattle.fast_walk.proofs.Common.{rules, IfSome_then}
 use Rattle.fast_walk.proofs.Lacking.{entity_lacks, vector_lacks}
 use Rattle.fast_walk.proofs.lack.field_lack.Goals as goal
 

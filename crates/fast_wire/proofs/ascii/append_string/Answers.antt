@@ -1,5 +1,4 @@
-use Rattle.std.proofs.Common.{rules, arith, ◌≡◌, is_ok, true, refl}
-use Rattle.std.proofs.lemmas.Result.{err_from_is_err_and}
+use Rattle.fast_wire.proofs.Common.{rules, arith, ◌≡◌, is_ok, true, refl, err_from_is_err_and}
 use Rattle.fast_wire.proofs.AsciiForms.{string_length, written_last}
 use Rattle.fast_wire.proofs.ascii.append_string.Goals as goal
 

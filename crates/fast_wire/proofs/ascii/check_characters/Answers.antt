@@ -1,6 +1,4 @@
-use Rattle.std.proofs.Common.{◌≡◌, ℕ, Option, Some, None, MatchOption, false, arith, rules}
-use Rattle.std.proofs.lemmas.List.{get_or_default}
-use Rattle.std.specs.Option.{is_some}
+use Rattle.fast_wire.proofs.Common.{◌≡◌, ℕ, Option, Some, None, MatchOption, false, arith, rules, get_or_default, is_some}
 use Rattle.fast_wire.proofs.ascii.check_characters.Goals as goal
 
 pub returns-then-is_some : goal.returns-then-is_some

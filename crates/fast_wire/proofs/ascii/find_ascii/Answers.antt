@@ -1,8 +1,4 @@
-use Rattle.std.proofs.Common.{◌∙◌, sym, drop, length, slice_range, Ok}
-use Rattle.std.proofs.lemmas.Result.{err_from_is_err_and}
-use Rattle.fast_wire.specs.Entity.{groups}
-use Rattle.fast_wire.specs.Reading.{NothingElse, ascii_at, entity_at, characters, within_limit, ◌>>=◌}
-use Rattle.fast_wire.specs.Spans.{text_in}
+use Rattle.fast_wire.proofs.Common.{◌∙◌, sym, drop, length, slice_range, Ok, err_from_is_err_and, groups, NothingElse, ascii_at, entity_at, characters, within_limit, ◌>>=◌, text_in}
 use Rattle.fast_wire.proofs.FormReaders.{fails_then, string_given, string_too_long}
 use Rattle.fast_wire.proofs.AsciiForms.{characters_behind}
 use Rattle.fast_wire.proofs.ascii.find_ascii.Goals as goal

@@ -1,10 +1,4 @@
-use Rattle.std.proofs.Common.{◌∙◌, ap, sym, arith, drop, slice_range, Ok}
-use Rattle.std.proofs.lemmas.Result.{err_from_is_err_and}
-use Rattle.fast_wire.specs.Entity.{groups}
-use Rattle.fast_wire.specs.Nullable.{units}
-use Rattle.fast_wire.specs.Reading.{NothingElse, ascii_nullable_at, entity_at, nullable_characters, within_limit, ◌>>=◌}
-use Rattle.fast_wire.specs.Spans.{text_in}
-use Rattle.fast_wire.specs.declared.nullable.Nullable.TheVariants.{Null, Value}
+use Rattle.fast_wire.proofs.Common.{◌∙◌, ap, sym, arith, drop, slice_range, Ok, err_from_is_err_and, groups, units, NothingElse, ascii_nullable_at, entity_at, nullable_characters, within_limit, ◌>>=◌, text_in, Null, Value}
 use Rattle.fast_wire.proofs.FormReaders.{fails_then, string_given, string_too_long}
 use Rattle.fast_wire.proofs.AsciiForms.{null_here, value_here, first_byte}
 use Rattle.fast_wire.proofs.ascii.find_ascii_nullable.Goals as goal

@@ -1,5 +1,4 @@
-use Rattle.std.proofs.Common.{arith}
-use Rattle.fast_wire.specs.Nullable.{items_of}
+use Rattle.fast_wire.proofs.Common.{arith, items_of}
 use Rattle.fast_wire.proofs.Calls.{ascii_nullable_answers}
 use Rattle.fast_wire.proofs.ascii.read_ascii_nullable.Goals as goal
 

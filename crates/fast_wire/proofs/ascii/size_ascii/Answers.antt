@@ -1,5 +1,4 @@
-use Rattle.std.proofs.Common.{◌∙◌, ◌+◌, ap, sym, length}
-use Rattle.fast_wire.specs.Spellings.{preamble_for}
+use Rattle.fast_wire.proofs.Common.{◌∙◌, ◌+◌, ap, sym, length, preamble_for}
 use Rattle.fast_wire.proofs.AsciiForms.{ascii_shortest, string_length}
 use Rattle.fast_wire.proofs.ascii.size_ascii.Goals as goal
 

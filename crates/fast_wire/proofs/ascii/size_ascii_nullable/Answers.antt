@@ -1,6 +1,4 @@
-use Rattle.std.proofs.Common.{◌∙◌, ◌+◌, ap, sym, length, refl}
-use Rattle.fast_wire.specs.Ascii.{IsAsciiText}
-use Rattle.fast_wire.specs.Spellings.{preamble_for}
+use Rattle.fast_wire.proofs.Common.{◌∙◌, ◌+◌, ap, sym, length, refl, IsAsciiText, preamble_for}
 use Rattle.fast_wire.proofs.AsciiForms.{ascii_nullable_shortest, ascii_null_shortest, string_length}
 use Rattle.fast_wire.proofs.ascii.size_ascii_nullable.Goals as goal
 

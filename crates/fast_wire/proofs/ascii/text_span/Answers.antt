@@ -1,7 +1,4 @@
-use Rattle.std.proofs.Common.{◌+◌, ◌-◌, ◌∙◌, ap, sym, arith, drop, length-take, slice_range}
-use Rattle.std.proofs.lemmas.List.{drop-map, length-map}
-use Rattle.std.specs.Prelude.{◌%◌}
-use Rattle.fast_wire.specs.Entity.{groups}
+use Rattle.fast_wire.proofs.Common.{◌+◌, ◌-◌, ◌∙◌, ap, sym, arith, drop, length-take, slice_range, drop-map, length-map, ◌%◌, groups}
 use Rattle.fast_wire.proofs.AsciiForms.{entity_tail, slice_behind}
 use Rattle.fast_wire.proofs.ascii.text_span.Goals as goal
 

@@ -1,6 +1,4 @@
-use Rattle.std.proofs.Common.{◌≡◌, ◌+◌, ◌-◌, ◌%◌, ◌<◌, ◌∙◌, sym, ap, arith, get_or, drop}
-use Rattle.fast_wire.specs.Entity.{groups}
-use Rattle.fast_wire.specs.Spellings.{behind_zeros}
+use Rattle.fast_wire.proofs.Common.{◌≡◌, ◌+◌, ◌-◌, ◌%◌, ◌<◌, ◌∙◌, sym, ap, arith, get_or, drop, groups, behind_zeros}
 use Rattle.fast_wire.proofs.AsciiForms.{behind_next, behind_stop, behind_least}
 use Rattle.fast_wire.proofs.ascii.zero_groups.Goals as goal
 

@@ -1,6 +1,4 @@
-use Rattle.std.proofs.Common.{◌≡◌, ◌-◌, drop}
-use Rattle.fast_wire.specs.Entity.{groups}
-use Rattle.fast_wire.specs.Spellings.{behind_zeros}
+use Rattle.fast_wire.proofs.Common.{◌≡◌, ◌-◌, drop, groups, behind_zeros}
 use Rattle.fast_wire.proofs.ascii.zero_groups.Given as goal
 
 abbrev pub invariant-loop-i : goal.invariant-loop-i

@@ -1,10 +1,4 @@
-use Rattle.std.proofs.Common.{rules, drop, Ok, refl}
-use Rattle.std.specs.Int.{w128}
-use Rattle.std.proofs.lemmas.Int.{to_z-of_z}
-use mir.Val.{SFits}
-use Rattle.std.proofs.lemmas.Result.{err_from_is_err_and}
-use Rattle.fast_wire.specs.Integer.{signed_of}
-use Rattle.fast_wire.specs.Reading.{NothingElse, signed_at, entity_at}
+use Rattle.fast_wire.proofs.Common.{rules, drop, Ok, refl, w128, to_z-of_z, SFits, err_from_is_err_and, signed_of, NothingElse, signed_at, entity_at}
 use Rattle.fast_wire.proofs.FormReaders.{fails_then}
 use Rattle.fast_wire.proofs.integer.complement_from.Goals as goal
 

@@ -1,8 +1,4 @@
-use Rattle.std.proofs.Common.{◌≡◌, ◌-◌, ◌+◌, ◌*◌, ◌^◌, ◌≤◌, ◌∙◌, ap, suc, arith}
-use Rattle.std.specs.Int.{w128}
-use Rattle.std.proofs.lemmas.Int.{to_z-of_z}
-use Rattle.fast_wire.specs.Integer.{magnitude}
-use Rattle.std.proofs.Math.Nat.{pow-suc}
+use Rattle.fast_wire.proofs.Common.{◌≡◌, ◌-◌, ◌+◌, ◌*◌, ◌^◌, ◌≤◌, ◌∙◌, ap, suc, arith, w128, to_z-of_z, magnitude, pow-suc}
 use Rattle.fast_wire.proofs.integer.least_signed_size.Goals as goal
 
 pub loop-size-preserved : goal.loop-size-preserved

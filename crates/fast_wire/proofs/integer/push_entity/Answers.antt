@@ -1,5 +1,4 @@
-use Rattle.std.proofs.Common.{◌≡◌, ◌∙◌, ◌-◌, ◌/◌, ◌*◌, ◌^◌, ◌%◌, ◌++◌, ◌∷◌, [], refl, ap, arith, is_ok, true, length, length-append, vec_len, rules}
-use Rattle.fast_wire.specs.Spellings.{entity_of}
+use Rattle.fast_wire.proofs.Common.{◌≡◌, ◌∙◌, ◌-◌, ◌/◌, ◌*◌, ◌^◌, ◌%◌, ◌++◌, ◌∷◌, [], refl, ap, arith, is_ok, true, length, length-append, vec_len, rules, entity_of}
 use Rattle.fast_wire.proofs.UnsignedForms.{entity_step, entity_length}
 use Rattle.fast_wire.proofs.integer.push_entity.Goals as goal
 

@@ -1,5 +1,4 @@
-use Rattle.std.proofs.Common.{◌≡◌, ◌+◌, ◌++◌, ◌≤◌, length}
-use Rattle.fast_wire.specs.Spellings.{entity_of}
+use Rattle.fast_wire.proofs.Common.{◌≡◌, ◌+◌, ◌++◌, ◌≤◌, length, entity_of}
 use Rattle.fast_wire.proofs.integer.push_entity.Given as goal
 
 abbrev pub invariant-loop-left : goal.invariant-loop-left

@@ -1,5 +1,4 @@
-use Rattle.std.proofs.Common.{◌≡◌, ◌∙◌, ◌-◌, ◌/◌, ◌*◌, ◌^◌, ◌%◌, ◌++◌, ◌∷◌, [], refl, ap, arith, is_ok, true, length, length-append}
-use Rattle.fast_wire.specs.Spellings.{entity_of}
+use Rattle.fast_wire.proofs.Common.{◌≡◌, ◌∙◌, ◌-◌, ◌/◌, ◌*◌, ◌^◌, ◌%◌, ◌++◌, ◌∷◌, [], refl, ap, arith, is_ok, true, length, length-append, entity_of}
 use Rattle.fast_wire.proofs.UnsignedForms.{entity_step}
 use Rattle.fast_wire.proofs.integer.push_short_entity.Goals as goal
 

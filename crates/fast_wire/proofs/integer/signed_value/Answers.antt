@@ -1,6 +1,4 @@
-use Rattle.std.proofs.Common.{◌^◌, ◌∙◌, sym, arith, length}
-use Rattle.std.specs.Int.{w128}
-use Rattle.std.proofs.lemmas.Int.{to_z_pos}
+use Rattle.fast_wire.proofs.Common.{◌^◌, ◌∙◌, sym, arith, length, w128, to_z_pos}
 use Rattle.fast_wire.proofs.Numbers.{pow_ten}
 use Rattle.fast_wire.proofs.SignedNumbers.{span_is, small_fits, signed_below, signed_above, parts_fit, parts_are}
 use Rattle.fast_wire.proofs.integer.signed_value.Goals as goal

@@ -1,7 +1,4 @@
-use Rattle.std.proofs.Common.{sym}
-use Rattle.std.specs.Int.{w128}
-use Rattle.std.proofs.lemmas.Int.{to_z-of_z}
-use Rattle.fast_wire.specs.Spellings.{entity_of}
+use Rattle.fast_wire.proofs.Common.{sym, w128, to_z-of_z, entity_of}
 use Rattle.fast_wire.proofs.UnsignedForms.{entity_length}
 use Rattle.fast_wire.proofs.SignedForms.{signed_shortest, lift}
 use Rattle.fast_wire.proofs.Sizes.{signed_least}

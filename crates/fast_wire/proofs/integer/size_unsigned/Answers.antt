@@ -1,5 +1,4 @@
-use Rattle.std.proofs.Common.{sym}
-use Rattle.fast_wire.specs.Spellings.{entity_of}
+use Rattle.fast_wire.proofs.Common.{sym, entity_of}
 use Rattle.fast_wire.proofs.UnsignedForms.{entity_shortest, entity_length}
 use Rattle.fast_wire.proofs.Sizes.{unsigned_least}
 use Rattle.fast_wire.proofs.integer.size_unsigned.Goals as goal

@@ -1,7 +1,4 @@
-use Rattle.std.proofs.Common.{drop, Ok, refl}
-use Rattle.std.proofs.lemmas.Result.{err_from_is_err_and}
-use Rattle.fast_wire.specs.Reading.{NothingElse, unsigned_at, entity_at}
-use Rattle.fast_wire.specs.Integer.{unsigned_of}
+use Rattle.fast_wire.proofs.Common.{drop, Ok, refl, err_from_is_err_and, NothingElse, unsigned_at, entity_at, unsigned_of}
 use Rattle.fast_wire.proofs.FormReaders.{fails_then}
 use Rattle.fast_wire.proofs.integer.unsigned_from.Goals as goal
 

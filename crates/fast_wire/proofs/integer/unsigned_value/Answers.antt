@@ -1,6 +1,4 @@
-use Rattle.std.proofs.Common.{arith}
-use Rattle.std.proofs.Math.Nat.{pow-suc}
-use Rattle.std.proofs.Math.Numerals.{add-one}
+use Rattle.fast_wire.proofs.Common.{arith, pow-suc, add-one}
 use Rattle.fast_wire.proofs.Numbers.{unsigned_more, pow_ten}
 use Rattle.fast_wire.proofs.integer.unsigned_value.Goals as goal
 

@@ -1,5 +1,4 @@
-use Rattle.std.proofs.Common.{◌≡◌, ◌^◌, ◌<◌, take}
-use Rattle.fast_wire.specs.Integer.{unsigned_of}
+use Rattle.fast_wire.proofs.Common.{◌≡◌, ◌^◌, ◌<◌, take, unsigned_of}
 use Rattle.fast_wire.proofs.integer.unsigned_value.Given as goal
 
 abbrev pub invariant-loop-byte : goal.invariant-loop-byte

@@ -1,9 +1,4 @@
-use Rattle.std.proofs.Common.{◌≡◌, ◌∙◌, ◌-◌, ◌*◌, ◌%◌, ◌^◌, sym, ap, true, false, pos}
-use Rattle.std.specs.Int.{w128}
-use Rattle.std.proofs.lemmas.Int.{to_z-of_z}
-use lib.Signed.{lt_z}
-use Rattle.fast_wire.specs.Integer.{magnitude}
-use Rattle.fast_wire.specs.Spellings.{entity_of, IsLeastSignedSize}
+use Rattle.fast_wire.proofs.Common.{◌≡◌, ◌∙◌, ◌-◌, ◌*◌, ◌%◌, ◌^◌, sym, ap, true, false, pos, w128, to_z-of_z, lt_z, magnitude, entity_of, IsLeastSignedSize}
 use Rattle.fast_wire.proofs.SignedNumbers.{span_is}
 use Rattle.fast_wire.proofs.SignedForms.{signed_shortest, lift, lift_below, lift_above, size_room}
 use Rattle.fast_wire.proofs.Written.{signed_appended}

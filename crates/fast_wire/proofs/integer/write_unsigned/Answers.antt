@@ -1,7 +1,4 @@
-use Rattle.fast_wire.specs.Integer.{IsUnsigned}
-use Rattle.fast_wire.specs.Sizes.{CanBeUnsigned}
-use Rattle.fast_wire.specs.Spellings.{entity_of}
-use Rattle.fast_wire.specs.Writing.{OutOfRange}
+use Rattle.fast_wire.proofs.Common.{IsUnsigned, CanBeUnsigned, entity_of, OutOfRange}
 use Rattle.fast_wire.proofs.FormSizes.{unsigned_sizes}
 use Rattle.fast_wire.proofs.UnsignedForms.{entity_shortest}
 use Rattle.fast_wire.proofs.Written.{appended}

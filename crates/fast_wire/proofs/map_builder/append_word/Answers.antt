@@ -1,6 +1,4 @@
-use Rattle.std.proofs.Common.{◌≡◌, ◌-◌, ◌+◌, ◌*◌, ◌/◌, ◌%◌, ◌^◌, ◌<◌, arith}
-use Rattle.std.proofs.lemmas.Nat.{shl_whole, shl_below, shr_below}
-use Rattle.fast_wire.specs.PresenceMap.{word_bits}
+use Rattle.fast_wire.proofs.Common.{◌≡◌, ◌-◌, ◌+◌, ◌*◌, ◌/◌, ◌%◌, ◌^◌, ◌<◌, arith, shl_whole, shl_below, shr_below, word_bits}
 use Rattle.fast_wire.proofs.Numbers.{pow_bits}
 use Rattle.fast_wire.proofs.WordForms.{front_bits, some_groups, word_appended, word_length}
 use Rattle.fast_wire.proofs.map_builder.append_word.Goals as goal

@@ -1,5 +1,4 @@
-use Rattle.std.proofs.Common.{◌≡◌, ◌∙◌, ◌-◌, ◌/◌, ◌%◌, ◌^◌, ◌++◌, ◌∷◌, [], nat_eq, refl, ap, arith, is_ok, true, length, length-append, append-nil, sym, rules}
-use Rattle.fast_wire.specs.PresenceMap.{word_bits}
+use Rattle.fast_wire.proofs.Common.{◌≡◌, ◌∙◌, ◌-◌, ◌/◌, ◌%◌, ◌^◌, ◌++◌, ◌∷◌, [], nat_eq, refl, ap, arith, is_ok, true, length, length-append, append-nil, sym, rules, word_bits}
 use Rattle.fast_wire.proofs.WordForms.{bits_step}
 use Rattle.fast_wire.proofs.MarkedWords.{empty_is, kept_long, kept_word}
 use Rattle.fast_wire.proofs.map_builder.push_behind.Goals as goal

@@ -1,5 +1,4 @@
-use Rattle.std.proofs.Common.{◌≡◌, ◌+◌, ◌++◌, ◌≤◌, length}
-use Rattle.fast_wire.specs.PresenceMap.{word_bits}
+use Rattle.fast_wire.proofs.Common.{◌≡◌, ◌+◌, ◌++◌, ◌≤◌, length, word_bits}
 use Rattle.fast_wire.proofs.map_builder.push_behind.Given as goal
 
 abbrev pub invariant-loop-left : goal.invariant-loop-left

@@ -1,9 +1,4 @@
-use Rattle.std.proofs.Common.{drop, Ok, refl}
-use Rattle.std.specs.Int.{w128}
-use Rattle.std.proofs.lemmas.Int.{to_z-of_z}
-use Rattle.std.proofs.lemmas.Result.{err_from_is_err_and}
-use Rattle.fast_wire.specs.Nullable.{received_signed}
-use Rattle.fast_wire.specs.Reading.{NothingElse, signed_at, signed_nullable_at}
+use Rattle.fast_wire.proofs.Common.{drop, Ok, refl, w128, to_z-of_z, err_from_is_err_and, received_signed, NothingElse, signed_at, signed_nullable_at}
 use Rattle.fast_wire.proofs.FormReaders.{fails_then}
 use Rattle.fast_wire.proofs.SignedForms.{signed_fit}
 use Rattle.fast_wire.proofs.nullable.complement_nullable_from.Goals as goal

@@ -1,8 +1,4 @@
-use Rattle.std.proofs.Common.{◌∙◌, ap, arith, rules}
-use Rattle.std.specs.Int.{w128}
-use Rattle.std.proofs.lemmas.Int.{to_z-of_z}
-use mir.Val.{SFits}
-use Rattle.fast_wire.specs.Sizes.{signed_size, signed_nullable_size}
+use Rattle.fast_wire.proofs.Common.{◌∙◌, ap, arith, rules, w128, to_z-of_z, SFits, signed_size, signed_nullable_size}
 use Rattle.fast_wire.proofs.nullable.size_signed_nullable.Goals as goal
 
 pub returns-clause-size : goal.returns-clause-size

@@ -1,5 +1,4 @@
-use Rattle.std.proofs.Common.{◌∙◌, ap, arith}
-use Rattle.fast_wire.specs.Sizes.{unsigned_size, unsigned_nullable_size}
+use Rattle.fast_wire.proofs.Common.{◌∙◌, ap, arith, unsigned_size, unsigned_nullable_size}
 use Rattle.fast_wire.proofs.nullable.size_unsigned_nullable.Goals as goal
 
 pub returns-clause-size : goal.returns-clause-size

@@ -1,7 +1,4 @@
-use Rattle.std.proofs.Common.{drop, Ok, refl}
-use Rattle.std.proofs.lemmas.Result.{err_from_is_err_and}
-use Rattle.fast_wire.specs.Nullable.{received_unsigned}
-use Rattle.fast_wire.specs.Reading.{NothingElse, unsigned_at, unsigned_nullable_at}
+use Rattle.fast_wire.proofs.Common.{drop, Ok, refl, err_from_is_err_and, received_unsigned, NothingElse, unsigned_at, unsigned_nullable_at}
 use Rattle.fast_wire.proofs.FormReaders.{fails_then}
 use Rattle.fast_wire.proofs.nullable.unsigned_nullable_from.Goals as goal
 

@@ -1,7 +1,4 @@
-use Rattle.std.proofs.Common.{rules}
-use Rattle.std.specs.Int.{w128}
-use Rattle.std.proofs.lemmas.Int.{to_z-of_z}
-use mir.Val.{SFits}
+use Rattle.fast_wire.proofs.Common.{rules, w128, to_z-of_z, SFits}
 use Rattle.fast_wire.proofs.Written.{sent_written}
 use Rattle.fast_wire.proofs.nullable.write_signed_nullable.Goals as goal
 

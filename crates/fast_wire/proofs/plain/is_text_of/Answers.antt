@@ -1,5 +1,4 @@
-use Rattle.std.proofs.Common.{arith, refl}
-use Rattle.std.proofs.lemmas.Grind.{common_steps}
+use Rattle.fast_wire.proofs.Common.{arith, refl, common_steps}
 use Rattle.fast_wire.proofs.plain.is_text_of.Goals as goal
 
 pub returns-then-text-form : goal.returns-then-text-form

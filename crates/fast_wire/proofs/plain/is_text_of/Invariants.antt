@@ -1,5 +1,4 @@
-use Rattle.std.proofs.Common.{◌≡◌, take}
-use Rattle.fast_wire.specs.Entity.{groups}
+use Rattle.fast_wire.proofs.Common.{◌≡◌, take, groups}
 use Rattle.fast_wire.proofs.plain.is_text_of.Given as goal
 
 abbrev pub invariant-loop-i : goal.invariant-loop-i

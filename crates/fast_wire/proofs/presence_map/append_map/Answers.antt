@@ -1,6 +1,5 @@
-use Rattle.std.proofs.Common.{◌≡◌, ◌∙◌, ◌-◌, ◌+◌, ◌*◌, ◌∷◌, [], refl, ap, arith, is_ok, true, length, length-append}
+use Rattle.fast_wire.proofs.Common.{◌≡◌, ◌∙◌, ◌-◌, ◌+◌, ◌*◌, ◌∷◌, [], refl, ap, arith, is_ok, true, length, length-append, err_from_is_err_and}
 use Rattle.fast_wire.proofs.MapForms.{map_length, map_step}
-use Rattle.std.proofs.lemmas.Result.{err_from_is_err_and}
 use Rattle.fast_wire.proofs.presence_map.append_map.Goals as goal
 
 pub loop-i-preserved : goal.loop-i-preserved

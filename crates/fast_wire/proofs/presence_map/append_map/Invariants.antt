@@ -1,5 +1,4 @@
-use Rattle.std.proofs.Common.{◌≡◌, ◌+◌, ◌-◌, ◌*◌, ◌++◌, ◌≤◌, length}
-use Rattle.fast_wire.specs.Spellings.{map_of}
+use Rattle.fast_wire.proofs.Common.{◌≡◌, ◌+◌, ◌-◌, ◌*◌, ◌++◌, ◌≤◌, length, map_of}
 use Rattle.fast_wire.proofs.presence_map.append_map.Given as goal
 
 abbrev pub invariant-loop-i : goal.invariant-loop-i

@@ -1,8 +1,4 @@
-use Rattle.std.proofs.Common.{drop, append-nil, Ok, refl, inr}
-use Rattle.std.proofs.lemmas.Result.{err_from_is_err_and}
-use Rattle.fast_wire.specs.Entity.{groups}
-use Rattle.fast_wire.specs.PresenceMap.{bits_of}
-use Rattle.fast_wire.specs.Reading.{OrMemory, map_at, entity_at}
+use Rattle.fast_wire.proofs.Common.{drop, append-nil, Ok, refl, inr, err_from_is_err_and, groups, bits_of, OrMemory, map_at, entity_at}
 use Rattle.fast_wire.proofs.FormReaders.{fails_then}
 use Rattle.fast_wire.proofs.WordBits.{short_map}
 use Rattle.fast_wire.proofs.presence_map.map_from.Goals as goal

@@ -1,5 +1,4 @@
-use Rattle.std.proofs.Common.{◌≡◌, ◌≤◌, ℕ, false}
-use Rattle.fast_wire.specs.PresenceMap.{bit_at}
+use Rattle.fast_wire.proofs.Common.{◌≡◌, ◌≤◌, ℕ, false, bit_at}
 use Rattle.fast_wire.proofs.presence_map.used_bits.Given as goal
 
 abbrev pub invariant-loop-i : goal.invariant-loop-i

@@ -1,7 +1,4 @@
-use Rattle.fast_wire.specs.PresenceMap.{IsMap}
-use Rattle.fast_wire.specs.Writing.{TooManyBits}
-use Rattle.fast_wire.specs.declared.fault.WireFault.TheVariants as fault
-use Rattle.std.proofs.Common.{refl}
+use Rattle.fast_wire.proofs.Common.{IsMap, TooManyBits, WireFault, refl}
 use Rattle.fast_wire.proofs.MapForms.{used_set}
 use Rattle.fast_wire.proofs.Written.{group_appended, map_appended, turned_away}
 use Rattle.fast_wire.proofs.presence_map.write_map.Goals as goal
@@ -12,7 +9,7 @@ returns-then-bits-le-GROUP_BITS c =
 
 pub returns-then-used : goal.returns-then-used
 returns-then-used c =
-    turned_away IsMap TooManyBits c.args.out.now c.args.bits.now fault.TooLong (refl, used_set c.args.bits.now c.used_bits-used.result 1792 c.used_bits-used.ensures.used c.if-used.true) (λ d f. f.0)
+    turned_away IsMap TooManyBits c.args.out.now c.args.bits.now WireFault.TooLong (refl, used_set c.args.bits.now c.used_bits-used.result 1792 c.used_bits-used.ensures.used c.if-used.true) (λ d f. f.0)
 
 pub returns : goal.returns
 returns c =

@@ -1,9 +1,4 @@
-use Rattle.std.proofs.Common.{◌≡◌, ◌+◌, ◌-◌, ◌*◌, ◌%◌, ◌<◌, ◌≤◌, length, get_or, take, drop, refl, ap, ◌∙◌, arith, rules, length-take, length-drop, below_more}
-use Rattle.std.specs.Int.{w64}
-use Rattle.std.proofs.lemmas.Int.{to_z-of_z}
-use mir.Val.{SFits}
-use Rattle.fast_wire.specs.Integer.{unsigned_of}
-use Rattle.fast_wire.specs.Spellings.{under_sign}
+use Rattle.fast_wire.proofs.Common.{◌≡◌, ◌+◌, ◌-◌, ◌*◌, ◌%◌, ◌<◌, ◌≤◌, length, get_or, take, drop, refl, ap, ◌∙◌, arith, rules, length-take, length-drop, below_more, w64, to_z-of_z, SFits, unsigned_of, under_sign}
 use Rattle.fast_wire.proofs.ShortIntegers.{byte_behind, first_under, front_bound, short_found, step_is, under_fits, value_more}
 use Rattle.fast_wire.proofs.short_integer.longer_entity.Goals as goal
 

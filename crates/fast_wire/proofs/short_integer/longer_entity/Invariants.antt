@@ -1,6 +1,4 @@
-use Rattle.std.proofs.Common.{◌≡◌, ℕ, ◌-◌, ◌<◌, drop, take, slice_index}
-use Rattle.fast_wire.specs.Integer.{unsigned_of}
-use Rattle.fast_wire.specs.Spellings.{under_sign}
+use Rattle.fast_wire.proofs.Common.{◌≡◌, ℕ, ◌-◌, ◌<◌, drop, take, slice_index, unsigned_of, under_sign}
 use Rattle.fast_wire.proofs.short_integer.longer_entity.Given as goal
 
 abbrev pub invariant-loop-i : goal.invariant-loop-i

@@ -1,10 +1,4 @@
-use Rattle.std.proofs.Common.{◌≡◌, ◌∙◌, rules}
-use Rattle.std.specs.Int.{w64, w128}
-use Rattle.std.proofs.lemmas.Int.{to_z-of_z}
-use mir.Val.{SFits}
-use Rattle.fast_wire.specs.Integer.{IsSigned}
-use Rattle.fast_wire.specs.Sizes.{CanBeSigned}
-use Rattle.fast_wire.specs.Writing.{OutOfRange}
+use Rattle.fast_wire.proofs.Common.{◌≡◌, ◌∙◌, rules, w64, w128, to_z-of_z, SFits, IsSigned, CanBeSigned, OutOfRange}
 use Rattle.fast_wire.proofs.Written.{lift_is, not_refused, short_can, signed_byte_appended}
 use Rattle.fast_wire.proofs.short_integer.write_i64.Goals as goal
 

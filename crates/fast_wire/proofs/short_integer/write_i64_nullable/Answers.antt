@@ -1,12 +1,5 @@
-use Rattle.std.proofs.Common.{◌≡◌, ◌∙◌, ap, rules, refl, arith}
-use Rattle.std.specs.Int.{w64, w128}
-use Rattle.std.proofs.lemmas.Int.{to_z-of_z}
-use mir.Val.{SFits}
-use Rattle.fast_wire.specs.Nullable.{IsSignedNullable, sent_signed}
-use Rattle.fast_wire.specs.Sizes.{CanBeSignedNullable}
-use Rattle.fast_wire.specs.Writing.{OutOfRange}
+use Rattle.fast_wire.proofs.Common.{◌≡◌, ◌∙◌, ap, rules, refl, arith, w64, w128, to_z-of_z, SFits, IsSignedNullable, sent_signed, CanBeSignedNullable, OutOfRange, Null, Value}
 use Rattle.fast_wire.proofs.SignedForms.{lift}
-use Rattle.fast_wire.specs.declared.nullable.Nullable.TheVariants.{Null, Value}
 use Rattle.fast_wire.proofs.Written.{lift_is, not_refused, short_nullable_can, signed_byte_nullable_appended}
 use Rattle.fast_wire.proofs.short_integer.write_i64_nullable.Goals as goal
 

@@ -1,7 +1,4 @@
-use Rattle.std.proofs.Common.{arith}
-use Rattle.fast_wire.specs.Integer.{IsUnsigned}
-use Rattle.fast_wire.specs.Sizes.{CanBeUnsigned}
-use Rattle.fast_wire.specs.Writing.{OutOfRange}
+use Rattle.fast_wire.proofs.Common.{arith, IsUnsigned, CanBeUnsigned, OutOfRange}
 use Rattle.fast_wire.proofs.Written.{byte_appended, not_refused}
 use Rattle.fast_wire.proofs.short_integer.write_u64.Goals as goal
 

@@ -1,8 +1,4 @@
-use Rattle.std.proofs.Common.{arith}
-use Rattle.fast_wire.specs.Nullable.{IsUnsignedNullable}
-use Rattle.fast_wire.specs.Sizes.{CanBeUnsignedNullable}
-use Rattle.fast_wire.specs.Writing.{OutOfRange}
-use Rattle.fast_wire.specs.declared.nullable.Nullable.TheVariants.{Null, Value}
+use Rattle.fast_wire.proofs.Common.{arith, IsUnsignedNullable, CanBeUnsignedNullable, OutOfRange, Null, Value}
 use Rattle.fast_wire.proofs.Written.{byte_nullable_appended, not_refused}
 use Rattle.fast_wire.proofs.short_integer.write_u64_nullable.Goals as goal
 

@@ -1,6 +1,4 @@
-use Rattle.std.proofs.Common.{◌+◌, drop, arith, length-drop, inl}
-use Rattle.std.proofs.lemmas.List.{take_rest}
-use Rattle.fast_wire.specs.declared.fault.WireFault.TheVariants as fault
+use Rattle.fast_wire.proofs.Common.{◌+◌, drop, arith, length-drop, inl, take_rest, WireFault}
 use Rattle.fast_wire.proofs.Entities.{entity_from}
 use Rattle.fast_wire.proofs.FormReaders.{entity_given, fault_given, window_waits, window_passes}
 use Rattle.fast_wire.proofs.stop_bit.entity_end.Goals as goal
@@ -26,8 +24,8 @@ returns-in-None-clause-gives c =
     elim c.if-rest-limit.branch [
       | then-rest-limit w ↦
           let few = rw take_rest at w.if-rest-limit.true in
-          rw w.missing-is (inl (fault_given c.args.limit c.args.bytes.now c.args.at fault.NeedMore c.requires.place (omega (arith, few, length-drop c.args.at c.args.bytes.now), window_waits rest c.args.limit c.min.result size few none)))
+          rw w.missing-is (inl (fault_given c.args.limit c.args.bytes.now c.args.at WireFault.NeedMore c.requires.place (omega (arith, few, length-drop c.args.at c.args.bytes.now), window_waits rest c.args.limit c.min.result size few none)))
       | else-rest-limit w ↦
           let many = rw take_rest at w.if-rest-limit.false in
-          rw w.missing-is (inl (fault_given c.args.limit c.args.bytes.now c.args.at fault.TooLong c.requires.place (omega (arith, many, c.requires.some, length-drop c.args.at c.args.bytes.now), window_passes rest c.args.limit c.min.result size many none)))
+          rw w.missing-is (inl (fault_given c.args.limit c.args.bytes.now c.args.at WireFault.TooLong c.requires.place (omega (arith, many, c.requires.some, length-drop c.args.at c.args.bytes.now), window_passes rest c.args.limit c.min.result size many none)))
     ]

@@ -1,6 +1,4 @@
-use Rattle.std.proofs.Common.{arith, length-append, refl}
-use Rattle.std.proofs.lemmas.Result.{err_from_is_err_and}
-use Rattle.fast_wire.specs.Spellings.{entity_of}
+use Rattle.fast_wire.proofs.Common.{arith, length-append, refl, err_from_is_err_and, entity_of}
 use Rattle.fast_wire.proofs.Calls.{all_bytes}
 use Rattle.fast_wire.proofs.UnsignedForms.{entity_length}
 use Rattle.fast_wire.proofs.vector.append_vector.Goals as goal

@@ -1,6 +1,4 @@
-use Rattle.std.proofs.Common.{drop}
-use Rattle.std.proofs.lemmas.Result.{err_from_is_err_and}
-use Rattle.fast_wire.specs.Reading.{NothingElse, bytes_at, unsigned_at, vector_at}
+use Rattle.fast_wire.proofs.Common.{drop, err_from_is_err_and, NothingElse, bytes_at, unsigned_at, vector_at}
 use Rattle.fast_wire.proofs.FormReaders.{fails_then}
 use Rattle.fast_wire.proofs.vector.find_vector.Goals as goal
 

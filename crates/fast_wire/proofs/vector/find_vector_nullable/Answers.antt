@@ -1,7 +1,4 @@
-use Rattle.std.proofs.Common.{drop, refl, Ok}
-use Rattle.std.proofs.lemmas.Result.{err_from_is_err_and}
-use Rattle.fast_wire.specs.Reading.{NothingElse, bytes_at, behind_length, unsigned_nullable_at, vector_nullable_at}
-use Rattle.fast_wire.specs.declared.nullable.Nullable.TheVariants.{Value}
+use Rattle.fast_wire.proofs.Common.{drop, refl, Ok, err_from_is_err_and, NothingElse, bytes_at, behind_length, unsigned_nullable_at, vector_nullable_at, Value}
 use Rattle.fast_wire.proofs.FormReaders.{fails_then}
 use Rattle.fast_wire.proofs.vector.find_vector_nullable.Goals as goal
 

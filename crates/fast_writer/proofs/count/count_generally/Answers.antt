@@ -1,11 +1,4 @@
-use Rattle.std.proofs.Common.{sym, ap, subst, ◌∙◌, Option}
-use Rattle.std.specs.Prelude.{IfSome, IsTrue}
-use Rattle.fast_value.specs.Scalar.{is_of}
-use Rattle.fast_value.specs.declared.kind.Kind.{Kind}
-use Rattle.fast_value.specs.declared.kind.Kind.TheVariants as kind
-use Rattle.fast_value.specs.declared.scalar.Scalar.{Scalar}
-use Rattle.fast_dictionary.specs.declared.entry.Entry.{Entry}
-use Rattle.fast_field.specs.Found.{value_found}
+use Rattle.fast_writer.proofs.Common.{sym, ap, subst, ◌∙◌, Option, IfSome, IsTrue, is_of, Kind, Scalar, Entry, value_found}
 use Rattle.fast_writer.proofs.SpeltParts.{appended_kinds}
 use Rattle.fast_writer.proofs.count.count_generally.Goals as goal
 
@@ -14,5 +7,5 @@ number_in-number-requires c =
     let i = c.args.part.now in
     let v = value_found i c.relay_entry.new.entry c.in_ok-found.found in
     let value = c.value.ensures ∙ ap (λ (e : Entry). value_found i e c.in_ok-found.found) c.view.ensures in
-    subst (λ (o : Option Scalar). IfSome o (λ w. IsTrue (is_of kind.UInt32 w))) (sym value)
+    subst (λ (o : Option Scalar). IfSome o (λ w. IsTrue (is_of Kind.UInt32 w))) (sym value)
     (subst (λ (k : Kind). IfSome v (λ w. IsTrue (is_of k w))) c.requires.kind (appended_kinds i c.args.entry.now v c.in_ok-found.best c.args.out.now.items c.relay_entry.new.out.items c.requires.part.typed c.in_ok-found.ensures.relayed.form))

@@ -1,7 +1,4 @@
-use Rattle.std.proofs.Common.{ap}
-use Rattle.std.specs.Result.{is_ok}
-use Rattle.std.proofs.lemmas.Result.{err_from_is_err_and}
-use Rattle.fast_writer.specs.Levels.{level_of}
+use Rattle.fast_writer.proofs.Common.{ap, is_ok, err_from_is_err_and, level_of}
 use Rattle.fast_writer.proofs.Relays.{relays_under, stops_under}
 use Rattle.fast_writer.proofs.count.relay_count.Goals as goal
 

@@ -1,5 +1,4 @@
-use Rattle.std.proofs.Common.{◌≡◌, false, refl, rules, arith, sym, ◌∙◌, true≢false}
-use Rattle.std.proofs.lemmas.Bool.{true_from_ne_false}
+use Rattle.fast_writer.proofs.Common.{◌≡◌, false, refl, rules, arith, sym, ◌∙◌, true≢false, true_from_ne_false}
 use Rattle.fast_writer.proofs.Relays.{passes_relayed, relays_under}
 use Rattle.fast_writer.proofs.count.relay_identifier.Goals as goal
 

@@ -1,5 +1,4 @@
-use Rattle.std.proofs.Common.{refl}
-use Rattle.fast_writer.specs.Levels.{level_of}
+use Rattle.fast_writer.proofs.Common.{refl, level_of}
 use Rattle.fast_writer.proofs.Relays.{byte_relays}
 use Rattle.fast_writer.proofs.count.relay_length.Goals.{in-Err, in-Ok}
 use Rattle.fast_writer.proofs.count.relay_length.Goals as goal

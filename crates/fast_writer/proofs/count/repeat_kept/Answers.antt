@@ -1,5 +1,4 @@
-use Rattle.std.proofs.Common.{ap}
-use Rattle.std.specs.Result.{is_ok}
+use Rattle.fast_writer.proofs.Common.{ap, is_ok}
 use Rattle.fast_writer.proofs.Relays.{repeated_put}
 use Rattle.fast_writer.proofs.count.repeat_kept.Goals as goal
 

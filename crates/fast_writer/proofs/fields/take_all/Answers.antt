@@ -1,6 +1,4 @@
-use Rattle.std.proofs.Common.{◌≡◌, ◌-◌, None, Some, arith, length, refl, sym, ◌∙◌}
-use Rattle.fast_value.specs.declared.kind.Part.TheVariants as part
-use Rattle.fast_walk.proofs.Telling.{told_part}
+use Rattle.fast_writer.proofs.Common.{◌≡◌, ◌-◌, None, Some, arith, length, refl, sym, ◌∙◌, Part, told_part}
 use Rattle.fast_writer.proofs.Takings.{ahead, none_ahead, served_ahead, took_mantissa, took_next, took_none}
 use Rattle.fast_writer.proofs.fields.take_all.Goals as goal
 
@@ -15,7 +13,7 @@ take_part-requires-clause-part g c =
     let front = ahead c.args.rest.now inv.within inv.others c.in-Some.ensures.value in
     let serves = g.E.Entries.serves c.pieces.entries in
     let first = c.in-Some-default-None in
-    told_part part.Whole first.whole.now.kind first.whole.now tt (rw (first.field-0-1-is) at (first.ensures.served serves (served_ahead serves front inv.took.served).0).1)
+    told_part Part.Whole first.whole.now.kind first.whole.now tt (rw (first.field-0-1-is) at (first.ensures.served serves (served_ahead serves front inv.took.served).0).1)
 
 pub pieces-preserved-in-Part : goal.pieces-preserved-in-Part
 pieces-preserved-in-Part g c =

@@ -1,7 +1,4 @@
-use Rattle.std.proofs.Common.{◌≡◌, ◌≤◌, ◌-◌, None, drop, length}
-use Rattle.fast_writer.specs.Runs.{IsRun}
-use Rattle.fast_writer.specs.Levels.{level_in}
-use Rattle.fast_writer.specs.Takings.{TookFields}
+use Rattle.fast_writer.proofs.Common.{◌≡◌, ◌≤◌, ◌-◌, None, drop, length, IsRun, level_in, TookFields}
 use Rattle.fast_writer.proofs.fields.take_all.Given as goal
 
 abbrev pub invariant-pieces : goal.invariant-pieces

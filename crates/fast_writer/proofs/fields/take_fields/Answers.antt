@@ -1,5 +1,4 @@
-use Rattle.std.proofs.Common.{◌≡◌, ◌-◌, arith, drop, length, length-drop, take}
-use Rattle.std.proofs.lemmas.List.{take_all}
+use Rattle.fast_writer.proofs.Common.{◌≡◌, ◌-◌, arith, drop, length, length-drop, take, take_all}
 use Rattle.fast_writer.proofs.Relays.{begun}
 use Rattle.fast_writer.proofs.fields.take_fields.Goals as goal
 

@@ -1,6 +1,4 @@
-use Rattle.std.proofs.Common.{◌≡◌, false, arith, sym}
-use Rattle.fast_template.specs.Resolved.{part_needs_bit}
-use Rattle.fast_stream.specs.Bits.{bit_for}
+use Rattle.fast_writer.proofs.Common.{◌≡◌, false, arith, sym, part_needs_bit, bit_for}
 use Rattle.fast_writer.proofs.Relays.{passes_relayed}
 use Rattle.fast_writer.proofs.Takings.{ended, taken}
 use Rattle.fast_writer.proofs.fields.take_given.Goals as goal

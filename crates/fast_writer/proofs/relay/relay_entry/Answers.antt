@@ -1,22 +1,4 @@
-use Rattle.std.proofs.Common.{◌≡◌, ℕ, List, Option, Ok, drop, true, false, [], sym, ◌∙◌, append-nil, arith, true≢false}
-use Rattle.fast_wire.specs.Reader.{IsBytes}
-use Rattle.fast_template.specs.declared.resolved.FieldPart.{FieldPart}
-use Rattle.fast_value.specs.declared.scalar.Scalar.{Scalar}
-use Rattle.fast_dictionary.specs.declared.entry.Entry.{Entry}
-use Rattle.fast_wire.specs.declared.level.Level.{Level}
-use Rattle.fast_wire.specs.declared.level.Level.TheVariants.{Usual}
-use Rattle.fast_field.specs.Deltas.{Cut}
-use Rattle.fast_field.specs.Fields.{FormBy}
-use Rattle.fast_field.specs.Best.{IsBest}
-use Rattle.fast_field.specs.Parts.{HasDefault}
-use Rattle.fast_field.specs.FieldReading.{field_at}
-use Rattle.fast_field.proofs.FieldForms.{field_forms}
-use Rattle.fast_field.proofs.FieldsBehave.{read_usually}
-use Rattle.fast_field.proofs.BestForms.{bit_zero_is_best, bit_zero_row}
-use Rattle.std.proofs.lemmas.Bool.{true_from_ne_false}
-use Rattle.fast_template.specs.Resolved.{part_needs_bit}
-use Rattle.fast_field.specs.Found.{value_found}
-use Rattle.fast_field.proofs.ReadFields.{bytes_from}
+use Rattle.fast_writer.proofs.Common.{◌≡◌, ℕ, List, Option, Ok, drop, true, false, [], sym, ◌∙◌, append-nil, arith, true≢false, IsBytes, FieldPart, Scalar, Entry, Level, Usual, Cut, FormBy, IsBest, HasDefault, field_at, field_forms, read_usually, bit_zero_is_best, bit_zero_row, true_from_ne_false, part_needs_bit, value_found, bytes_from}
 use Rattle.fast_writer.proofs.relay.relay_entry.Goals as goal
 
 repeated_best : (level : Level) (i : FieldPart) (e : Entry) (bytes rest : List ℕ) (v : Option Scalar) → HasDefault i → IsBytes bytes → part_needs_bit i ≡ true

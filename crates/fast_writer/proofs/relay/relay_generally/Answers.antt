@@ -1,8 +1,4 @@
-use Rattle.std.proofs.Common.{ap, ◌∙◌, Option}
-use Rattle.std.specs.Option.{is_some}
-use Rattle.fast_value.specs.declared.scalar.Scalar.{Scalar}
-use Rattle.fast_dictionary.specs.declared.entry.Entry.{Entry}
-use Rattle.fast_field.specs.Found.{value_found}
+use Rattle.fast_writer.proofs.Common.{ap, ◌∙◌, Option, is_some, Scalar, Entry, value_found}
 use Rattle.fast_writer.proofs.SpeltParts.{appended_kinds, is_there, still_some}
 use Rattle.fast_writer.proofs.relay.relay_generally.Goals as goal
 

@@ -1,6 +1,4 @@
-use Rattle.std.proofs.Common.{arith, drop}
-use Rattle.fast_field.specs.Found.{value_found}
-use Rattle.fast_field.proofs.ReadFields.{bytes_from}
+use Rattle.fast_writer.proofs.Common.{arith, drop, value_found, bytes_from}
 use Rattle.fast_writer.proofs.SpeltParts.{only_memory}
 use Rattle.fast_writer.proofs.relay.rewrite.Goals as goal
 

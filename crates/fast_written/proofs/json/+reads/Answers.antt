@@ -1,25 +1,12 @@
-use Rattle.std.proofs.Common.{◌≡◌, ◌+◌, ◌∷◌, ◌++◌, [], Err, get_or, drop, rules, arith, map, Ok, option_map, sym, ap, subst, ◌∙◌}
-use Rattle.std.specs.Option.{option_map_or}
-use Rattle.std.specs.declared.alloc.Global.{Global}
-use Rattle.std.specs.declared.vec.Vec.{Vec}
-use Rattle.fast_written.specs.declared.written.Instruction.{Instruction}
-use Rattle.serde_json.specs.Find.{get, get_member}
-use Rattle.serde_json.specs.View.{view, items_view, members_view}
-use Rattle.serde_json.proofs.Views.{view-Object, view_of_ref, view-lookup}
-use Rattle.fast_written.specs.declared.profile.Word.TheVariants as word
-use Rattle.fast_written.specs.Profile.{word_text}
-use Rattle.fast_written.specs.JsonTemplates.{ReadsAs, members_in, one_of, read_all, read_items}
-use Rattle.fast_written.specs.LoadFaults.{next_number}
-use Rattle.std.proofs.lemmas.List.{map_push}
+use Rattle.fast_written.proofs.Common.{◌≡◌, ◌+◌, ◌∷◌, ◌++◌, [], Err, get_or, drop, rules, arith, map, Ok, option_map, sym, ap, subst, ◌∙◌, option_map_or, Global, Vec, Instruction, get, get_member, view, items_view, members_view, view-Object, view_of_ref, view-lookup, Word, word_text, ReadsAs, members_in, one_of, read_all, read_items, next_number, map_push, no_written, written_list, written_of}
 use Rattle.fast_written.proofs.JsonReading.{behind, one_more, one_at_fault, all_read, fails}
-use Rattle.fast_written.specs.Written.{no_written, written_list, written_of}
 use Rattle.fast_written.proofs.json.+reads.Goals as goal
 
 pub read_members-returns-in-Some : goal.read_members-returns-in-Some
 read_members-returns-in-Some t c =
     let ms = c.in-Object.members.entries in
-    let found : option_map (λ x. view x.now) c.get.result ≡ get (word_text word.Instructions) (view c.args.object.now) =
-    view_of_ref c.get.result ∙ ap (option_map view) c.get.ensures.value ∙ view-lookup c.text_of_word.result.now ms ∙ ap (λ n. get_member n (members_view ms)) c.text_of_word.ensures ∙ ap (get (word_text word.Instructions)) (sym (ap view c.in-Object.is ∙ view-Object c.in-Object.members)) in
+    let found : option_map (λ x. view x.now) c.get.result ≡ get (word_text Word.Instructions) (view c.args.object.now) =
+    view_of_ref c.get.result ∙ ap (option_map view) c.get.ensures.value ∙ view-lookup c.text_of_word.result.now ms ∙ ap (λ n. get_member n (members_view ms)) c.text_of_word.ensures ∙ ap (get (word_text Word.Instructions)) (sym (ap view c.in-Object.is ∙ view-Object c.in-Object.members)) in
     let members : read_all (view c.in-Some.list.now) c.args.number ≡ members_in (view c.args.object.now) c.args.number =
     ap (λ r. option_map_or (λ e. read_all e c.args.number) (option_map (λ x. view x.now) r) (Ok (no_written, c.args.number))) (sym c.in-Some.is) ∙ ap (λ o. option_map_or (λ e. read_all e c.args.number) o (Ok (no_written, c.args.number))) found in
     subst (ReadsAs (λ instructions. written_list (map written_of instructions.items)) c.read_all.result) members c.read_all.ensures
@@ -27,8 +14,8 @@ read_members-returns-in-Some t c =
 pub read_members-returns-in-None : goal.read_members-returns-in-None
 read_members-returns-in-None t c =
     let ms = c.in-Object.members.entries in
-    let found : option_map (λ x. view x.now) c.get.result ≡ get (word_text word.Instructions) (view c.args.object.now) =
-    view_of_ref c.get.result ∙ ap (option_map view) c.get.ensures.value ∙ view-lookup c.text_of_word.result.now ms ∙ ap (λ n. get_member n (members_view ms)) c.text_of_word.ensures ∙ ap (get (word_text word.Instructions)) (sym (ap view c.in-Object.is ∙ view-Object c.in-Object.members)) in
+    let found : option_map (λ x. view x.now) c.get.result ≡ get (word_text Word.Instructions) (view c.args.object.now) =
+    view_of_ref c.get.result ∙ ap (option_map view) c.get.ensures.value ∙ view-lookup c.text_of_word.result.now ms ∙ ap (λ n. get_member n (members_view ms)) c.text_of_word.ensures ∙ ap (get (word_text Word.Instructions)) (sym (ap view c.in-Object.is ∙ view-Object c.in-Object.members)) in
     sym (ap (λ o. option_map_or (λ e. read_all e c.args.number) o (Ok (no_written, c.args.number))) (sym (ap (option_map (λ x. view x.now)) c.in-None.is) ∙ found)) ∙ ap (λ items. Ok (written_list (map written_of items), c.args.number)) (sym c.new.ensures.items)
 
 pub read_values-returns-in_err-instruction : goal.read_values-returns-in_err-instruction

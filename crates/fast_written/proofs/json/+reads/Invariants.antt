@@ -1,7 +1,4 @@
-use Rattle.std.proofs.Common.{◌≡◌, drop, map}
-use Rattle.serde_json.specs.View.{items_view}
-use Rattle.fast_written.specs.JsonTemplates.{read_items}
-use Rattle.fast_written.specs.Written.{written_of}
+use Rattle.fast_written.proofs.Common.{◌≡◌, drop, map, items_view, read_items, written_of}
 use Rattle.fast_written.proofs.JsonReading.{behind}
 use Rattle.fast_written.proofs.json.+reads.Given as goal
 

@@ -1,7 +1,4 @@
-use Rattle.std.proofs.Common.{◌≡◌, ◌+◌, min, drop, map, option_map}
-use Rattle.serde_json.specs.View.{items_view}
-use Rattle.fast_written.specs.JsonTemplates.{read_templates}
-use Rattle.fast_written.specs.Written.{written_template_of}
+use Rattle.fast_written.proofs.Common.{◌≡◌, ◌+◌, min, drop, map, option_map, items_view, read_templates, written_template_of}
 use Rattle.fast_written.proofs.JsonReading.{templates_behind}
 use Rattle.fast_written.proofs.json.read_templates.Given as goal
 

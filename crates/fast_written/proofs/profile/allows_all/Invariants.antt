@@ -1,6 +1,4 @@
-use Rattle.std.proofs.Common.{◌≡◌}
-use Rattle.serde_json.specs.View.{members_view}
-use Rattle.fast_written.specs.Profile.{all_allowed}
+use Rattle.fast_written.proofs.Common.{◌≡◌, members_view, all_allowed}
 use Rattle.fast_written.proofs.profile.allows_all.Given as goal
 
 abbrev pub invariant-loop-key : goal.invariant-loop-key

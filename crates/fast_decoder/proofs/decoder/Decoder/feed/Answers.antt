@@ -1,7 +1,5 @@
-use Rattle.std.proofs.Common.{[], ◌++◌, map, sym, ◌∙◌, ap, append-nil}
-use Rattle.fast_stream.specs.Nodes.{content_of}
+use Rattle.fast_decoder.proofs.Common.{[], ◌++◌, map, sym, ◌∙◌, ap, append-nil, content_of, none_mapped}
 use Rattle.fast_decoder.proofs.Builders.{follows_rebased, whole_of_follows}
-use Rattle.fast_walk.proofs.Walking.{none_mapped}
 use Rattle.fast_decoder.proofs.decoder.Decoder.feed.Goals as goal
 
 pub returns-clause-follows : goal.returns-clause-follows

@@ -1,5 +1,4 @@
-use Rattle.std.proofs.Common.{[], ap}
-use Rattle.std.proofs.lemmas.Result.{IfErr-weaker, on_ok_weaker}
+use Rattle.fast_decoder.proofs.Common.{[], ap, IfErr-weaker, on_ok_weaker}
 use Rattle.fast_decoder.proofs.decoder.Decoder.finish.Goals as goal
 
 pub returns-clause-truncated : goal.returns-clause-truncated

@@ -1,5 +1,4 @@
-use Rattle.std.proofs.Common.{[]}
-use Rattle.fast_template.specs.TemplateSets.{templates_in}
+use Rattle.fast_decoder.proofs.Common.{[], templates_in}
 use Rattle.fast_decoder.proofs.decoder.Decoder.new.Goals as goal
 
 pub returns-clause-follows : goal.returns-clause-follows

@@ -1,5 +1,4 @@
-use Rattle.std.proofs.Common.{◌≡◌, ◌++◌, ◌+◌, length, refl, sym, ap, ◌∙◌, rules, append-nil}
-use Rattle.std.proofs.lemmas.List.{nil_from_length}
+use Rattle.fast_decoder.proofs.Common.{◌≡◌, ◌++◌, ◌+◌, length, refl, sym, ap, ◌∙◌, rules, append-nil, nil_from_length}
 use Rattle.fast_decoder.proofs.Calls.{reads_none, reads_on, same_as, same_on}
 use Rattle.fast_decoder.proofs.Inputs.{causes_end, causes_weaker, repeats_kept, repeats_open, stands_popped}
 use Rattle.fast_decoder.proofs.input.MessageInputStream.read_message.Goals as goal

@@ -1,7 +1,4 @@
-use Rattle.fast_decoder.specs.declared.input.Reached.TheVariants as reached
-use Rattle.std.proofs.Common.{ℕ, ◌<◌, ◌++◌, [], take, refl, arith, append-nil, length-append, length-take}
-use Rattle.fast_decoder.specs.Calls.{reader_of}
-use Rattle.fast_decoder.specs.Inputs.{Reader, reader_by, waiting_in}
+use Rattle.fast_decoder.proofs.Common.{Reached, ℕ, ◌<◌, ◌++◌, [], take, refl, arith, append-nil, length-append, length-take, reader_of, Reader, reader_by, waiting_in}
 use Rattle.fast_decoder.proofs.Inputs.{caused_by_end, caused_by_feed, caused_by_read, empty_read, failed_read, of_bytes, one_read, pushed_waits, refused_by_bytes, refused_by_read}
 use Rattle.fast_decoder.proofs.input.MessageInputStream.read_on.Given as given
 use Rattle.fast_decoder.proofs.input.MessageInputStream.read_on.Goals as goal
@@ -73,7 +70,7 @@ returns-in-Err-fed-clause-reads g c =
           let refused = (rw (c.in-Err-fed.ensures.answer) at e.2.at).0 in
           rw (c.requires.reached, same) (
             refused_by_bytes f _ _ c.args.self.now.turns _ _ _ (λ is. absurd (more is)) refused,
-            caused_by_feed (reached.Fault f) (reader_of c.args.self.now) (read_by g c.pull.new.self) (λ e. absurd cc) (of_bytes f _ _ _ refused.2 more) p.error (p.end.1 some),
+            caused_by_feed (Reached.Fault f) (reader_of c.args.self.now) (read_by g c.pull.new.self) (λ e. absurd cc) (of_bytes f _ _ _ refused.2 more) p.error (p.end.1 some),
           );
     }
 

@@ -1,5 +1,4 @@
-use Rattle.std.proofs.Common.{◌≡◌, ◌∷◌, [], ◌++◌, sym, ◌∙◌, ap}
-use Rattle.fast_dictionary.specs.Dictionary.{Dictionary, from_pairs, set_entry}
+use Rattle.fast_dictionary.proofs.Common.{◌≡◌, ◌∷◌, [], ◌++◌, sym, ◌∙◌, ap, Dictionary, from_pairs, set_entry}
 use Rattle.fast_dictionary.proofs.OrderedMaps.{onto, onto-append, onto_empty}
 use Rattle.fast_dictionary.proofs.map.MapEntriesEntries.copy.Goals as goal
 

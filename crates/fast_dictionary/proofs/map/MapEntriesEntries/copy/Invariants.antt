@@ -1,5 +1,4 @@
-use Rattle.std.proofs.Common.{◌≡◌}
-use Rattle.fast_dictionary.specs.Dictionary.{from_pairs}
+use Rattle.fast_dictionary.proofs.Common.{◌≡◌, from_pairs}
 use Rattle.fast_dictionary.proofs.OrderedMaps.{onto}
 use Rattle.fast_dictionary.proofs.map.MapEntriesEntries.copy.Given as goal
 

@@ -1,5 +1,4 @@
-use Rattle.std.proofs.Common.{sym, ap, ◌∙◌, refl, is_some, true≢false}
-use Rattle.fast_dictionary.specs.Dictionary.{entry_at, set_entry}
+use Rattle.fast_dictionary.proofs.Common.{sym, ap, ◌∙◌, refl, is_some, true≢false, entry_at, set_entry}
 use Rattle.fast_dictionary.proofs.OrderedMaps.{entry_or, entry_is, insert_is}
 use Rattle.fast_dictionary.proofs.map.MapEntriesEntries.entry_mut.Goals as goal
 

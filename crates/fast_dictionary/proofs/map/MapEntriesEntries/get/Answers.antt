@@ -1,5 +1,4 @@
-use Rattle.std.proofs.Common.{sym, ◌∙◌, ap}
-use Rattle.fast_dictionary.specs.Dictionary.{entry_at}
+use Rattle.fast_dictionary.proofs.Common.{sym, ◌∙◌, ap, entry_at}
 use Rattle.fast_dictionary.proofs.OrderedMaps.{entry_or, entry_is}
 use Rattle.fast_dictionary.proofs.map.MapEntriesEntries.get.Goals as goal
 

@@ -1,7 +1,4 @@
-use Rattle.std.specs.Cmp.{eq_by_cmp_equiv}
-use Rattle.std.proofs.lemmas.Map.Views.{list_any-from_Contains}
-use Rattle.fast_value.specs.Key.{key_cmp-total}
-use Rattle.fast_template.specs.TemplateSets.{keys_in}
+use Rattle.fast_dictionary.proofs.Common.{eq_by_cmp_equiv, list_any-from_Contains, key_cmp-total, keys_in}
 use Rattle.fast_dictionary.proofs.SlotMaps.{are_below, have_own_slots, undefined_is_empty}
 use Rattle.fast_dictionary.proofs.slots.SlotEntries.new.Goals as goal
 

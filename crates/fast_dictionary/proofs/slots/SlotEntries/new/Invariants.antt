@@ -1,5 +1,4 @@
-use Rattle.std.proofs.Common.{◌≡◌, vec_len}
-use Rattle.fast_dictionary.specs.Slots.{AllUndefined}
+use Rattle.fast_dictionary.proofs.Common.{◌≡◌, vec_len, AllUndefined}
 use Rattle.fast_dictionary.proofs.slots.SlotEntries.new.Given as goal
 
 abbrev pub invariant-loop : goal.invariant-loop

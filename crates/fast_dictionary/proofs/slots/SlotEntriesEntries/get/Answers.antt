@@ -1,6 +1,4 @@
-use Rattle.std.proofs.Common.{◌≡◌, ◌<◌, rules, length, slice_index_or, sym, ◌∙◌}
-use Rattle.std.proofs.lemmas.List.{get_or_default}
-use Rattle.fast_dictionary.specs.declared.entry.Entry.TheVariants.{Undefined}
+use Rattle.fast_dictionary.proofs.Common.{◌≡◌, ◌<◌, rules, length, slice_index_or, sym, ◌∙◌, get_or_default, Undefined}
 use Rattle.fast_dictionary.proofs.SlotMaps.{under_key}
 use Rattle.fast_dictionary.proofs.slots.SlotEntriesEntries.get.Goals as goal
 

@@ -1,7 +1,4 @@
-use Rattle.std.proofs.Common.{rules, append_assoc, ◌≡◌, ◌++◌}
-use Rattle.std.specs.Prelude.{codes, decimal}
-use Rattle.fast_lines.specs.declared.form.Form.TheVariants.{Json}
-use Rattle.fast_lines.specs.Signs.{quoted}
+use Rattle.fast_lines.proofs.Common.{rules, append_assoc, ◌≡◌, ◌++◌, codes, decimal, Json, quoted}
 use Rattle.fast_lines.proofs.Written.{writes_behind}
 use Rattle.fast_lines.proofs.form.JsonSignsSigns.push_head.Goals as goal
 

@@ -1,8 +1,6 @@
-use Rattle.std.proofs.Common.{rules, ◌≡◌, ◌≤◌, ℕ, List, ◌+◌, ◌-◌, ◌++◌, ◌∙◌, take, drop, length, ap, arith, length-drop}
-use Rattle.std.proofs.lemmas.List.{take_all}
+use Rattle.fast_lines.proofs.Common.{rules, ◌≡◌, ◌≤◌, ℕ, List, ◌+◌, ◌-◌, ◌++◌, ◌∙◌, take, drop, length, ap, arith, length-drop, take_all, chunk, put_chunk}
 use Rattle.fast_lines.proofs.Pieces.{laid_more, words_put}
 use Rattle.fast_lines.proofs.piece.Piece.lay_ends.Goals as goal
-use lib.Lanes.{chunk, put_chunk}
 
 pub returns-clause-laid : goal.returns-clause-laid
 returns-clause-laid g c =

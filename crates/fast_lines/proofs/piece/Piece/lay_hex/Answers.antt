@@ -1,8 +1,4 @@
-use Rattle.std.proofs.Common.{◌++◌, ◌∷◌, ◌-◌, [], List, ℕ, length, refl, ap, ◌∙◌, arith}
-use Rattle.std.specs.Prelude.{slice_index}
-use Rattle.std.proofs.lemmas.List.{drop_all}
-use Rattle.hex.specs.Hex.{encode_lower}
-use Rattle.fast_lines.specs.Pieces.{laid}
+use Rattle.fast_lines.proofs.Common.{◌++◌, ◌∷◌, ◌-◌, [], List, ℕ, length, refl, ap, ◌∙◌, arith, slice_index, drop_all, encode_lower, laid}
 use Rattle.fast_lines.proofs.Written.{encode_none, hex_more}
 use Rattle.fast_lines.proofs.piece.Piece.lay_hex.Goals as goal
 

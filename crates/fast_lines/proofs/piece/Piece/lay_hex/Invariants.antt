@@ -1,6 +1,4 @@
-use Rattle.std.proofs.Common.{◌≡◌, ◌≤◌, ◌+◌, ◌-◌, ◌++◌, length, drop}
-use Rattle.hex.specs.Hex.{encode_lower}
-use Rattle.fast_lines.specs.Pieces.{laid}
+use Rattle.fast_lines.proofs.Common.{◌≡◌, ◌≤◌, ◌+◌, ◌-◌, ◌++◌, length, drop, encode_lower, laid}
 use Rattle.fast_lines.proofs.piece.Piece.lay_hex.Given as goal
 
 abbrev pub invariant-loop-left : goal.invariant-loop-left

@@ -1,5 +1,4 @@
-use Rattle.std.proofs.Common.{rules, ◌≤◌, length, decimal, arith}
-use Rattle.std.proofs.lemmas.Fmt.{length-decimal-le}
+use Rattle.fast_lines.proofs.Common.{rules, ◌≤◌, length, decimal, arith, length-decimal-le}
 use Rattle.fast_lines.proofs.Pieces.{laid_more}
 use Rattle.fast_lines.proofs.piece.Piece.lay_unsigned.Goals as goal
 

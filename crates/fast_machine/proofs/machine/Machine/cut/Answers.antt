@@ -1,8 +1,5 @@
-use Rattle.std.proofs.Common.{ap, inl, refl, arith}
-use Rattle.fast_template.specs.TemplateSets.{templates_in}
-use Rattle.fast_machine.specs.Following.{mode_of}
+use Rattle.fast_machine.proofs.Common.{ap, inl, refl, arith, templates_in, mode_of, want_of_bytes}
 use Rattle.fast_machine.proofs.Followings.{cut_between}
-use Rattle.fast_walk.proofs.ShortWalks.{want_of_bytes}
 use Rattle.fast_machine.proofs.machine.Machine.cut.Goals as goal
 
 pub returns-in-Ok-clause-place : goal.returns-in-Ok-clause-place

@@ -1,5 +1,4 @@
-use Rattle.std.proofs.Common.{◌++◌, inr, arith}
-use Rattle.fast_wire.proofs.Calls.{all_bytes}
+use Rattle.fast_machine.proofs.Common.{◌++◌, inr, arith, all_bytes}
 use Rattle.fast_machine.proofs.Calls.{chunk_fed, follows_without_memory}
 use Rattle.fast_machine.proofs.Lackings.{still_waits}
 use Rattle.fast_machine.proofs.machine.Machine.feed_lacking.Goals as goal

@@ -1,5 +1,4 @@
-use Rattle.std.proofs.Common.{[], append-nil}
-use Rattle.std.proofs.Math.Seq.{take-length}
+use Rattle.fast_machine.proofs.Common.{[], append-nil, take-length}
 use Rattle.fast_machine.proofs.machine.Machine.feed_message.Goals as goal
 
 pub returns-then-lacks_more-clause-follows : goal.returns-then-lacks_more-clause-follows

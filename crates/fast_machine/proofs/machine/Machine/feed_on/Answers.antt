@@ -1,6 +1,4 @@
-use Rattle.std.proofs.Common.{◌≡◌, ◌++◌, ◌+◌, ◌-◌, ◌∙◌, [], ℕ, List, length, length-drop, take, drop, take-append-drop, refl, arith, ap, subst, append-nil}
-use Rattle.std.proofs.lemmas.List.{take_all, take_rest}
-use Rattle.fast_machine.specs.Calls.{FollowsAll}
+use Rattle.fast_machine.proofs.Common.{◌≡◌, ◌++◌, ◌+◌, ◌-◌, ◌∙◌, [], ℕ, List, length, length-drop, take, drop, take-append-drop, refl, arith, ap, subst, append-nil, take_all, take_rest, FollowsAll}
 use Rattle.fast_machine.proofs.Calls.{all_on, same_on}
 use Rattle.fast_machine.proofs.MessageEnds.{take_again}
 use Rattle.fast_machine.proofs.machine.Machine.feed_on.Goals as goal

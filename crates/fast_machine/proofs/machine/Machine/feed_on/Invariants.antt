@@ -1,5 +1,4 @@
-use Rattle.std.proofs.Common.{◌≡◌, ◌≤◌, ◌-◌, ◌+◌, None, length, take}
-use Rattle.fast_machine.specs.Calls.{FollowsAll, IsSameStream}
+use Rattle.fast_machine.proofs.Common.{◌≡◌, ◌≤◌, ◌-◌, ◌+◌, None, length, take, FollowsAll, IsSameStream}
 use Rattle.fast_machine.proofs.machine.Machine.feed_on.Given as goal
 
 abbrev pub invariant-messages : goal.invariant-messages

@@ -1,6 +1,4 @@
-use Rattle.std.proofs.Common.{◌≡◌, [], ℕ, List, length, refl, ap, subst, arith}
-use Rattle.std.proofs.lemmas.List.{nil_from_length}
-use Rattle.fast_walk.specs.declared.traversal.Stage.TheVariants as stage
+use Rattle.fast_machine.proofs.Common.{◌≡◌, [], ℕ, List, length, refl, ap, subst, arith, nil_from_length, Stage}
 use Rattle.fast_machine.specs.Standing.{ReadsOn, Stands}
 use Rattle.fast_machine.proofs.Runs.{none_begun}
 use Rattle.fast_machine.proofs.Calls.{follows_refused}
@@ -13,7 +11,7 @@ returns-then-has_begun-clause-truncated g c = λ none.
     let old = c.args.self.now in
     let t = old.traversal in
     let r = c.keep.ensures in
-    let inside : (t.stage ≡ stage.Map) × (old.held.items ≡ []) × (old.left ≡ 0) → ⊥ = λ at. elim c.then-has_begun.branch [
+    let inside : (t.stage ≡ Stage.Map) × (old.held.items ≡ []) × (old.left ≡ 0) → ⊥ = λ at. elim c.then-has_begun.branch [
       | then-has_begun-via-then-has_begun w ↦ none_begun t.stage at.0 (c.has_begun.ensures.yes w.if-has_begun.true)
       | then-has_begun-via-else-has_begun+then-held-gt0 w ↦ (let size = c.held-held.ensures.held in let empty = ap (λ (xs : List ℕ). length xs) at.1 in absurd (omega (arith, size, empty, w.if-held-gt0.true)))
       | then-has_begun-via-else-has_begun+else-held-gt0+then-self-gt0 w ↦ (let empty = at.2 in absurd (omega (arith, empty, w.if-self-gt0.true)))

@@ -1,6 +1,4 @@
-use Rattle.std.proofs.Common.{◌≡◌, ℕ, length, subst, rules}
-use Rattle.fast_template.specs.TemplateSets.{templates_in}
-use Rattle.fast_machine.specs.Following.{IsHeld, mode_of}
+use Rattle.fast_machine.proofs.Common.{◌≡◌, ℕ, length, subst, rules, templates_in, IsHeld, mode_of}
 use Rattle.fast_machine.specs.Standing.{ReadsOn}
 use Rattle.fast_machine.proofs.Followings.{are_held}
 use Rattle.fast_machine.proofs.machine.Machine.held.Goals as goal

@@ -1,5 +1,4 @@
-use Rattle.std.proofs.Common.{rules}
-use Rattle.std.proofs.lemmas.List.{nil_from_length}
+use Rattle.fast_machine.proofs.Common.{rules, nil_from_length}
 use Rattle.fast_machine.proofs.machine.Machine.hold.Goals as goal
 
 pub returns-then-is_empty-clause-follows : goal.returns-then-is_empty-clause-follows

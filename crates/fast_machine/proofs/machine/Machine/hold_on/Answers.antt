@@ -1,6 +1,4 @@
-use Rattle.std.proofs.Common.{◌++◌, ◌-◌, length, inr, arith}
-use Rattle.fast_wire.proofs.Calls.{all_bytes}
-use Rattle.fast_walk.specs.declared.lack.Lack.{Lack}
+use Rattle.fast_machine.proofs.Common.{◌++◌, ◌-◌, length, inr, arith, all_bytes, Lack}
 use Rattle.fast_machine.proofs.Calls.{chunk_fed, follows_without_memory}
 use Rattle.fast_machine.proofs.Ends.{still_lacks}
 use Rattle.fast_machine.proofs.Lackings.{still_waits}

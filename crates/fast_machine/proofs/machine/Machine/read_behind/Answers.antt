@@ -1,10 +1,5 @@
-use Rattle.std.proofs.Common.{◌≡◌, ◌++◌, ℕ, List, [], Option, Some, None, length, ap, sym, subst, arith, rules, append-nil}
-use Rattle.std.proofs.lemmas.List.{nil_from_length}
-use Rattle.fast_walk.proofs.Steps.{exit_is}
-use Rattle.fast_machine.specs.Calls.{ReadsNext}
-use Rattle.std.specs.Prelude.{IfNone}
+use Rattle.fast_machine.proofs.Common.{◌≡◌, ◌++◌, ℕ, List, [], Option, Some, None, length, ap, sym, subst, arith, rules, append-nil, nil_from_length, exit_is, ReadsNext, IfNone, want_of_bytes}
 use Rattle.fast_machine.proofs.Calls.{follows_without_memory}
-use Rattle.fast_walk.proofs.ShortWalks.{want_of_bytes}
 use Rattle.fast_machine.proofs.machine.Machine.read_behind.Goals as goal
 
 pub returns-in-Err-clause-reads : goal.returns-in-Err-clause-reads

@@ -1,12 +1,4 @@
-use Rattle.std.proofs.Common.{[], inl, inr, append-nil, ◌≡◌, ◌<◌, ◌+◌, ◌-◌, ◌++◌, ℕ, List, None, Some, length, drop, sym, ap, refl, arith}
-use Rattle.std.proofs.lemmas.List.{take_rest}
-use Rattle.fast_template.specs.TemplateSets.{templates_in}
-use Rattle.fast_stream.specs.declared.fault.Cause.TheVariants.{Truncated}
-use Rattle.fast_stream.specs.declared.mode.Framing.TheVariants.{Blocks}
-use Rattle.fast_stream.specs.Nodes.{Content}
-use Rattle.fast_walk.specs.declared.traversal.Stage.TheVariants as stage
-use Rattle.fast_machine.specs.Calls.{StandsAt}
-use Rattle.fast_machine.specs.Standing.{StopsBehind, framed_as}
+use Rattle.fast_machine.proofs.Common.{[], inl, inr, append-nil, ◌≡◌, ◌<◌, ◌+◌, ◌-◌, ◌++◌, ℕ, List, None, Some, length, drop, sym, ap, refl, arith, take_rest, templates_in, Truncated, Blocks, Content, Stage, StandsAt, StopsBehind, framed_as}
 use Rattle.fast_machine.proofs.Runs.{carried_of, none_begun}
 use Rattle.fast_machine.proofs.Calls.{Finds, finds_fault, finds_waiting, follows_kept, follows_refused, reads_none}
 use Rattle.fast_machine.proofs.Followings.{fault_refused, size_other, size_template}
@@ -57,7 +49,7 @@ stopped : (g : given.Over) (c : After-set_is_sound g) (before : List Content) (f
 stopped g c before fed messages stands =
     let old = c.args.self.now in
     let t = old.traversal in
-    let some : t.stage ≡ stage.Map → 0 < length c.args.bytes.now = λ at. elim c.requires.some [ inl some ↦ some | inr begun ↦ absurd (none_begun t.stage at begun) ] in
+    let some : t.stage ≡ Stage.Map → 0 < length c.args.bytes.now = λ at. elim c.requires.some [ inl some ↦ some | inr begun ↦ absurd (none_begun t.stage at begun) ] in
     size_template c.in-Err.cause c.in-Err.ensures.stops.0 (g.E.Entries.serves old.entries) (old.ready c.requires.nothing.fault) some (rw (c.level.ensures) at c.in-Err.ensures.stops.1) stands
 
 pub returns-in-Truncated-clause-reads : goal.returns-in-Truncated-clause-reads

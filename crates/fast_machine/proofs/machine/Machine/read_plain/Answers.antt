@@ -1,7 +1,4 @@
-use Rattle.std.proofs.Common.{◌∙◌, ℕ, List, None, Some, drop, length, sym, ap, refl, arith}
-use Rattle.std.proofs.lemmas.List.{take_rest}
-use Rattle.fast_stream.specs.declared.mode.Framing.TheVariants.{Plain}
-use Rattle.fast_stream.specs.Nodes.{Content}
+use Rattle.fast_machine.proofs.Common.{◌∙◌, ℕ, List, None, Some, drop, length, sym, ap, refl, arith, take_rest, Plain, Content}
 use Rattle.fast_machine.proofs.Calls.{Finds, finds_fault, finds_waiting}
 use Rattle.fast_machine.proofs.PlainReads.{plain_goes}
 use Rattle.fast_machine.proofs.machine.Machine.read_plain.Given as given

@@ -1,10 +1,4 @@
-use Rattle.std.proofs.Common.{◌≡◌, ◌++◌, ◌-◌, ◌∙◌, ℕ, List, length, length-append, length-drop, take, drop, take-append-drop, arith, ap, sym, append_assoc}
-use Rattle.std.proofs.Math.Seq.{take-length}
-use Rattle.fast_walk.proofs.Steps.{exit_is}
-use Rattle.fast_wire.proofs.Calls.{all_bytes}
-use Rattle.fast_wire.specs.declared.level.Level.{Level}
-use Rattle.fast_stream.specs.declared.mode.Framing.{Framing}
-use Rattle.fast_stream.specs.declared.mode.Mode.{Mode}
+use Rattle.fast_machine.proofs.Common.{◌≡◌, ◌++◌, ◌-◌, ◌∙◌, ℕ, List, length, length-append, length-drop, take, drop, take-append-drop, arith, ap, sym, append_assoc, take-length, exit_is, all_bytes, Level, Framing, Mode}
 use Rattle.fast_machine.specs.Standing.{ReadsOn, Stands}
 use Rattle.fast_machine.proofs.Calls.{chunk_fed}
 use Rattle.fast_machine.proofs.Followings.{waits_behind}

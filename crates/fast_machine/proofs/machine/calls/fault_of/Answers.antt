@@ -1,5 +1,4 @@
-use Rattle.fast_template.specs.TemplateSets.{templates_in}
-use Rattle.fast_walk.specs.Traversals.{stop_of}
+use Rattle.fast_machine.proofs.Common.{templates_in, stop_of}
 use Rattle.fast_machine.proofs.Followings.{memory_refused, fault_refused}
 use Rattle.fast_machine.proofs.machine.calls.fault_of.Goals as goal
 

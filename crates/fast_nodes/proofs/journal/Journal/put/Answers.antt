@@ -1,5 +1,4 @@
-use Rattle.std.proofs.Common.{rules, ◌≡◌, [], ◌∷◌, ◌++◌}
-use Rattle.fast_nodes.specs.declared.journal.Change.{Change}
+use Rattle.fast_nodes.proofs.Common.{rules, ◌≡◌, [], ◌∷◌, ◌++◌, Change}
 use Rattle.fast_nodes.proofs.Changes.{value_put}
 use Rattle.fast_nodes.proofs.journal.Journal.put.Goals as goal
 

@@ -1,6 +1,4 @@
-use Rattle.std.proofs.Common.{◌≡◌, length}
-use Rattle.fast_dictionary.specs.Dictionary.{Dictionary}
-use Rattle.fast_nodes.specs.Added.{Changed}
+use Rattle.fast_nodes.proofs.Common.{◌≡◌, length, Dictionary, Changed}
 use Rattle.fast_nodes.proofs.journal.Journal.put_back.Given as goal
 
 abbrev pub invariant-changes : goal.invariant-changes

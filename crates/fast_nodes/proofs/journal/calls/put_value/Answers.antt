@@ -1,6 +1,4 @@
-use Rattle.std.proofs.Common.{ap}
-use Rattle.std.proofs.lemmas.Result.{err_from_is_err_and}
-use Rattle.std.specs.Result.{is_ok}
+use Rattle.fast_nodes.proofs.Common.{ap, err_from_is_err_and, is_ok}
 use Rattle.fast_nodes.proofs.Changes.{no_value, value_is}
 use Rattle.fast_nodes.proofs.journal.calls.put_value.Goals as goal
 

@@ -1,6 +1,4 @@
-use Rattle.std.proofs.Common.{◌≡◌, ◌<◌, ◌-◌, length, Some, arith, sym, ◌∙◌, subst, true, rules}
-use Rattle.std.specs.Prelude.{slice_get}
-use Rattle.fast_order.specs.Search.{State, state_of}
+use Rattle.fast_order.proofs.Common.{◌≡◌, ◌<◌, ◌-◌, length, Some, arith, sym, ◌∙◌, subst, true, rules, slice_get, State, state_of}
 use Rattle.fast_order.proofs.SearchGroups.{IsJudged}
 use Rattle.fast_order.proofs.SearchTurns.{turn_left, turn_closed, place_within, node_within, opened_within, judged_by_size, judged_by_reference}
 use Rattle.fast_order.proofs.order.Search.leave.Goals.{then-visit-len, else-visit-len}

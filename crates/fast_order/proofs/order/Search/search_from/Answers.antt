@@ -1,8 +1,4 @@
-use Rattle.std.proofs.Common.{◌≡◌, ◌<◌, List, ℕ, length, Some, sym, ap, ◌∙◌, get_or}
-use Rattle.std.specs.Prelude.{slice_get}
-use Rattle.std.proofs.lemmas.Option.{slice_get_read}
-use Rattle.fast_order.specs.Search.{State, state_of}
-use Rattle.fast_order.specs.declared.order.Mark.{Mark}
+use Rattle.fast_order.proofs.Common.{◌≡◌, ◌<◌, List, ℕ, length, Some, sym, ap, ◌∙◌, get_or, slice_get, slice_get_read, State, state_of, Mark}
 use Rattle.fast_order.proofs.SearchGroups.{done_at_rest}
 use Rattle.fast_order.proofs.SearchTurns.{root_opened, root_done, root_seen}
 use Rattle.fast_order.proofs.order.Search.search_from.Goals as goal

@@ -1,5 +1,4 @@
-use Rattle.std.proofs.Common.{None}
-use Rattle.fast_order.specs.Search.{Stands, KeepsSeen, state_of, steps_left}
+use Rattle.fast_order.proofs.Common.{None, Stands, KeepsSeen, state_of, steps_left}
 use Rattle.fast_order.proofs.order.Search.walk.Given as goal
 
 abbrev pub invariant-loop-visit : goal.invariant-loop-visit

@@ -1,10 +1,4 @@
-use Rattle.std.proofs.Common.{None, arith, refl}
-use Rattle.fast_value.specs.declared.kind.Kind.TheVariants.{UInt32}
-use Rattle.fast_value.specs.declared.kind.Part.TheVariants.{Length}
-use Rattle.fast_template.specs.Resolved.{sequence_of}
-use Rattle.fast_stream.specs.Nodes.{single}
-use Rattle.fast_told.proofs.Writing.{has_length, has_said}
-use Rattle.fast_told.proofs.ToldFields.{absent_said}
+use Rattle.fast_show.proofs.Common.{None, arith, refl, UInt32, Length, sequence_of, single, has_length, has_said, absent_said}
 use Rattle.fast_show.proofs.writer.LineWriterReceiver.begin_sequence.Goals as goal
 
 pub returns-in_ok-tell_absent-in-None-default-clause-goes : goal.returns-in_ok-tell_absent-in-None-default-clause-goes

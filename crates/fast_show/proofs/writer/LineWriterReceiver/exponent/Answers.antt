@@ -1,11 +1,4 @@
-use Rattle.std.proofs.Common.{None, Some, arith, refl, rules}
-use Rattle.fast_value.specs.declared.kind.Kind.TheVariants.{Int32}
-use Rattle.fast_value.specs.declared.kind.Part.TheVariants.{Exponent}
-use Rattle.fast_value.specs.declared.scalar.Scalar.TheVariants.{I32}
-use Rattle.fast_template.specs.Resolved.{field_in_parts}
-use Rattle.fast_stream.specs.Nodes.{single}
-use Rattle.fast_told.proofs.Writing.{has_exponent, has_said}
-use Rattle.fast_told.proofs.ToldFields.{absent_said}
+use Rattle.fast_show.proofs.Common.{None, Some, arith, refl, rules, Int32, Exponent, I32, field_in_parts, single, has_exponent, has_said, absent_said}
 use Rattle.fast_show.proofs.writer.LineWriterReceiver.exponent.Goals as goal
 
 pub returns-in_ok-tell_absent-in-None-default-clause-goes : goal.returns-in_ok-tell_absent-in-None-default-clause-goes

@@ -1,8 +1,4 @@
-use Rattle.std.proofs.Common.{refl}
-use Rattle.std.proofs.lemmas.Result.{IfOk-weaker}
-use Rattle.fast_template.specs.Resolved.{whole_field}
-use Rattle.fast_stream.specs.Nodes.{single}
-use Rattle.fast_told.proofs.Writing.{has_said}
+use Rattle.fast_show.proofs.Common.{refl, IfOk-weaker, whole_field, single, has_said}
 use Rattle.fast_show.proofs.writer.LineWriterReceiver.field.Goals as goal
 
 pub returns-clause-goes : goal.returns-clause-goes

@@ -1,9 +1,4 @@
-use Rattle.std.proofs.Common.{None, Result, Ok, Err, IfOk, ap, refl}
-use Rattle.fast_walk.specs.declared.receiver.Fields.{Fields}
-use Rattle.fast_walk.specs.Walks.{bare_next}
-use Rattle.fast_told.specs.Told.{HasTold, line_now}
-use Rattle.fast_show.specs.Waiting.{waiting_of}
-use Rattle.fast_told.proofs.Taking.{takes_none}
+use Rattle.fast_show.proofs.Common.{None, Result, Ok, Err, IfOk, ap, refl, Fields, bare_next, HasTold, line_now, waiting_of, takes_none}
 use Rattle.fast_show.proofs.writer.LineWriterReceiver.fields.Goals as goal
 
 -- what is said of an answer that came, of two clauses

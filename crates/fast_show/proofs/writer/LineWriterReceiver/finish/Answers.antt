@@ -1,9 +1,4 @@
-use Rattle.std.proofs.Common.{◌++◌, ap, ap₂, sym, ◌∙◌}
-use Rattle.fast_template.specs.TemplateSets.{templates_in}
-use Rattle.fast_told.specs.Told.{written_of, line_now}
-use Rattle.fast_lines.specs.Signs.{ending}
-use Rattle.fast_told.proofs.Writing.{has_finished}
-use Rattle.fast_show.specs.Waiting.{waiting_of}
+use Rattle.fast_show.proofs.Common.{◌++◌, ap, ap₂, sym, ◌∙◌, templates_in, written_of, line_now, ending, has_finished, waiting_of}
 use Rattle.fast_show.proofs.writer.LineWriterReceiver.finish.Goals as goal
 
 pub returns-clause-stands : goal.returns-clause-stands

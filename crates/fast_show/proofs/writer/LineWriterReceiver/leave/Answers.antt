@@ -1,5 +1,4 @@
-use Rattle.fast_walk.specs.OpenSegments.{in_group}
-use Rattle.fast_told.proofs.Writing.{has_ended}
+use Rattle.fast_show.proofs.Common.{in_group, has_ended}
 use Rattle.fast_show.proofs.writer.LineWriterReceiver.leave.Goals as goal
 
 pub returns-clause-has : goal.returns-clause-has

@@ -1,7 +1,4 @@
-use Rattle.fast_told.specs.Told.{written_of, line_now}
-use Rattle.std.proofs.Common.{◌≡◌, ◌++◌, rules}
-use Rattle.fast_lines.specs.Lines.{decimal_text}
-use Rattle.fast_told.proofs.Writing.{has_mantissa}
+use Rattle.fast_show.proofs.Common.{written_of, line_now, ◌≡◌, ◌++◌, rules, decimal_text, has_mantissa}
 use Rattle.fast_show.proofs.writer.LineWriterReceiver.mantissa.Goals as goal
 
 pub returns-clause-goes : goal.returns-clause-goes

@@ -1,6 +1,4 @@
-use Rattle.std.proofs.Common.{arith, ap, ◌∙◌, ◌++◌}
-use Rattle.fast_gaps.specs.Gaps.{filled, no_texts}
-use Rattle.fast_gaps.proofs.Filled.{filled_by_one}
+use Rattle.fast_told.proofs.Common.{arith, ap, ◌∙◌, ◌++◌, filled, no_texts, filled_by_one}
 use Rattle.fast_told.proofs.line.Line.leave_text.Goals as goal
 
 pub returns-then-branch-clause-left : goal.returns-then-branch-clause-left

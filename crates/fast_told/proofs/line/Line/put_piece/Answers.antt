@@ -1,5 +1,4 @@
-use Rattle.fast_lines.specs.Pieces.{laid}
-use Rattle.fast_gaps.proofs.Filled.{filled_behind}
+use Rattle.fast_told.proofs.Common.{laid, filled_behind}
 use Rattle.fast_told.proofs.line.Line.put_piece.Goals as goal
 
 pub returns-clause-text : goal.returns-clause-text

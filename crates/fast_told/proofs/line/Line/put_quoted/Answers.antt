@@ -1,7 +1,4 @@
-use Rattle.std.proofs.Common.{ℕ, List, [], ◌∷◌, ◌++◌}
-use Rattle.std.specs.List.{flat_map}
-use Rattle.fast_lines.specs.Signs.{unit_text}
-use Rattle.fast_lines.proofs.Written.{appended_more}
+use Rattle.fast_told.proofs.Common.{ℕ, List, [], ◌∷◌, ◌++◌, flat_map, unit_text, appended_more}
 use Rattle.fast_told.proofs.line.Line.put_quoted.Goals as goal
 
 pub returns-clause-text : goal.returns-clause-text

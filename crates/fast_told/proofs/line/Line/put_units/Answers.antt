@@ -1,6 +1,4 @@
-use Rattle.std.proofs.Common.{◌∙◌, arith}
-use Rattle.fast_lines.specs.Signs.{unit_text}
-use Rattle.fast_lines.proofs.Written.{appended_more, flat_map_piece, flat_map_rest}
+use Rattle.fast_told.proofs.Common.{◌∙◌, arith, unit_text, appended_more, flat_map_piece, flat_map_rest}
 use Rattle.fast_told.proofs.line.Line.put_units.Goals as goal
 
 pub loop-at-preserved : goal.loop-at-preserved

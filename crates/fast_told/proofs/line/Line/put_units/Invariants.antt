@@ -1,7 +1,4 @@
-use Rattle.std.proofs.Common.{◌≡◌, ◌++◌, ◌≤◌, ◌-◌, length, take}
-use Rattle.std.specs.List.{flat_map}
-use Rattle.fast_told.specs.Told.{written_of}
-use Rattle.fast_lines.specs.Signs.{unit_text}
+use Rattle.fast_told.proofs.Common.{◌≡◌, ◌++◌, ◌≤◌, ◌-◌, length, take, flat_map, written_of, unit_text}
 use Rattle.fast_told.proofs.line.Line.put_units.Given as goal
 
 abbrev pub invariant-loop-at : goal.invariant-loop-at

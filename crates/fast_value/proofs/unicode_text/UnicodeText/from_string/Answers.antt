@@ -1,5 +1,4 @@
-use Rattle.std.proofs.Common.{List, ℕ, IsUtf8, subst, sym, ap}
-use Rattle.std.proofs.lemmas.Str.{IsUtf8-string_bytes}
+use Rattle.fast_value.proofs.Common.{List, ℕ, IsUtf8, subst, sym, ap, IsUtf8-string_bytes}
 use Rattle.fast_value.proofs.unicode_text.UnicodeText.from_string.Goals as goal
 
 pub invariant_of-result : goal.invariant_of-result

@@ -1,5 +1,4 @@
-use Rattle.std.proofs.Common.{refl, ap}
-use Rattle.fast_walk.specs.Walks.{bare_next}
+use Rattle.fast_walk.proofs.Common.{refl, ap, bare_next}
 use Rattle.fast_walk.proofs.receiver.Receiver.fields.Goals as goal
 
 pub returns-clause-goes : goal.returns-clause-goes

@@ -1,7 +1,4 @@
-use Rattle.std.proofs.Common.{refl}
-use Rattle.fast_stream.specs.Nodes.{items_of}
-use Rattle.fast_walk.specs.OpenSegments.{in_sequence, with_element}
-use Rattle.fast_walk.specs.Received.{ended_in}
+use Rattle.fast_walk.proofs.Common.{refl, items_of, in_sequence, with_element, ended_in}
 use Rattle.fast_walk.proofs.receiver.Receiver.next_element.Goals as goal
 
 pub returns-clause-has : goal.returns-clause-has

@@ -1,27 +1,10 @@
-use Rattle.std.proofs.Common.{◌≡◌, ◌≢◌, ◌++◌, Option, drop, map, refl, sym, ap, ◌∙◌, arith, rules, Some}
-use Rattle.std.specs.Prelude.{option_map}
-use Rattle.fast_template.specs.declared.resolved.FlatTemplate.{FlatTemplate}
-use Rattle.fast_template.specs.Resolved.{list_of, Instructions}
-use Rattle.fast_template.specs.TemplateSets.{templates_in}
-use Rattle.fast_stream.specs.declared.fault.Cause.TheVariants.{D9, Memory, Truncated}
+use Rattle.fast_walk.proofs.Common.{◌≡◌, ◌≢◌, ◌++◌, Option, drop, map, refl, sym, ap, ◌∙◌, arith, rules, Some, option_map, FlatTemplate, list_of, Instructions, templates_in, D9, Memory, Truncated, cause_of_field, message_of, opened, next_of, reads_on, frame_of, field_at, entry_at, node_limit, identifier, Kind, Part, U32, Stage}
 use Rattle.fast_field.specs.declared.fault.FieldFault.TheVariants.{Memory as FieldMemory}
-use Rattle.fast_stream.specs.Faults.{cause_of_field}
-use Rattle.fast_walk.specs.OpenSegments.{message_of}
-use Rattle.fast_walk.specs.Received.{opened}
-use Rattle.fast_walk.specs.Walks.{next_of, reads_on, frame_of}
 use Rattle.fast_walk.proofs.Heads.{identifier_goes, own_bit, value_read}
 use Rattle.fast_walk.proofs.Steps.{part_goes, part_stops, with_none}
-use Rattle.fast_field.specs.FieldReading.{field_at}
-use Rattle.fast_dictionary.specs.Dictionary.{entry_at}
-use Rattle.fast_stream.specs.Nodes.{node_limit}
-use Rattle.fast_stream.specs.Streams.{identifier}
 use Rattle.fast_walk.proofs.Messages.{identifier_stops}
 use Rattle.fast_walk.proofs.Serving.{found_members, members_served}
-use Rattle.fast_value.specs.declared.kind.Kind.TheVariants as kind
-use Rattle.fast_value.specs.declared.kind.Part.TheVariants as part
-use Rattle.fast_value.specs.declared.scalar.Scalar.TheVariants.{U32}
 use Rattle.fast_walk.proofs.ShortWalks.{want_of_bytes}
-use Rattle.fast_walk.specs.declared.traversal.Stage.TheVariants as stage
 use Rattle.fast_walk.proofs.Telling.{asked_for, identifier_told, told_keeps}
 use Rattle.fast_walk.proofs.traversal.Traversal.identifier.Goals as goal
 
@@ -71,7 +54,7 @@ returns-in-Some-clause-reads g c =
     let end = c.open_message.ensures in
     record {
       place = c.in-Ok.ensures.place;
-      took = λ map. let k : stage.Identifier ≡ stage.Map = sym c.requires.stage ∙ map in absurd cc;
+      took = λ map. let k : Stage.Identifier ≡ Stage.Map = sym c.requires.stage ∙ map in absurd cc;
       inside = λ map. absurd cc;
       leaves = λ before start read was.
           let s = rw (c.requires.stage) at was in
@@ -108,6 +91,6 @@ returns-in-Some-clause-can g c =
       };
       kept = told_keeps c.level-level.result old.identifier c.first_for-bit.result (g.E.Entries.contents c.args.entries.now) (g.E.Entries.contents c.begin.new.entries) c.args.bytes.now c.args.at c.in-Ok.next
           (λ k. omega (arith, c.type_inv.bytes k)) (asked_for old.identifier c.part_needs_bit-needs.result c.first_for-bit.result old.walk.bits c.part_needs_bit-needs.ensures c.first_for-bit.ensures)
-          part.Whole kind.UInt32 (Some (U32 c.in-Ok.id)) tt (rw (old.identifier_is) identifier_told) c.in-Ok.ensures.goes.0 c.requires.can.kept;
+          Part.Whole Kind.UInt32 (Some (U32 c.in-Ok.id)) tt (rw (old.identifier_is) identifier_told) c.in-Ok.ensures.goes.0 c.requires.can.kept;
       room = rw (end.around, end.bits, c.part_needs_bit-needs.ensures) (c.in-Ok.ensures.room old.walk.bits (search rules) (rw (c.requires.stage) at c.requires.can.room));
     }

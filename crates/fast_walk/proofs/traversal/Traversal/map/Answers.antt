@@ -1,7 +1,5 @@
-use Rattle.std.proofs.Common.{◌++◌, [], drop, refl, rules}
+use Rattle.fast_walk.proofs.Common.{◌++◌, [], drop, refl, rules, templates_in, node_limit}
 use Rattle.fast_walk.proofs.Steps.{exit_is}
-use Rattle.fast_template.specs.TemplateSets.{templates_in}
-use Rattle.fast_stream.specs.Nodes.{node_limit}
 use Rattle.fast_walk.proofs.Heads.{at_map}
 use Rattle.fast_walk.proofs.traversal.Traversal.map.Goals as goal
 

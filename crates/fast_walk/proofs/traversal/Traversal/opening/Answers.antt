@@ -1,5 +1,4 @@
-use Rattle.std.proofs.Common.{rules, arith, refl, ◌<◌, ◌-◌}
-use Rattle.fast_walk.specs.Lacks.{first_limit}
+use Rattle.fast_walk.proofs.Common.{rules, arith, refl, ◌<◌, ◌-◌, first_limit}
 use Rattle.fast_walk.proofs.Lacking.{part_opens}
 use Rattle.fast_walk.proofs.traversal.Traversal.opening.Goals as goal
 

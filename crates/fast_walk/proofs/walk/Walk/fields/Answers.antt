@@ -1,6 +1,4 @@
-use Rattle.std.proofs.Common.{◌≡◌, ◌≤◌, ◌<◌, ◌+◌, ◌*◌, ◌++◌, ◌⊎◌, inl, inr, ℕ, List, drop, length, map, sym, ap, ◌∙◌, arith, rules}
-use Rattle.fast_walk.specs.OpenSegments.{Waiting, all_around, cursor, top_on}
-use Rattle.fast_walk.specs.Walks.{bare, next_of, weight_of}
+use Rattle.fast_walk.proofs.Common.{◌≡◌, ◌≤◌, ◌<◌, ◌+◌, ◌*◌, ◌++◌, ◌⊎◌, inl, inr, ℕ, List, drop, length, map, sym, ap, ◌∙◌, arith, rules, Waiting, all_around, cursor, top_on, bare, next_of, weight_of}
 use Rattle.fast_walk.proofs.Walking.{is_instruction}
 use Rattle.fast_walk.proofs.walk.Walk.fields.Goals as goal
 

@@ -1,5 +1,4 @@
-use Rattle.std.proofs.Common.{Some}
-use Rattle.fast_dictionary.specs.Dictionary.{entry_at}
+use Rattle.fast_walk.proofs.Common.{Some, entry_at}
 use Rattle.fast_walk.proofs.Lacking.{next_lacks}
 use Rattle.fast_walk.proofs.walk.Walk.first_lack.Goals as goal
 

@@ -1,10 +1,4 @@
-use Rattle.std.proofs.Common.{◌≡◌, ◌++◌, ◌∷◌, ◌-◌, [], length, length-append, map, sym, ap, List, vec_len, ◌∙◌, rules, refl}
-use Rattle.std.proofs.lemmas.List.{map_push}
-use Rattle.fast_template.specs.Resolved.{list_of}
-use Rattle.fast_walk.specs.OpenSegments.{fewer, in_sequence}
-use Rattle.fast_walk.specs.Walks.{frame_of, sequel_of}
-use Rattle.fast_walk.specs.declared.walk.Frame.{Frame as FrameNow}
-use Rattle.fast_walk.specs.declared.walk.Inside.TheVariants.{Element}
+use Rattle.fast_walk.proofs.Common.{◌≡◌, ◌++◌, ◌∷◌, ◌-◌, [], length, length-append, map, sym, ap, List, vec_len, ◌∙◌, rules, refl, map_push, list_of, fewer, in_sequence, frame_of, sequel_of, Frame as FrameNow, Element}
 use Rattle.fast_walk.specs.declared.walk.Sequel.{Sequel as SequelNow}
 use Rattle.fast_walk.proofs.Walking.{at_last}
 use Rattle.fast_walk.proofs.walk.Walk.go_on.Goals as goal

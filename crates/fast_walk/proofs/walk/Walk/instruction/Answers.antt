@@ -1,13 +1,5 @@
-use Rattle.std.proofs.Common.{◌≡◌, ◌++◌, ◌∷◌, ◌-◌, [], Bool, true, false, List, None, drop, map, refl, sym, ap, ◌∙◌, arith}
-use Rattle.std.proofs.lemmas.List.{map_push}
+use Rattle.fast_walk.proofs.Common.{◌≡◌, ◌++◌, ◌∷◌, ◌-◌, [], Bool, true, false, List, None, drop, map, refl, sym, ap, ◌∙◌, arith, map_push, list_of, has_map, is_optional, after_bit, bit_for, single, no_elements, sequence_elements, Sequel, Waiting, at_element, at_instruction, at_mantissa, in_group, all_around, cursor, entered, moved, left_around, bare, frame_of, next_of}
 use Rattle.fast_walk.proofs.Steps.{exit_is}
-use Rattle.fast_template.specs.Resolved.{list_of, has_map, is_optional}
-use Rattle.fast_stream.specs.Bits.{after_bit, bit_for}
-use Rattle.fast_stream.specs.Nodes.{single, no_elements, sequence_elements}
-use Rattle.fast_walk.specs.OpenSegments.{Sequel, Waiting, at_element, at_instruction, at_mantissa, in_group, all_around, cursor}
-use Rattle.fast_walk.specs.Received.{entered, moved}
-use Rattle.fast_walk.specs.Room.{left_around}
-use Rattle.fast_walk.specs.Walks.{bare, frame_of, next_of}
 use Rattle.fast_walk.proofs.Pieces.{begins_served, count_stops, first_stops, halts_at, is_field, is_group, is_parts, is_sequence, less_behind, less_opened, moves_on, opened_on, part_takes, stops_here}
 use Rattle.fast_walk.proofs.Steps.{all_around-more, count_goes, group_on, length_on}
 use Rattle.fast_walk.proofs.Walking.{is_instruction, piece_on}

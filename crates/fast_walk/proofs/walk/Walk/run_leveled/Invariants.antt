@@ -1,7 +1,4 @@
-use Rattle.std.proofs.Common.{◌≡◌}
-use Rattle.fast_walk.specs.Pieces.{Reaches}
-use Rattle.fast_walk.specs.Received.{Carries}
-use Rattle.fast_walk.specs.Walks.{rank_of}
+use Rattle.fast_walk.proofs.Common.{◌≡◌, Reaches, Carries, rank_of}
 use Rattle.fast_walk.proofs.walk.Walk.run_leveled.Given as goal
 
 abbrev pub invariant-pieces : goal.invariant-pieces

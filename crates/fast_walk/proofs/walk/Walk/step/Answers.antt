@@ -1,16 +1,5 @@
-use Rattle.std.proofs.Common.{◌≡◌, ◌++◌, ◌-◌, ◌∷◌, [], List, Some, length, length-append, drop, map, refl, ap, ◌∙◌, arith, rules}
-use Rattle.std.proofs.lemmas.List.{map_push, nil_from_length}
-use Rattle.std.specs.Prelude.{option_to_list, Option}
+use Rattle.fast_walk.proofs.Common.{◌≡◌, ◌++◌, ◌-◌, ◌∷◌, [], List, Some, length, length-append, drop, map, refl, ap, ◌∙◌, arith, rules, map_push, nil_from_length, option_to_list, Option, Decimal, list_of, bytes_from, single, Sequel, Waiting, cursor, in_sequence, after_sequence, closed_in, ended_in, passed, left_around, bare, frame_of, inside_of, next_of, weight_of, Frame as FrameNow}
 use Rattle.fast_walk.proofs.Steps.{exit_is}
-use Rattle.fast_value.specs.declared.scalar.Scalar.TheVariants.{Decimal}
-use Rattle.fast_template.specs.Resolved.{list_of}
-use Rattle.fast_field.proofs.ReadFields.{bytes_from}
-use Rattle.fast_stream.specs.Nodes.{single}
-use Rattle.fast_walk.specs.OpenSegments.{Sequel, Waiting, cursor, in_sequence}
-use Rattle.fast_walk.specs.Received.{after_sequence, closed_in, ended_in, passed}
-use Rattle.fast_walk.specs.Room.{left_around}
-use Rattle.fast_walk.specs.Walks.{bare, frame_of, inside_of, next_of, weight_of}
-use Rattle.fast_walk.specs.declared.walk.Frame.{Frame as FrameNow}
 use Rattle.fast_walk.proofs.Pieces.{fault_stops, less_opened, opened_on, part_on, part_took, stops_here}
 use Rattle.fast_walk.proofs.Steps.{count_goes}
 use Rattle.fast_walk.proofs.Walking.{at_element_of, closed_on, closed_same, end_on_stops, ended_at, enters, has_next, is_instruction, is_mantissa, last_frames, last_of, left_last, mantissa_on_goes, mantissa_on_stops, no_map_on, no_more_on, no_node_on, none_mapped, sequel_on, served_pop}

@@ -1,8 +1,4 @@
-use Rattle.std.proofs.Common.{◌≡◌, refl, sym, ap, ◌∙◌, arith}
-use Rattle.fast_walk.specs.OpenSegments.{Sequel, in_sequence, with_element}
-use Rattle.fast_walk.specs.Received.{ended_in}
-use Rattle.fast_stream.specs.Nodes.{items_of}
-use Rattle.fast_walk.specs.Walks.{inside_of, next_of, sequel_of}
+use Rattle.fast_walk.proofs.Common.{◌≡◌, refl, sym, ap, ◌∙◌, arith, Sequel, in_sequence, with_element, ended_in, items_of, inside_of, next_of, sequel_of}
 use Rattle.fast_walk.proofs.Walking.{closed_none, is_element_of}
 use Rattle.fast_walk.proofs.walk.Walk.take_up.Goals as goal
 

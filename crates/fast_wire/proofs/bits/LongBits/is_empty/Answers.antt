@@ -1,5 +1,4 @@
-use Rattle.std.proofs.Common.{arith, ◌∙◌, sym, ◌≤◌, ◌*◌, length}
-use Rattle.std.proofs.lemmas.Bool.Decides.{nat_tests}
+use Rattle.fast_wire.proofs.Common.{arith, ◌∙◌, sym, ◌≤◌, ◌*◌, length, nat_tests}
 use Rattle.fast_wire.proofs.MapBits.{none_left}
 use Rattle.fast_wire.proofs.Masks.{none_behind}
 use Rattle.fast_wire.proofs.bits.LongBits.is_empty.Goals as goal

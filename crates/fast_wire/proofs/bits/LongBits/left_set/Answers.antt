@@ -1,7 +1,4 @@
-use Rattle.std.proofs.Common.{sym, refl, arith, ◌≡◌, true}
-use Rattle.fast_wire.specs.Entity.{groups}
-use Rattle.fast_wire.specs.PresenceMap.{bits_of, bit_at}
-use Rattle.std.proofs.lemmas.Bool.{false≢true}
+use Rattle.fast_wire.proofs.Common.{sym, refl, arith, ◌≡◌, true, groups, bits_of, bit_at, false≢true}
 use Rattle.fast_wire.proofs.MapBits.{left_here, left_none}
 use Rattle.fast_wire.proofs.bits.LongBits.left_set.Goals as goal
 

@@ -1,6 +1,4 @@
-use Rattle.std.proofs.Common.{◌≡◌, ◌≤◌, ◌<◌, ℕ, false}
-use Rattle.fast_wire.specs.Entity.{groups}
-use Rattle.fast_wire.specs.PresenceMap.{bits_of, bit_at}
+use Rattle.fast_wire.proofs.Common.{◌≡◌, ◌≤◌, ◌<◌, ℕ, false, groups, bits_of, bit_at}
 use Rattle.fast_wire.proofs.bits.LongBits.left_set.Given as goal
 
 abbrev pub invariant-loop-i : goal.invariant-loop-i

@@ -1,6 +1,4 @@
-use Rattle.std.proofs.Common.{◌≡◌, ◌∙◌, [], sym, ap, refl, arith}
-use Rattle.fast_wire.specs.Entity.{groups}
-use Rattle.fast_wire.specs.PresenceMap.{bits_of, later_bits}
+use Rattle.fast_wire.proofs.Common.{◌≡◌, ◌∙◌, [], sym, ap, refl, arith, groups, bits_of, later_bits}
 use Rattle.fast_wire.proofs.MapBits.{none_left, later_left}
 use Rattle.fast_wire.proofs.bits.LongBits.take.Goals as goal
 

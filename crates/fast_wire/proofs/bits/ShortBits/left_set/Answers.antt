@@ -1,5 +1,4 @@
-use Rattle.std.proofs.Common.{◌≡◌, ◌∙◌, sym, arith}
-use Rattle.std.proofs.lemmas.Bool.{false≢true}
+use Rattle.fast_wire.proofs.Common.{◌≡◌, ◌∙◌, sym, arith, false≢true}
 use Rattle.fast_wire.proofs.Masks.{none_under, set_under, twice_fits}
 use Rattle.fast_wire.proofs.bits.ShortBits.left_set.Goals as goal
 

@@ -1,7 +1,4 @@
-use Rattle.std.proofs.Common.{rules, ◌≡◌, ◌∙◌, ◌-◌, ◌*◌, ◌/◌, ◌^◌, ◌%◌, ◌<◌, ap, length, sym, arith}
-use Rattle.std.proofs.lemmas.Nat.{one_shl}
-use Rattle.fast_wire.specs.KeptBits.{marked_count}
-use Rattle.fast_wire.specs.PresenceMap.{bit_at, word_bits}
+use Rattle.fast_wire.proofs.Common.{rules, ◌≡◌, ◌∙◌, ◌-◌, ◌*◌, ◌/◌, ◌^◌, ◌%◌, ◌<◌, ap, length, sym, arith, one_shl, marked_count, bit_at, word_bits}
 use Rattle.fast_wire.proofs.MarkedWords.{kept_long, kept_word, unmarked}
 use Rattle.fast_wire.proofs.WordForms.{front_bits, nine_groups, some_kept, word_appended, word_length}
 use Rattle.fast_wire.proofs.map_builder.MapBuilder.write.Goals as goal

@@ -1,6 +1,4 @@
-use Rattle.std.proofs.Common.{◌∙◌, sym, inl, inr}
-use Rattle.std.proofs.lemmas.Bool.{false≢true}
-use Rattle.fast_wire.specs.KeptBits.{bits_behind}
+use Rattle.fast_wire.proofs.Common.{◌∙◌, sym, inl, inr, false≢true, bits_behind}
 use Rattle.fast_wire.proofs.WordBits.{set_back, set_either}
 use Rattle.fast_wire.proofs.presence_map.Bits.left_set.Goals as goal
 

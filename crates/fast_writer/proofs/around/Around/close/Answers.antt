@@ -1,8 +1,4 @@
-use Rattle.std.proofs.Common.{◌≡◌, ◌<◌, ◌≤◌, ◌-◌, ℕ, zero, suc, List, [], ◌∷◌, ◌++◌, length, map, take, slice_index_or, slice_set, refl, sym, ap, ◌∙◌, arith}
-use Rattle.std.proofs.Math.Seq.{take-suc}
-use Rattle.std.proofs.lemmas.List.{map_push, take-set}
-use Rattle.fast_writer.specs.Levels.{level_of}
-use Rattle.fast_writer.specs.Written.{Segment}
+use Rattle.fast_writer.proofs.Common.{◌≡◌, ◌<◌, ◌≤◌, ◌-◌, ℕ, zero, suc, List, [], ◌∷◌, ◌++◌, length, map, take, slice_index_or, slice_set, refl, sym, ap, ◌∙◌, arith, take-suc, map_push, take-set, level_of, Segment}
 use Rattle.fast_writer.specs.declared.segment.Segment.{Segment as SegmentNow}
 use Rattle.fast_writer.proofs.around.Around.close.Goals as goal
 

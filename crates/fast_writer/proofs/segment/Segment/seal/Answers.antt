@@ -1,8 +1,5 @@
-use Rattle.std.proofs.Common.{◌≡◌, zero, suc, Bool, true, false, List, [], ◌∷◌, rules, drop, inl, inr, refl, sym, ◌∙◌}
-use Rattle.fast_wire.specs.declared.fault.WireFault.TheVariants as fault
-use Rattle.fast_wire.specs.PresenceMap.{HasSetBit}
+use Rattle.fast_writer.proofs.Common.{◌≡◌, zero, suc, Bool, true, false, List, [], ◌∷◌, rules, drop, inl, inr, refl, sym, ◌∙◌, WireFault, HasSetBit, has_set}
 use Rattle.fast_writer.proofs.MapRoom.{set_at}
-use Rattle.fast_writer.specs.Written.{has_set}
 use Rattle.fast_writer.proofs.segment.Segment.seal.Goals.{then-self+in-Ok, else-self}
 use Rattle.fast_writer.proofs.segment.Segment.seal.Goals as goal
 
@@ -19,6 +16,6 @@ returns-in-Err-TooLong-clause-refused c = elim c.in-Err-TooLong.ensures.err [
 
 pub returns-in-Ok-extend_from_slice-clause-room : goal.returns-in-Ok-extend_from_slice-clause-room
 returns-in-Ok-extend_from_slice-clause-room c = elim c.if-self.branch [
-  | then-self+in-Ok w ↦ rw (none_set_of (drop 1792 c.args.self.now.bits) (λ many. absurd (let both = sym w.in-Ok.is ∙ w.write.ensures.refused fault.TooLong (refl, many) in cc))) (search rules)
+  | then-self+in-Ok w ↦ rw (none_set_of (drop 1792 c.args.self.now.bits) (λ many. absurd (let both = sym w.in-Ok.is ∙ w.write.ensures.refused WireFault.TooLong (refl, many) in cc))) (search rules)
   | else-self w ↦ rw (w.if-self.false) refl
 ]

@@ -1,5 +1,4 @@
-use Rattle.std.proofs.Common.{ap, map}
-use Rattle.fast_writer.specs.Levels.{level_of}
+use Rattle.fast_writer.proofs.Common.{ap, map, level_of}
 use Rattle.fast_writer.proofs.Writers.{has_ended}
 use Rattle.fast_writer.proofs.MapRoom.{closed_room, inside_room}
 use Rattle.fast_writer.proofs.writer.Writer.close.Goals as goal

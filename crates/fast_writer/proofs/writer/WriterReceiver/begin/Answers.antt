@@ -1,6 +1,4 @@
-use Rattle.std.proofs.Common.{true, refl, ap, map, rules, ◌≡◌}
-use Rattle.fast_stream.specs.Streams.{identifier}
-use Rattle.fast_writer.specs.Levels.{level_of}
+use Rattle.fast_writer.proofs.Common.{true, refl, ap, map, rules, ◌≡◌, identifier, level_of}
 use Rattle.fast_writer.proofs.Writers.{has_opened}
 use Rattle.fast_writer.proofs.MapRoom.{fresh_room}
 use Rattle.fast_writer.proofs.writer.WriterReceiver.begin.Goals as goal

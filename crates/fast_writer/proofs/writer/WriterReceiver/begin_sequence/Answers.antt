@@ -1,8 +1,5 @@
-use Rattle.std.proofs.Common.{map}
-use Rattle.std.proofs.lemmas.Result.{MatchResult-weaker}
-use Rattle.fast_writer.specs.Levels.{level_of}
+use Rattle.fast_writer.proofs.Common.{map, MatchResult-weaker, level_of, have_room}
 use Rattle.fast_writer.proofs.Writers.{has_length}
-use Rattle.fast_writer.specs.Room.{have_room}
 use Rattle.fast_writer.proofs.writer.WriterReceiver.begin_sequence.Goals as goal
 
 pub returns-clause-goes : goal.returns-clause-goes

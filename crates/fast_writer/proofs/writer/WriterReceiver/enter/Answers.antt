@@ -1,8 +1,5 @@
-use Rattle.std.proofs.Common.{true, sym, map}
-use Rattle.fast_writer.specs.Levels.{level_of}
+use Rattle.fast_writer.proofs.Common.{true, sym, map, level_of, after_bit, have_room}
 use Rattle.fast_writer.proofs.Writers.{has_entered}
-use Rattle.fast_stream.specs.Bits.{after_bit}
-use Rattle.fast_writer.specs.Room.{have_room}
 use Rattle.fast_writer.proofs.MapRoom.{asked_room, opened_room}
 use Rattle.fast_writer.proofs.writer.WriterReceiver.enter.Goals as goal
 

@@ -1,5 +1,4 @@
-use Rattle.std.proofs.Common.{map}
-use Rattle.fast_writer.specs.Levels.{level_of}
+use Rattle.fast_writer.proofs.Common.{map, level_of}
 use Rattle.fast_writer.proofs.MapRoom.{opened_room}
 use Rattle.fast_writer.proofs.writer.WriterReceiver.enter_element.Goals as goal
 

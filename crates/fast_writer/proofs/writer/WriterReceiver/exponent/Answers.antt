@@ -1,10 +1,6 @@
-use Rattle.std.proofs.Common.{map}
-use Rattle.std.proofs.lemmas.Result.{MatchResult-weaker}
-use Rattle.fast_walk.specs.Received.{exponent_of}
-use Rattle.fast_writer.specs.Levels.{level_of}
+use Rattle.fast_writer.proofs.Common.{map, MatchResult-weaker, exponent_of, level_of, have_room}
 use Rattle.fast_writer.proofs.SpeltParts.{exponent_there}
 use Rattle.fast_writer.proofs.Writers.{has_exponent, is_exponent}
-use Rattle.fast_writer.specs.Room.{have_room}
 use Rattle.fast_writer.proofs.writer.WriterReceiver.exponent.Goals as goal
 
 pub returns-clause-goes : goal.returns-clause-goes

@@ -1,7 +1,5 @@
-use Rattle.std.proofs.Common.{map}
-use Rattle.fast_writer.specs.Levels.{level_of}
+use Rattle.fast_writer.proofs.Common.{map, level_of, have_room}
 use Rattle.fast_writer.proofs.Writers.{has_field}
-use Rattle.fast_writer.specs.Room.{have_room}
 use Rattle.fast_writer.proofs.writer.WriterReceiver.field.Goals as goal
 
 pub returns-clause-goes : goal.returns-clause-goes

@@ -1,8 +1,4 @@
-use Rattle.std.proofs.Common.{map, ap}
-use Rattle.std.proofs.lemmas.Result.{IfOk-weaker, on_ok_weaker}
-use Rattle.fast_walk.specs.Walks.{bare_next}
-use Rattle.fast_writer.specs.Levels.{level_of}
-use Rattle.fast_writer.specs.Room.{have_room}
+use Rattle.fast_writer.proofs.Common.{map, ap, IfOk-weaker, on_ok_weaker, bare_next, level_of, have_room}
 use Rattle.fast_writer.proofs.writer.WriterReceiver.fields.Goals as goal
 
 pub returns-in-Usual-clause-goes : goal.returns-in-Usual-clause-goes

@@ -1,7 +1,5 @@
-use Rattle.std.proofs.Common.{map}
-use Rattle.fast_writer.specs.Levels.{level_of}
+use Rattle.fast_writer.proofs.Common.{map, level_of, have_room}
 use Rattle.fast_writer.proofs.Writers.{has_left_out}
-use Rattle.fast_writer.specs.Room.{have_room}
 use Rattle.fast_writer.proofs.MapRoom.{left_room}
 use Rattle.fast_writer.proofs.writer.WriterReceiver.left_out.Goals as goal
 

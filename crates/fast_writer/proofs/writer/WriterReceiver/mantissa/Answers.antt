@@ -1,9 +1,6 @@
-use Rattle.std.proofs.Common.{map}
-use Rattle.fast_writer.specs.Levels.{level_of}
-use Rattle.fast_dictionary.specs.Dictionary.{entry_at}
+use Rattle.fast_writer.proofs.Common.{map, level_of, entry_at, have_room}
 use Rattle.fast_writer.proofs.SpeltParts.{mantissa_taken}
 use Rattle.fast_writer.proofs.Writers.{has_mantissa}
-use Rattle.fast_writer.specs.Room.{have_room}
 use Rattle.fast_writer.proofs.writer.WriterReceiver.mantissa.Goals as goal
 
 pub returns-clause-goes : goal.returns-clause-goes

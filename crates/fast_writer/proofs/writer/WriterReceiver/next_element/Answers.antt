@@ -1,8 +1,4 @@
-use Rattle.std.proofs.Common.{map, refl}
-use Rattle.fast_stream.specs.Nodes.{items_of}
-use Rattle.fast_walk.specs.OpenSegments.{in_sequence, with_element}
-use Rattle.fast_walk.specs.Received.{ended_in}
-use Rattle.fast_writer.specs.Levels.{level_of}
+use Rattle.fast_writer.proofs.Common.{map, refl, items_of, in_sequence, with_element, ended_in, level_of}
 use Rattle.fast_writer.proofs.Writers.{has_element, has_ended}
 use Rattle.fast_writer.proofs.MapRoom.{closed_room, opened_room}
 use Rattle.fast_writer.proofs.writer.WriterReceiver.next_element.Goals as goal
