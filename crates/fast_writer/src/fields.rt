@@ -231,7 +231,9 @@ fn take_part<L: Leveled, E: Entries>(
             if needs && !bits.first() {
                 take_given(which, part, entry, bits, level, bytes, segment)
             } else {
-                take_sent(which, alloc, part, entry, bits, needs, level, bytes, segment)
+                take_sent(
+                    which, alloc, part, entry, bits, needs, level, bytes, segment,
+                )
             }
         }
     }
