@@ -164,14 +164,12 @@ fn take_sent<L: Leveled>(
     part: &FieldPart,
     entry: &mut Entry,
     bits: &mut Bits,
-    needs: bool,
     level: L,
     bytes: &[u8],
     segment: &mut Segment,
 ) -> Taken
     requires run { IsRun bytes.now segment.now.bytes.place segment.now.bytes }
     requires which { which ≡ part.now.part }
-    requires needs { needs ≡ part_needs_bit_of part.now }
     requires kept { HoldsScalar entry.now }
     requires part { IsFieldPart part.now }
     requires bit { bit_for (part_needs_bit_of part.now) bits.now ≡ true }
@@ -182,6 +180,7 @@ fn take_sent<L: Leveled>(
     if !is_read_as_usual(level.level(), part, bytes, at) {
         return Taken::Elsewhere;
     }
+    let needs = part_needs_bit(part);
     let judged = judge_field(which, alloc, part, entry, bytes, at);
     if let Judged::Stands(next) = judged {
         segment.bytes.keep(next);
@@ -227,13 +226,10 @@ fn take_part<L: Leveled, E: Entries>(
         Err(_) => Taken::Refused,
         Ok(entry) => {
             // one way for each bit, so that nothing is asked twice of what they answer
-            let needs = part_needs_bit(part);
-            if needs && !bits.first() {
+            if part_needs_bit(part) && !bits.first() {
                 take_given(which, part, entry, bits, level, bytes, segment)
             } else {
-                take_sent(
-                    which, alloc, part, entry, bits, needs, level, bytes, segment,
-                )
+                take_sent(which, alloc, part, entry, bits, level, bytes, segment)
             }
         }
     }

@@ -9,7 +9,7 @@ returns-in-Stands g c =
     let l = c.args.segment.now in
     let k = c.end_part.new.segment in
     let judged = c.in-Stands.ensures in
-    taken g.L.Leveled.at true c.args.bits.now c.end_part.new.bits bytes l.bytes.place c.in-Stands.next l k c.end_part.result c.requires.bit c.requires.needs (λ low. low) judged.place (judged.gives.0, refl, judged.gives.1.0)
+    taken g.L.Leveled.at true c.args.bits.now c.end_part.new.bits bytes l.bytes.place c.in-Stands.next l k c.end_part.result c.requires.bit c.part_needs_bit-needs.ensures (λ low. low) judged.place (judged.gives.0, refl, judged.gives.1.0)
     (judged_relayed (rw (c.level.ensures) at (c.is_read_as_usual.ensures c.if-not-is_read_as_usual.false)) judged.gives.1.1 (c.keep.ensures.written bytes l.bytes.place c.requires.run))
     (ended _ _ _ _ _ l k c.keep.new.self c.end_part.result (c.keep.ensures.run bytes l.bytes.place c.requires.run judged.within) c.end_part.ensures)
 
