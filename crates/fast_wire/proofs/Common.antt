@@ -1,6 +1,6 @@
 -- What the proofs of this crate cite from elsewhere, passed on from one place. Declares nothing.
 pub use Rattle.std.proofs.Common.{All, Bool, Err, Global, IfOk, IsOk, IsTrue, List, MatchOption, None, Ok, Option, Result, Some, Vec, [], add-zero, ap, append-nil, append_assoc, ap₂, arith, below_more, bit_and, cond, drop, drop-drop, eqb, false, get_or, get_or-drop, get_or-take, if◌then◌else◌, inl, inr, is_ok, leb, length, length-append, length-drop, length-take, lit≤, map, min, nat_eq, nat_le, nat_lt, negsuc, not, pos, refl, replicate, rules, set, slice_index, slice_index_or, slice_range, subst, suc, sym, take, take-append-drop, true, vec_len, zero, ℕ, ℤ, ◌%◌, ◌&&◌, ◌*ℤ◌, ◌*◌, ◌++◌, ◌+ℤ◌, ◌+◌, ◌-ℤ◌, ◌-◌, ◌/◌, ◌<◌, ◌^◌, ◌||◌, ◌∙◌, ◌∷◌, ◌≡◌, ◌≤◌, ◌⊎◌}
-pub use Rattle.std.proofs.Math.Nat.{div-div-eq-div-mul, mod-eq_of_lt, mul-add-div_right, mul-add-mod_self_right, mul-le-mul_left, mul-le-mul_right, mul-pos, mul_assoc, pow-le-pow_right, pow-suc, pow-zero, zero-mul}
+pub use Rattle.std.proofs.Math.Nat.{add-mul, div-div-eq-div-mul, mod-eq_of_lt, mul-add-div_right, mul-add-mod_self_right, mul-le-mul_left, mul-le-mul_right, mul-pos, mul_assoc, pow-le-pow_right, pow-suc, pow-zero, zero-mul}
 pub use Rattle.std.proofs.Math.Numerals.{add-one}
 pub use Rattle.std.proofs.Math.Pow.{mod-mod-pow}
 pub use Rattle.std.proofs.Math.Seq.{take-length}

@@ -1,5 +1,5 @@
 -- The map of the bits of a word.
-use Rattle.fast_wire.proofs.Common.{◌≡◌, ℕ, zero, suc, ◌+◌, ◌-◌, ◌*◌, ◌/◌, ◌%◌, ◌^◌, ◌<◌, ◌≤◌, Bool, true, false, nat_eq, List, [], ◌∷◌, ◌++◌, length, Result, Vec, Global, refl, sym, ap, ap₂, ◌∙◌, arith, inl, inr, append_assoc, w64, trailing_zeros, cases_lt, true≢false, mod-pow-add, pow_pos, shl-shr, shr-shr, shr_split, shl_below, shl_whole, bit_at-trailing_zeros, bit_at-zero, bit_at_above, bit_at_cat_low, mod-eq_of_lt, mul-pos, zero-mul, groups, HasSetBit, IsMap, bit_at, bits_of, word_bits, unsigned_of, Appends, entity_of, IsShortest, TooManyBits, Writes, WireFault}
+use Rattle.fast_wire.proofs.Common.{◌≡◌, ℕ, zero, suc, ◌+◌, ◌-◌, ◌*◌, ◌/◌, ◌%◌, ◌^◌, ◌<◌, ◌≤◌, Bool, true, false, nat_eq, List, [], ◌∷◌, ◌++◌, length, Result, Vec, Global, refl, sym, ap, ap₂, ◌∙◌, arith, inl, inr, append_assoc, add-mul, pow-add, w64, trailing_zeros, cases_lt, true≢false, mod-pow-add, pow_pos, shl-shr, shr-shr, shr_split, shl_below, shl_whole, bit_at-trailing_zeros, bit_at-zero, bit_at_above, bit_at_cat_low, mod-eq_of_lt, mul-pos, zero-mul, groups, HasSetBit, IsMap, bit_at, bits_of, word_bits, unsigned_of, Appends, entity_of, IsShortest, TooManyBits, Writes, WireFault}
 use Rattle.fast_wire.proofs.MapForms.{few_none, past}
 use Rattle.fast_wire.proofs.Numbers.{pow_bits}
 use Rattle.fast_wire.proofs.UnsignedForms.{entity_is, entity_length, entity_some, entity_value}
@@ -163,3 +163,14 @@ some_kept w count some = elim (cases_lt 0 w) [
 
 pub some_groups : (w m : ℕ) → 0 < w → 0 < w * 2 ^ m
 some_groups w m some = mul-pos some (pow_pos m)
+
+-- a word whose mark, its first 1, was moved to the front of 64 bits
+pub marked_up : (w k : ℕ) → k ≤ 63 → 2 ^ k ≤ w → w < 2 ^ k + 2 ^ k
+    → (2 ^ 63 ≤ w * 2 ^ (63 - k) % 2 ^ 64) × (w * 2 ^ (63 - k) % 2 ^ 64 - 2 ^ 63 ≡ (w - 2 ^ k) * 2 ^ (63 - k) % 2 ^ 64)
+marked_up w k few low high =
+    let nine = nine_groups k (w - 2 ^ k) few (omega arith) in
+    let places : k + (63 - k) ≡ 63 = omega arith in
+    let mark : 2 ^ k * 2 ^ (63 - k) ≡ 2 ^ 63 = rw places at (sym (pow-add 2 k (63 - k))) in
+    let parts : 2 ^ k + (w - 2 ^ k) ≡ w = omega arith in
+    let sum : w * 2 ^ (63 - k) ≡ 2 ^ 63 + (w - 2 ^ k) * 2 ^ (63 - k) = rw (← mark) (ap (λ x. x * 2 ^ (63 - k)) (sym parts) ∙ add-mul (2 ^ k) (w - 2 ^ k) (2 ^ (63 - k))) in
+    rw (sum, nine.0) (omega (arith, nine.1), omega (arith, nine.1))

@@ -96,13 +96,12 @@ impl MapBuilder {
             return write_map(&self.long, out);
         }
         let count = marked_count(self.word);
-        let bits = self.word - (1 << count);
-        // nine groups, the first bit at their front; in most maps only the first has a 1
-        let groups = bits << (WORD_BITS - count);
+        // nine groups behind the mark, the first bit at their front; in most maps only the first has a 1
+        let groups = (self.word << (WORD_BITS - count)) - FULL;
         if groups % FIRST_GROUP == 0 {
             return append_byte((groups / FIRST_GROUP) as u8, out);
         }
-        append_word(bits, count, out)
+        append_word(self.word - (1 << count), count, out)
     }
 }
 
