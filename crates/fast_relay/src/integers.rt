@@ -20,7 +20,7 @@ pub fn is_unsigned(kind: Kind) -> bool
     }
 }
 
-/// A number without a sign, of at most nine bytes; none where it has more, is NULL or faulty.
+/// A number without a sign that has 64 bits; none where it has more, is NULL or faulty.
 #[tactic(auto, unfolding(fast_field::specs::FieldReading::integer_at))]
 #[inline(always)]
 pub(crate) fn read_unsigned(presence: Presence, bytes: &[u8], at: usize) -> Option<(u64, usize)>
@@ -30,15 +30,19 @@ pub(crate) fn read_unsigned(presence: Presence, bytes: &[u8], at: usize) -> Opti
         (pos x.0) (drop x.1 bytes.now)) }
 {
     match presence {
-        Presence::Mandatory => fast_wire::short_u64(bytes, at),
-        Presence::Optional => match fast_wire::short_u64_nullable(bytes, at)? {
-            (Nullable::Value(number), next) => Some((number, next)),
-            (Nullable::Null, _) => None,
+        Presence::Mandatory => match fast_wire::read_u64(bytes, at) {
+            Ok(found) => Some(found),
+            Err(_) => None,
+        },
+        Presence::Optional => match fast_wire::read_u64_nullable(bytes, at) {
+            Ok((Nullable::Value(number), next)) => Some((number, next)),
+            Ok((Nullable::Null, _)) => None,
+            Err(_) => None,
         },
     }
 }
 
-/// A number with a sign, of at most nine bytes; none where it has more, is NULL or faulty.
+/// A number with a sign that has 64 bits; none where it has more, is NULL or faulty.
 #[tactic(auto, unfolding(fast_field::specs::FieldReading::integer_at))]
 #[inline(always)]
 pub(crate) fn read_signed(presence: Presence, bytes: &[u8], at: usize) -> Option<(i64, usize)>
@@ -48,15 +52,19 @@ pub(crate) fn read_signed(presence: Presence, bytes: &[u8], at: usize) -> Option
         x.0 (drop x.1 bytes.now)) }
 {
     match presence {
-        Presence::Mandatory => fast_wire::short_i64(bytes, at),
-        Presence::Optional => match fast_wire::short_i64_nullable(bytes, at)? {
-            (Nullable::Value(number), next) => Some((number, next)),
-            (Nullable::Null, _) => None,
+        Presence::Mandatory => match fast_wire::read_i64(bytes, at) {
+            Ok(found) => Some(found),
+            Err(_) => None,
+        },
+        Presence::Optional => match fast_wire::read_i64_nullable(bytes, at) {
+            Ok((Nullable::Value(number), next)) => Some((number, next)),
+            Ok((Nullable::Null, _)) => None,
+            Err(_) => None,
         },
     }
 }
 
-/// A number of at most nine bytes; none where it has more, is NULL or faulty.
+/// A number that has 64 bits; none where it has more, is NULL or faulty.
 #[inline(always)]
 pub(crate) fn read_short(
     unsigned: bool,

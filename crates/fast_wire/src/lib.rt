@@ -40,8 +40,8 @@ pub use nullable::{
 pub use plain::{is_text_of, plain_ascii_end};
 pub use presence_map::{Bits, read_map, write_map};
 pub use short_integer::{
-    read_i64, read_i64_nullable, read_u64, read_u64_nullable, short_i64, short_i64_nullable,
-    short_u64, short_u64_nullable, write_i64, write_i64_nullable, write_u64, write_u64_nullable,
+    read_i64, read_i64_nullable, read_u64, read_u64_nullable, write_i64, write_i64_nullable,
+    write_u64, write_u64_nullable,
 };
 pub use span::Span;
 pub use stop_bit::{entity_end, find_stop};

@@ -1,7 +1,7 @@
 //! Integers in 64 bits: an entity of one byte is read and written inline, one of at most nine is read in one
 //! register, and the rest is done by `integer` and `nullable`.
 
-ghost use Rattle.std.specs.Prelude.{◌≡◌, ◌+◌, ◌%◌, ◌<◌, ◌≤◌, nat_le, length, slice_index, drop, take, Ok, IfNone, IfOk, IfSome, MatchOption};
+ghost use Rattle.std.specs.Prelude.{◌≡◌, ◌+◌, ◌%◌, ◌<◌, ◌≤◌, nat_le, length, slice_index, drop, take, IfOk, IfSome, MatchOption};
 ghost use Rattle.fast_wire.specs.Entity.{HasNoStop};
 ghost use Rattle.fast_wire.specs.Nullable.{IsNullOr, IsSignedNullable, IsUnsignedNullable, received_unsigned, sent_signed};
 ghost use Rattle.fast_wire.specs.Nullable as nullable;
@@ -73,18 +73,6 @@ pub(crate) fn short_unsigned(bytes: &[u8], at: usize) -> Option<(u64, usize)>
     Some((number as u64, next))
 }
 
-/// Reads an unsigned integer of at most nine bytes as `read_u64` does. None: there is no stop bit in nine bytes.
-#[inline(always)]
-#[tactic(auto, using(crate::proofs::ShortIntegers::short_given))]
-pub fn short_u64(bytes: &[u8], at: usize) -> Option<(u64, usize)>
-    requires { at ≤ length bytes.now }
-    ensures place { IfSome result (λ x. (at < x.1) × (x.1 ≤ length bytes.now)) }
-    ensures gives { IfSome result (λ x. unsigned_at (drop at bytes.now) ≡ Ok (x.0, drop x.1 bytes.now)) }
-    ensures none { IfNone result (HasNoStop (take 9 (drop at bytes.now))) }
-{
-    short_unsigned(bytes, at)
-}
-
 /// Reads an unsigned integer as `read_unsigned` does, in 64 bits. Range: the number has more. It takes no
 /// memory.
 #[inline(always)]
@@ -93,7 +81,7 @@ pub fn read_u64(bytes: &[u8], at: usize) -> Result<(u64, usize), WireFault>
     ensures place { IfOk result (λ x. (at < x.1) × (x.1 ≤ length bytes.now)) }
     ensures gives { GivesAt (OrOutside FitsU64) unsigned_at (λ v. v) bytes.now at result }
 {
-    match short_u64(bytes, at) {
+    match short_unsigned(bytes, at) {
         Some(found) => Ok(found),
         None => read_long(bytes, at),
     }
@@ -125,19 +113,6 @@ fn received(sent: u64) -> Nullable<u64>
     }
 }
 
-/// Reads a nullable unsigned integer of at most nine bytes as `read_u64_nullable` does. None: there is no stop bit in nine bytes.
-#[inline(always)]
-#[tactic(auto, using(crate::proofs::ShortIntegers::short_nullable_given))]
-pub fn short_u64_nullable(bytes: &[u8], at: usize) -> Option<(Nullable<u64>, usize)>
-    requires { at ≤ length bytes.now }
-    ensures place { IfSome result (λ x. (at < x.1) × (x.1 ≤ length bytes.now)) }
-    ensures gives { IfSome result (λ x. unsigned_nullable_at (drop at bytes.now) ≡ Ok (x.0, drop x.1 bytes.now)) }
-    ensures none { IfNone result (HasNoStop (take 9 (drop at bytes.now))) }
-{
-    let (sent, next) = short_unsigned(bytes, at)?;
-    Some((received(sent), next))
-}
-
 /// Reads a nullable unsigned integer as `read_unsigned_nullable` does, in 64 bits. Range: the number has more.
 /// It takes no memory.
 #[inline(always)]
@@ -147,8 +122,8 @@ pub fn read_u64_nullable(bytes: &[u8], at: usize) -> Result<(Nullable<u64>, usiz
     ensures gives { GivesAt (OrOutside (IsNullOr FitsU64)) unsigned_nullable_at (λ v. v)
         bytes.now at result }
 {
-    match short_u64_nullable(bytes, at) {
-        Some(found) => Ok(found),
+    match short_unsigned(bytes, at) {
+        Some((sent, next)) => Ok((received(sent), next)),
         None => read_long_nullable(bytes, at),
     }
 }
@@ -189,18 +164,6 @@ fn short_signed(bytes: &[u8], at: usize) -> Option<(i64, usize)>
     longer_entity(bytes, at, group >= 64)
 }
 
-/// Reads a signed integer of at most nine bytes as `read_i64` does. None: there is no stop bit in nine bytes.
-#[inline(always)]
-#[tactic(auto, using(crate::proofs::ShortIntegers::short_signed_given))]
-pub fn short_i64(bytes: &[u8], at: usize) -> Option<(i64, usize)>
-    requires { at ≤ length bytes.now }
-    ensures place { IfSome result (λ x. (at < x.1) × (x.1 ≤ length bytes.now)) }
-    ensures gives { IfSome result (λ x. signed_at (drop at bytes.now) ≡ Ok (x.0, drop x.1 bytes.now)) }
-    ensures none { IfNone result (HasNoStop (take 9 (drop at bytes.now))) }
-{
-    short_signed(bytes, at)
-}
-
 /// Reads a signed integer as `read_signed` does, in 64 bits. Range: the number has more. It takes no memory.
 #[inline(always)]
 pub fn read_i64(bytes: &[u8], at: usize) -> Result<(i64, usize), WireFault>
@@ -208,7 +171,7 @@ pub fn read_i64(bytes: &[u8], at: usize) -> Result<(i64, usize), WireFault>
     ensures place { IfOk result (λ x. (at < x.1) × (x.1 ≤ length bytes.now)) }
     ensures gives { GivesAt (OrOutside FitsI64) signed_at (λ v. v) bytes.now at result }
 {
-    match short_i64(bytes, at) {
+    match short_signed(bytes, at) {
         Some(found) => Ok(found),
         None => read_long_signed(bytes, at),
     }
@@ -242,19 +205,6 @@ fn received_signed(sent: i64) -> Nullable<i64>
     }
 }
 
-/// Reads a nullable signed integer of at most nine bytes as `read_i64_nullable` does. None: there is no stop bit in nine bytes.
-#[inline(always)]
-#[tactic(auto, using(crate::proofs::ShortIntegers::short_signed_nullable_given))]
-pub fn short_i64_nullable(bytes: &[u8], at: usize) -> Option<(Nullable<i64>, usize)>
-    requires { at ≤ length bytes.now }
-    ensures place { IfSome result (λ x. (at < x.1) × (x.1 ≤ length bytes.now)) }
-    ensures gives { IfSome result (λ x. signed_nullable_at (drop at bytes.now) ≡ Ok (x.0, drop x.1 bytes.now)) }
-    ensures none { IfNone result (HasNoStop (take 9 (drop at bytes.now))) }
-{
-    let (sent, next) = short_signed(bytes, at)?;
-    Some((received_signed(sent), next))
-}
-
 /// Reads a nullable signed integer as `read_signed_nullable` does, in 64 bits. Range: the number has more. It
 /// takes no memory.
 #[inline(always)]
@@ -264,8 +214,8 @@ pub fn read_i64_nullable(bytes: &[u8], at: usize) -> Result<(Nullable<i64>, usiz
     ensures gives { GivesAt (OrOutside (IsNullOr FitsI64)) signed_nullable_at (λ v. v)
         bytes.now at result }
 {
-    match short_i64_nullable(bytes, at) {
-        Some(found) => Ok(found),
+    match short_signed(bytes, at) {
+        Some((sent, next)) => Ok((received_signed(sent), next)),
         None => read_long_signed_nullable(bytes, at),
     }
 }

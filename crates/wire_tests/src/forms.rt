@@ -311,41 +311,15 @@ fn answers(rt: &impl Abort, bytes: &[u8], at: usize, wanted: Read) {
         Read::Signed(wanted) => same(rt, read_signed(bytes, at), wanted),
         Read::UnsignedNullable(wanted) => same(rt, read_unsigned_nullable(bytes, at), wanted),
         Read::SignedNullable(wanted) => same(rt, read_signed_nullable(bytes, at), wanted),
-        Read::U64(wanted) => {
-            same(rt, read_u64(bytes, at), wanted);
-            same(rt, short_u64(bytes, at), short(wanted, at));
-        }
-        Read::I64(wanted) => {
-            same(rt, read_i64(bytes, at), wanted);
-            same(rt, short_i64(bytes, at), short(wanted, at));
-        }
-        Read::U64Nullable(wanted) => {
-            same(rt, read_u64_nullable(bytes, at), wanted);
-            same(rt, short_u64_nullable(bytes, at), short(wanted, at));
-        }
-        Read::I64Nullable(wanted) => {
-            same(rt, read_i64_nullable(bytes, at), wanted);
-            same(rt, short_i64_nullable(bytes, at), short(wanted, at));
-        }
+        Read::U64(wanted) => same(rt, read_u64(bytes, at), wanted),
+        Read::I64(wanted) => same(rt, read_i64(bytes, at), wanted),
+        Read::U64Nullable(wanted) => same(rt, read_u64_nullable(bytes, at), wanted),
+        Read::I64Nullable(wanted) => same(rt, read_i64_nullable(bytes, at), wanted),
         Read::Text(wanted) => same(rt, find_ascii(bytes, at), wanted),
         Read::Vector(wanted) => same(rt, find_vector(bytes, at), wanted),
         Read::TextNullable(wanted) => same(rt, find_ascii_nullable(bytes, at), wanted),
         Read::VectorNullable(wanted) => same(rt, find_vector_nullable(bytes, at), wanted),
         Read::Utf8(wanted) => same(rt, check_text(bytes), wanted),
-    }
-}
-
-// What is found of it in nine bytes.
-fn short<T: Copy>(read: Result<(T, usize), WireFault>, at: usize) -> Option<(T, usize)> {
-    match read {
-        Ok((value, next)) => {
-            if next.saturating_sub(at) <= 9 {
-                Some((value, next))
-            } else {
-                None
-            }
-        }
-        Err(_) => None,
     }
 }
 
