@@ -1,66 +1,17 @@
 -- What is chosen for a value is spelled as its best form.
-use Rattle.fast_field.proofs.Common.{◌≡◌, ℕ, ◌-◌, Bool, true, false, List, [], ◌∷◌, ◌++◌, length, take, drop, refl, ap, subst, ◌∙◌, arith, Ok, Err, Result, ℤ, pos, negsuc, ◌-ℤ◌, Option, Some, None, IsTrue, drop_at, take_at, Usual, IsUnsignedNullable, IsSignedNullable, IsShortest, Null, ascii_null_shortest, unsigned_nullable_sizes, entity_some, vector_null_shortest, is_integer, IsScalar, applies, Kind, Operator, Presence, Optional, FieldPart, Scalar, U32, I32, U64, I64, Decimal, Ascii, Unicode, Bytes, Entry, FieldFault, Pieces, is_unsigned, integer_of, exponent_of, mantissa_of, units_of, IsUnitKind, IsFieldPart, delta_base, tail_base, SpellsInteger, SpellsUnits, Spelled, uncut, put_together, SpellsTail, DeltaValue, DeltaForm, TailForm, FormOf, HasRangeOr, HoldsScalar, IsBest, constant_gives, left_out_of, operator_refusal, refusal_of, length_of, Both, ShortestSigned, ShortestPart, ShortestPair, ShortestWhole, ShortestPieces, CanBeUnits, CanBeWhole, CanBePieces, IsBestCut, IsWhole, IsNothing, IsDelta, IsTail, OnBase, IsMadeOf}
+use Rattle.fast_field.proofs.Common.{◌≡◌, ℕ, ◌-◌, true, false, List, [], ◌++◌, length, take, drop, refl, ap, subst, ◌∙◌, Ok, Err, Result, ℤ, pos, negsuc, ◌-ℤ◌, Option, Some, None, IsTrue, drop_at, take_at, Usual, IsUnsignedNullable, IsShortest, Null, is_integer, IsScalar, applies, Kind, Operator, Presence, FieldPart, Scalar, Decimal, Ascii, Unicode, Bytes, Entry, FieldFault, Pieces, integer_of, exponent_of, mantissa_of, units_of, IsUnitKind, IsFieldPart, delta_base, tail_base, Spelled, uncut, put_together, SpellsTail, DeltaValue, DeltaForm, TailForm, FormOf, HasRangeOr, HoldsScalar, IsBest, left_out_of, operator_refusal, refusal_of, length_of, Both, ShortestSigned, ShortestPart, ShortestPair, ShortestWhole, ShortestPieces, CanBeUnits, CanBeWhole, CanBePieces, IsBestCut, IsWhole, IsNothing, IsDelta, IsTail, OnBase, IsMadeOf}
 use Rattle.fast_field.proofs.BestForms.{bit_zero_is_best}
 use Rattle.fast_field.proofs.BestDeltas.{IsFirst, difference_fits, differences_fit, number_delta_is_first, decimal_delta_is_first}
 use Rattle.fast_field.proofs.BestCuts.{cut_is_first, removal_small, drop_fits, take_fits}
 use Rattle.fast_field.proofs.BestTails.{tail_is_first}
-use Rattle.fast_field.proofs.BestValues.{left_out, whole_is_first, delta_is_first, delta_null_is_first, tail_form_is_first, tail_null_is_first, constant_is_first, constant_is, absent_optional, best_under_one, field_value, operator_allows}
+use Rattle.fast_field.proofs.BestValues.{null_first, null_is_byte, left_out, whole_is_first, delta_is_first, tail_form_is_first, constant_is_first, constant_is, absent_optional, best_under_one, field_value, operator_allows}
 use Rattle.fast_field.proofs.FieldsWithin.{delta_base_within, unit_kind}
-use Rattle.fast_field.proofs.Shortest.{unsigned_form, signed_form, units_form, pair_form, pair_least}
-use Rattle.fast_field.proofs.StandingForms.{text_of, number_shortest, string_is_shortest, decimal_is_shortest}
+use Rattle.fast_field.proofs.Shortest.{whole_shortest}
+use Rattle.fast_field.proofs.StandingForms.{text_of}
 use Rattle.fast_field.proofs.ValuesWithin.{IsOfType, IsString, units_of_string}
 use Rattle.fast_field.proofs.Refused.{few_units}
 
--- ---- NULL is one byte in every form
-
-abbrev null_byte : List ℕ
-null_byte = 128 ∷ []
-
-unsigned_null : IsUnsignedNullable null_byte Null
-unsigned_null = record { entity = (omega arith, omega arith); short = omega arith; value = refl }
-
-signed_null : IsSignedNullable null_byte Null
-signed_null = record { entity = (omega arith, omega arith); short = omega arith; value = refl }
-
-null_is_byte : (b : List ℕ) → IsShortest IsUnsignedNullable b Null → b ≡ null_byte
-null_is_byte b h =
-    let most = h.least null_byte unsigned_null in
-    let some = entity_some b h.form.entity in
-    unsigned_nullable_sizes.one b null_byte Null h.form unsigned_null (omega (arith, most, some))
-
-null_integer : (u : Bool) → IsShortest (SpellsInteger Usual u Optional) null_byte Null
-null_integer true = record { form = unsigned_null; least = λ o h. entity_some o h.entity }
-null_integer false = record { form = signed_null; least = λ o h. entity_some o h.entity }
-
-null_units : (k : Kind) → IsShortest (SpellsUnits Usual k Optional) null_byte Null
-null_units Kind.Ascii = record { form = ascii_null_shortest.form; least = ascii_null_shortest.least }
-null_units k = record { form = vector_null_shortest.form; least = vector_null_shortest.least }
-
-null_spelled : (k : Kind) → IsShortest (Spelled Usual k Optional) null_byte None
-null_spelled Kind.Decimal = record { form = (null_integer false).form; least = (null_integer false).least }
-null_spelled Kind.Ascii = record { form = (null_units Kind.Ascii).form; least = (null_units Kind.Ascii).least }
-null_spelled Kind.Unicode = record { form = (null_units Kind.Unicode).form; least = (null_units Kind.Unicode).least }
-null_spelled Kind.Bytes = record { form = (null_units Kind.Bytes).form; least = (null_units Kind.Bytes).least }
-null_spelled k = record { form = (null_integer (is_unsigned k)).form; least = (null_integer (is_unsigned k)).least }
-
-null_first : (o : Operator) (i : FieldPart) (e : Entry) → i.presence ≡ Optional → left_out_of o i e None ≡ false → IsFirst (λ c b. FormOf Usual o i e true c b None) null_byte
-null_first Operator.Constant i e p out = absurd (let w : constant_gives i.presence None ≡ true = rw p refl in cc)
-null_first Operator.Delta i e p out = delta_null_is_first i e null_byte (rw p (null_integer false))
-null_first Operator.Tail i e p out = tail_null_is_first i e null_byte (rw p (null_units i.kind))
-null_first o i e p out = whole_is_first i.kind i.presence None null_byte (rw p (null_spelled i.kind))
-
 -- ---- what stands whole
-
-pub whole_shortest : (k : Kind) (p : Presence) (v : Scalar) (b : List ℕ) → IsOfType k v → ShortestWhole p v b → IsShortest (Spelled Usual k p) b (Some v)
-whole_shortest Kind.UInt32 p (U32 n) b h s = number_shortest Kind.UInt32 p (U32 n) b refl h (unsigned_form p n b s)
-whole_shortest Kind.UInt64 p (U64 n) b h s = number_shortest Kind.UInt64 p (U64 n) b refl h (unsigned_form p n b s)
-whole_shortest Kind.Int32 p (I32 z) b h s = number_shortest Kind.Int32 p (I32 z) b refl h (signed_form p z b s)
-whole_shortest Kind.Int64 p (I64 z) b h s = number_shortest Kind.Int64 p (I64 z) b refl h (signed_form p z b s)
-whole_shortest Kind.Decimal p (Decimal e m) b h s = decimal_is_shortest p e m b h (pair_form p e m b s) (pair_least p e m b s)
-whole_shortest Kind.Ascii p (Ascii t) b h s = string_is_shortest Kind.Ascii p (Ascii t) b tt h (units_form Kind.Ascii p t b s)
-whole_shortest Kind.Unicode p (Unicode t) b h s = string_is_shortest Kind.Unicode p (Unicode t) b tt h (units_form Kind.Unicode p t b s)
-whole_shortest Kind.Bytes p (Bytes t) b h s = string_is_shortest Kind.Bytes p (Bytes t) b tt h (units_form Kind.Bytes p t b s)
-whole_shortest k p v b h s = absurd (let e = h.0 in cc)
 
 whole_first : (i : FieldPart) (v : Scalar) (x : Pieces) (b : List ℕ) → IsOfType i.kind v → IsWhole v x → ShortestPieces i x b → IsFirst (λ c b. (c ≡ uncut) × Spelled Usual i.kind i.presence b (Some v)) b
 whole_first i v (Pieces.Whole w) b h made s = whole_is_first i.kind i.presence (Some v) b (whole_shortest i.kind i.presence v b h (subst (λ (y : Scalar). ShortestWhole i.presence y b) made s))

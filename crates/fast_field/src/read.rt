@@ -90,18 +90,9 @@ fn check_part(instr: &FieldPart, kept: EntryRef, found: &Found) -> Result<(), Fi
         return Ok(());
     };
     match instr.part {
-        Part::Whole | Part::Mantissa => Ok(()),
-        Part::Exponent => match exponent_within(integer(value)) {
-            Some(_) => Ok(()),
-            None => Err(FieldFault::R1),
-        },
-        Part::Length => {
-            if integer(value) <= LENGTH_LIMIT {
-                Ok(())
-            } else {
-                Err(FieldFault::Limit)
-            }
-        }
+        Part::Exponent if exponent_within(integer(value)).is_none() => Err(FieldFault::R1),
+        Part::Length if integer(value) > LENGTH_LIMIT => Err(FieldFault::Limit),
+        _ => Ok(()),
     }
 }
 

@@ -64,7 +64,7 @@ pub use Rattle.fast_field.proofs.BestDeltas.{IsFirst}
 pub use Rattle.fast_field.proofs.BestForms.{bit_zero_is_best}
 pub use Rattle.fast_field.proofs.BestTails.{longer_tail, shortest_is_best, tail_is_first}
 pub use Rattle.fast_field.proofs.BestValues.{best_under_one, constant_is_first, delta_is_first, left_out, tail_form_is_first, whole_is_first}
-pub use Rattle.fast_field.proofs.ChosenForms.{null_best, number_value, string_value, whole_shortest}
+pub use Rattle.fast_field.proofs.ChosenForms.{null_best, number_value, string_value}
 pub use Rattle.fast_field.proofs.CutsAtEnd.{few_shared}
 pub use Rattle.fast_field.proofs.FieldForms.{checked_is, field_forms}
 pub use Rattle.fast_field.proofs.FieldsBehave.{field_goes}
@@ -73,7 +73,7 @@ pub use Rattle.fast_field.proofs.Passing.{increased_is, initial_passes, kind_is,
 pub use Rattle.fast_field.proofs.PutTogether.{last_cleared}
 pub use Rattle.fast_field.proofs.ReadFields.{bytes_from, found_here}
 pub use Rattle.fast_field.proofs.Refused.{few_units}
-pub use Rattle.fast_field.proofs.Shortest.{units_form, units_is}
+pub use Rattle.fast_field.proofs.Shortest.{units_form, units_is, whole_shortest}
 pub use Rattle.fast_field.proofs.SpelledForms.{integer_forms}
 pub use Rattle.fast_field.proofs.StandingForms.{string_is_shortest}
 pub use Rattle.fast_field.proofs.ValuesWithin.{IsOfType, all_append, all_take, part_within, string_within, unit_limit, units_of_string}

@@ -1,6 +1,7 @@
 -- What decimals that are read at once rest on.
 use Rattle.fast_relay.proofs.Common.{◌≡◌, ℕ, true, false, List, Result, Ok, Err, refl, sym, ap, subst, ◌∙◌, ℤ, ◌+ℤ◌, ◌-ℤ◌, Some, Usual, ◌>>=◌, signed_at, Nullable, Null, Value, exponent_in_range, in_range, Kind, Operator, Part, Presence, Mandatory, FieldPart, Scalar, Decimal, Entry, Assigned, ShortestPair, ShortestWhole, DeltaForm, decimal_delta_at, decimal_spelled_at, decimal_value, delta_at, in_field, integer_at, mantissa_behind, mantissa_delta_behind, spelled_at, whole_at, FormOf, FieldFault, IsFirst, delta_is_first, whole_is_first, IsOfType, SpellsWhole, Spelt, is_of}
-use Rattle.fast_field.proofs.ChosenForms.{decimal_value as decimal_is_first, whole_shortest}
+use Rattle.fast_field.proofs.ChosenForms.{decimal_value as decimal_is_first}
+use Rattle.fast_field.proofs.Shortest.{whole_shortest}
 use Rattle.fast_relay.proofs.Taking.{added_back, base_is}
 
 -- a number that is spelled is read
