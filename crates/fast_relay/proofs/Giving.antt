@@ -1,4 +1,6 @@
 -- What values that were sent although bit 0 gives them, and NULL, leave behind: the entry stays.
+use Rattle.std.proofs.Common.{Bool, IfSome, Option}
+use Rattle.std.specs.Bool.{then_some}
 use Rattle.fast_relay.proofs.Common.{◌≡◌, true, false, refl, sym, subst, inl, inr, ◌⊎◌, Some, None, is_of, scalar_eq-same, Operator, Optional, Scalar, FieldPart, Entry, Assigned, Empty, Leaves}
 
 repeats : (i : FieldPart) (v : Scalar) → i.operator ≡ Operator.Copy → is_of i.kind v ≡ true → Leaves false i (Assigned v) (Assigned v) (Some v)
@@ -19,3 +21,13 @@ empty i (inr o) optional = record { entry = rw o refl; left_out = rw (o, optiona
 
 pub no_initial : (i : FieldPart) (e : Entry) → i.operator ≡ Operator.Default → i.initial ≡ None → i.presence ≡ Optional → Leaves false i e e None
 no_initial i e o none optional = record { entry = rw o refl; left_out = rw (o, none, optional) refl }
+
+-- ---- a value that is there where a test says so
+
+pub some_or_none : {A : Type 0} (P : Option A → Type 0) (b : Bool) (x : A) → (b ≡ true → P (Some x)) → (b ≡ false → P None) → P (then_some b x)
+some_or_none P' true x there gone = there refl
+some_or_none P' false x there gone = gone refl
+
+pub if_some : {A : Type 0} (P : A → Type 0) (b : Bool) (x : A) → (b ≡ true → P x) → IfSome (then_some b x) P
+if_some P' true x there = there refl
+if_some P' false x there = tt

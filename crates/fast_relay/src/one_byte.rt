@@ -144,10 +144,7 @@ pub(crate) fn read_length_behind(
     ensures stands { IfSome result (λ x. StandsFrom true presence bytes.now at x.1 x.2 (pos x.0)) }
 {
     let (length, first, start) = read_behind(true, presence, bytes, at)?;
-    match few_bytes(i128::from(length)) {
-        Some(count) => Some((count, first, start)),
-        None => None,
-    }
+    Some((few_bytes(i128::from(length))?, first, start))
 }
 
 /// The same as `read_length`, of a length of more bytes.
@@ -159,10 +156,7 @@ fn read_long_length(presence: Presence, bytes: &[u8], at: usize) -> Option<(usiz
     ensures stands { IfSome result (λ x. StandsAt true presence bytes.now at x.1 (pos x.0)) }
 {
     let (length, start) = read_shortest(true, presence, bytes, at)?;
-    match few_bytes(i128::from(length)) {
-        Some(count) => Some((count, start)),
-        None => None,
-    }
+    Some((few_bytes(i128::from(length))?, start))
 }
 
 /// A length that stands in its shortest form and is not too large, and the place behind it.

@@ -3,6 +3,7 @@ use Rattle.fast_relay.proofs.Ranges.{range_split}
 use Rattle.fast_relay.proofs.Standing.{shortest_signed}
 use Rattle.fast_relay.proofs.TextRelaying.{text_few}
 use Rattle.fast_relay.proofs.VectorTexts.{front_text, put_behind, vector_delta_judges}
+use Rattle.fast_relay.proofs.Giving.{if_some}
 use Rattle.fast_relay.proofs.judged_vector.judge_vector_delta.Goals as goal
 
 pub put_part-requires-clause-text : goal.put_part-requires-clause-text
@@ -19,8 +20,8 @@ put_part-requires-clause-text c =
     (put_behind i.kind b s n c.requires.kind (omega arith) (omega (arith, few, short))
     (front_text i.kind value n c.requires.kind text (omega arith) (rw c.units-base.ensures at (c.may_end.ensures c.if-not-may_end.false))) (c.are_text.ensures c.if-not-are_text.false))
 
-pub returns-then-put_part-clause-judged : goal.returns-then-put_part-clause-judged
-returns-then-put_part-clause-judged c =
+pub returns-clause-judged : goal.returns-clause-judged
+returns-clause-judged c =
     let i = c.args.instr.now in
     let value = c.args.value.now in
     let b = units_of value in
@@ -40,9 +41,11 @@ returns-then-put_part-clause-judged c =
     let short = rw c.units-base.ensures at c.if-part-kept.false in
     let le = rw c.units-base.ensures at c.if-removed-base.false in
     let t = put_behind i.kind b s n c.requires.kind (omega arith) (omega (arith, few, short))
-    (front_text i.kind value n c.requires.kind text (omega arith) (rw c.units-base.ensures at (c.may_end.ensures c.if-not-may_end.false))) part in (
+    (front_text i.kind value n c.requires.kind text (omega arith) (rw c.units-base.ensures at (c.may_end.ensures c.if-not-may_end.false))) part in
+    rw c.then_some.ensures
+    (if_some _ c.put_part.result next (λ put. (
       c.put_part.new.value,
-      rw (c.put_part.ensures.put c.if-put_part.true, c.units-base.ensures)
+      rw (c.put_part.ensures.put put, c.units-base.ensures)
           (vector_delta_judges i value r n s (drop c.args.at bytes) (drop c.args.middle bytes) (drop next bytes) form
           c.requires.kind c.requires.part c.requires.operator text c.requires.few (omega (arith, le)) refl
           (rw c.units-base.ensures at (c.goes_on_otherwise.ensures.prefix c.if-not-goes_on_otherwise.false))
@@ -55,4 +58,4 @@ returns-then-put_part-clause-judged c =
             first = shortest_signed i.presence (pos r) front sent.form sent.short;
             second = c.in_ok-start.ensures.stands.shortest part;
           })),
-    )
+    )))
