@@ -1,5 +1,5 @@
 -- Each value that is not refused has a best form.
-use Rattle.fast_field.proofs.Common.{◌≡◌, ℕ, ◌<◌, ◌≤◌, Bool, true, false, List, [], ◌∷◌, length, refl, sym, ap, subst, ◌∙◌, arith, Ok, Err, Result, inl, inr, ℤ, pos, negsuc, int_lt, int_le, nat_lt, nat_le, ◌&&◌, not, Option, Some, None, IsTrue, if◌then◌else◌, AllByRecursion, nat_tests, le-leb, leb-true, Usual, ok_is, IsShortest, Null, is_of, in_range, exponent_in_range, scalar_eq-exact, scalar_eq-same, IsScalar, applies, Kind, Operator, Part, Presence, Mandatory, Optional, FieldPart, Scalar, U32, Decimal, Ascii, Unicode, Bytes, Entry, FieldFault, FieldRefusal, integer_of, units_of, IsFieldPart, IsKindOfPart, delta_base, tail_base, predicted, SpellsInteger, SpellsUnits, Spelled, Cut, uncut, SpellsTail, DeltaValue, DeltaForm, TailForm, InitialOrAbsent, FormOf, FormBy, Form, IsWithin, within_part, HasRange, HasRangeOr, HoldsScalar, IsOfField, IsFieldValue, bit_rank, NoLater, IsBest, is_optional, is_same, gives_same, default_gives, constant_gives, left_out_of, are_characters, has_characters, has_too_many, is_far, other_than_constant, constant_refusal, delta_refusal, tail_refusal, operator_refusal, absent_refusal, value_refusal, refusal_of, ascii_null_shortest, unsigned_nullable_sizes, entity_some, vector_null_shortest, IsSignedNullable, IsUnsignedNullable, is_unsigned}
+use Rattle.fast_field.proofs.Common.{◌≡◌, ℕ, ◌<◌, ◌≤◌, Bool, true, false, List, [], ◌∷◌, length, refl, sym, ap, subst, ◌∙◌, arith, Ok, Err, Result, inl, inr, ℤ, pos, negsuc, int_lt, int_le, nat_lt, nat_le, ◌&&◌, not, Option, Some, None, IsTrue, if◌then◌else◌, AllByRecursion, nat_tests, le-leb, leb-true, Usual, ok_is, IsShortest, Null, is_of, in_range, exponent_in_range, scalar_eq-exact, scalar_eq-same, IsScalar, applies, Kind, Operator, Part, Presence, Mandatory, Optional, FieldPart, Scalar, U32, Decimal, Ascii, Unicode, Bytes, Entry, FieldFault, FieldRefusal, integer_of, units_of, IsFieldPart, IsKindOfPart, delta_base, tail_base, predicted, SpellsInteger, SpellsUnits, Spelled, Cut, uncut, SpellsTail, DeltaValue, DeltaForm, TailForm, InitialOrAbsent, FormOf, FormBy, Form, IsWithin, within_part, HasRange, HasRangeOr, HoldsScalar, IsOfField, IsFieldValue, bit_rank, NoLater, IsBest, is_optional, is_same, gives_same, default_gives, constant_gives, left_out_of, are_characters, has_characters, has_too_many, is_far, other_than_constant, constant_refusal, delta_refusal, tail_refusal, operator_refusal, absent_refusal, value_refusal, refusal_of, ascii_null_shortest, unsigned_nullable_sizes, entity_some, vector_null_shortest, IsSignedNullable, IsUnsignedNullable, is_unsigned, and_parts, ltb-false, not-false}
 use Rattle.fast_value.specs.contracts.scalar.ScalarPartialEq.TheImpl as scalar_eq
 use Rattle.fast_field.proofs.BestForms.{bit_zero_row, bit_zero_is_best}
 use Rattle.fast_field.proofs.BestDeltas.{IsFirst, First, shortest_is_first, number_delta_first, decimal_delta_first}
@@ -8,7 +8,7 @@ use Rattle.fast_field.proofs.BestTails.{tail_first}
 use Rattle.fast_field.proofs.FieldsWithin.{delta_base_within, unit_kind, values_within}
 use Rattle.fast_field.proofs.Refused.{not_refused}
 use Rattle.fast_field.proofs.Shortest.{shortest_whole, whole_shortest}
-use Rattle.fast_field.proofs.ValuesWithin.{both, IsOfType}
+use Rattle.fast_field.proofs.ValuesWithin.{IsOfType}
 
 -- ---- bit 0
 
@@ -169,10 +169,6 @@ if_none : (t : Bool) (r : FieldRefusal) (x : Option FieldRefusal) → (if t then
 if_none true r x e = absurd cc
 if_none false r x e = (refl, e)
 
-not_false : (t : Bool) → not t ≡ false → t ≡ true
-not_false true e = refl
-not_false false e = absurd cc
-
 record Unrefused (i : FieldPart) (e : Entry) (v : Scalar) : Type 0 where
   pub of_kind : IsTrue (is_of i.kind v)
   pub characters : has_characters v ≡ true
@@ -186,22 +182,19 @@ unrefused i e v h =
     let x = if_none (not (is_of i.kind v && has_characters v)) FieldRefusal.Mismatch _ h in
     let y = if_none (has_too_many i.part v) FieldRefusal.Limit _ x.1 in
     let z = if_none (is_far i.part v) FieldRefusal.R1 _ y.1 in
-    let w = both (is_of i.kind v) (has_characters v) (not_false (is_of i.kind v && has_characters v) x.0) in
+    let w = and_parts (is_of i.kind v) (has_characters v) (not-false (is_of i.kind v && has_characters v) x.0) in
     record { of_kind = w.0; characters = w.1; few = y.0; near = z.0; rest = z.1 }
 
 are_all : (s : List ℕ) → are_characters s ≡ true → AllByRecursion (λ c. c < 128) s
 are_all [] h = tt
-are_all (c ∷ s) h = let w = both (nat_lt c 128) (are_characters s) h in let t = w.0 in (grind (arith, nat_tests), are_all s w.1)
-
-no_more : (n : ℕ) → nat_lt 65535 n ≡ false → n ≤ 65535
-no_more n h = grind (arith, nat_tests)
+are_all (c ∷ s) h = let w = and_parts (nat_lt c 128) (are_characters s) h in let t = w.0 in (grind (arith, nat_tests), are_all s w.1)
 
 few_elements : (z : ℤ) → int_lt (pos 65535) z ≡ false → int_le z (pos 65535) ≡ true
-few_elements (pos n) h = let le = no_more n h in grind (arith, nat_tests)
+few_elements (pos n) h = let le = ltb-false 65535 n h in grind (arith, nat_tests)
 few_elements (negsuc n) h = refl
 
 within_limit : (p : Part) (v : Scalar) → has_too_many p v ≡ false → is_far p v ≡ false → IsTrue (within_part p v)
-within_limit Part.Exponent v few near = not_false (exponent_in_range (integer_of v)) near
+within_limit Part.Exponent v few near = not-false (exponent_in_range (integer_of v)) near
 within_limit Part.Length v few near = few_elements (integer_of v) few
 within_limit p v few near = refl
 
@@ -211,11 +204,11 @@ few_units Part.Length k v of_part h few = no_units v (subst (λ (x : Kind). IsTr
     no_units : (v : Scalar) → IsTrue (is_of Kind.UInt32 v) → length (units_of v) ≤ 65535
     no_units (U32 n) h = omega arith
     no_units v h = absurd cc
-few_units p k v of_part h few = no_more (length (units_of v)) few
+few_units p k v of_part h few = ltb-false 65535 (length (units_of v)) few
 
 near_decimal : (p : Part) (k : Kind) (e m : ℤ) → IsKindOfPart p k → IsTrue (is_of k (Decimal e m)) → is_far p (Decimal e m) ≡ false → IsTrue (exponent_in_range e)
 near_decimal Part.Exponent k e m of_part h near = absurd (let w : false ≡ true = subst (λ (x : Kind). is_of x (Decimal e m) ≡ true) of_part h in cc)
-near_decimal p k e m of_part h near = not_false (exponent_in_range e) near
+near_decimal p k e m of_part h near = not-false (exponent_in_range e) near
 
 scalar_within : (i : FieldPart) (e : Entry) (v : Scalar) → IsFieldPart i → HasRange v → Unrefused i e v → IsScalar v
 scalar_within i e (Decimal x m) is h u = (near_decimal i.part i.kind x m is.kind_of_part u.of_kind u.near, h.1)
@@ -277,7 +270,7 @@ best_stands i e v is h r none = best_by i e v (left_out_of i.operator i e v) ref
 wide : (z : ℤ) → IsTrue (exponent_in_range z) → IsTrue (in_range Kind.Int32 z)
 wide (pos n) h = let le = leb-true n 63 h in le-leb n 2147483647 (omega arith)
 wide (negsuc n) h =
-    let le = leb-true n 62 (both (nat_le n 62) true h).0 in
+    let le = leb-true n 62 (and_parts (nat_le n 62) true h).0 in
     let t : nat_le n 2147483647 ≡ true = le-leb n 2147483647 (omega arith) in
     rw t refl
 

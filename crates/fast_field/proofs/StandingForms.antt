@@ -1,8 +1,8 @@
 -- Where a shortest form stands, and what is a shortest form of a value that stands whole.
-use Rattle.fast_field.proofs.Common.{◌≡◌, ℕ, ◌^◌, ◌<◌, ◌≤◌, true, List, length, refl, sym, ap, subst, ◌∙◌, arith, ℤ, pos, negsuc, nat_le, int_le, ◌&&◌, Some, IsTrue, AllByRecursion, All-from_recursion, leb-true, Usual, IsAsciiText, magnitude, HasSizes, IsShortest, Value, is_integer, in_range, exponent_in_range, of_integer, Kind, Presence, Scalar, U32, I32, U64, I64, Decimal, Ascii, Unicode, Bytes, is_unsigned, integer_of, exponent_of, mantissa_of, units_of, IsUnitKind, SpellsInteger, SpellsUnits, SpellsPair, IsOfUnits, SpelledNumber, SpelledString, Spelled}
+use Rattle.fast_field.proofs.Common.{◌≡◌, ℕ, ◌^◌, ◌<◌, ◌≤◌, true, List, length, refl, sym, ap, subst, ◌∙◌, arith, ℤ, pos, negsuc, nat_le, int_le, ◌&&◌, Some, IsTrue, AllByRecursion, All-from_recursion, leb-true, Usual, IsAsciiText, magnitude, HasSizes, IsShortest, Value, is_integer, in_range, exponent_in_range, of_integer, Kind, Presence, Scalar, U32, I32, U64, I64, Decimal, Ascii, Unicode, Bytes, is_unsigned, integer_of, exponent_of, mantissa_of, units_of, IsUnitKind, SpellsInteger, SpellsUnits, SpellsPair, IsOfUnits, SpelledNumber, SpelledString, Spelled, and_parts}
 use Rattle.fast_field.proofs.Refused.{units_are}
 use Rattle.fast_field.proofs.FieldsWithin.{uint_in_range}
-use Rattle.fast_field.proofs.ValuesWithin.{both, IsOfType}
+use Rattle.fast_field.proofs.ValuesWithin.{IsOfType}
 
 -- a shortest form stands
 abbrev pub Stands : {V : Type 0} → (List ℕ → V → Type 0) → V → Type 0
@@ -40,11 +40,11 @@ number_is Kind.Int64 (I64 z) i h = record { made = refl; range = h.1 }
 number_is k v i h = let e = h.0 in absurd cc
 
 signed_small : (z : ℤ) (m n : ℕ) → (int_le (negsuc m) z && int_le z (pos n)) ≡ true → m < 2 ^ 64 → n < 2 ^ 64 → magnitude z < 2 ^ 64
-signed_small (pos a) m n h low high = let w = both true (nat_le a n) h in omega (arith, leb-true a n w.1)
-signed_small (negsuc a) m n h low high = let w = both (nat_le a m) true h in omega (arith, leb-true a m w.0)
+signed_small (pos a) m n h low high = let w = and_parts true (nat_le a n) h in omega (arith, leb-true a n w.1)
+signed_small (negsuc a) m n h low high = let w = and_parts (nat_le a m) true h in omega (arith, leb-true a m w.0)
 
 unsigned_small : (z : ℤ) (n : ℕ) → (int_le (pos 0) z && int_le z (pos n)) ≡ true → n < 2 ^ 64 → magnitude z < 2 ^ 64
-unsigned_small (pos a) n h high = let w = both (nat_le 0 a) (nat_le a n) h in omega (arith, leb-true a n w.1)
+unsigned_small (pos a) n h high = let w = and_parts (nat_le 0 a) (nat_le a n) h in omega (arith, leb-true a n w.1)
 unsigned_small (negsuc a) n h high = absurd cc
 
 pub range_small : (k : Kind) (z : ℤ) → IsTrue (is_integer k) → IsTrue (in_range k z) → magnitude z < 2 ^ 64
