@@ -130,7 +130,7 @@ tail_form_first i e v fits l none =
 abbrev pub null_byte : List ℕ
 null_byte = 128 ∷ []
 
-unsigned_null : IsUnsignedNullable null_byte Null
+pub unsigned_null : IsUnsignedNullable null_byte Null
 unsigned_null = record { entity = (omega arith, omega arith); short = omega arith; value = refl }
 
 signed_null : IsSignedNullable null_byte Null

@@ -1,12 +1,10 @@
 -- NULL, read and judged at once.
 use Rattle.fast_relay.proofs.Common.{◌≡◌, ℕ, Bool, true, false, List, [], ◌∷◌, ◌++◌, Ok, refl, sym, ◌∙◌, arith, None, Usual, IsUnsignedNullable, IsShortest, Null, entity_some, Operator, Optional, FieldPart, Entry, IsBest, field_at, row_at, whole_at, left_out_of, null_best, field_forms, bit_zero_is_best, left_out, SpellsWhole, Judges, Leaves, under, ◌+◌, ◌<◌, length, get_or, drop, ap, drop_more, HasBest, ◌≤◌, slice_range}
+use Rattle.fast_field.proofs.BestValues.{unsigned_null}
 use Rattle.fast_relay.proofs.Taking.{whole_row}
 
-null_form : IsUnsignedNullable (128 ∷ []) Null
-null_form = record { entity = (omega arith, omega arith); short = omega arith; value = refl }
-
 null_shortest : IsShortest IsUnsignedNullable (128 ∷ []) Null
-null_shortest = record { form = null_form; least = λ other h. entity_some other h.entity }
+null_shortest = record { form = unsigned_null; least = λ other h. entity_some other h.entity }
 
 best : (i : FieldPart) (e : Entry) (b : List ℕ) → i.presence ≡ Optional → left_out_of i.operator i e None ≡ false → IsShortest IsUnsignedNullable b Null → IsBest i e true b None
 best i e b optional out s = null_best i e None refl (rw optional refl) out b s

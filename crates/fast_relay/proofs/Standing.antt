@@ -1,10 +1,5 @@
 -- An entity with no needless group in front is the shortest form of its number, so a number that stands in it is copied.
-use Rattle.fast_relay.proofs.Common.{◌≡◌, ◌⊎◌, ℕ, ℤ, pos, negsuc, zero, suc, ◌+◌, ◌-◌, ◌*◌, ◌%◌, ◌^◌, ◌<◌, ◌≤◌, Bool, true, false, nat_eq, nat_lt, nat_le, List, [], ◌∷◌, length, drop, slice_range, get_or, refl, sym, ap, ◌∙◌, not, arith, inl, inr, ◌&&◌, ◌||◌, ◌-ℤ◌, IsTrue, pow-suc, pow-le-pow_right, mul-le-mul_right, cases_lt, nat_tests, ints, length-map, IsEntity, groups, number_of, IsUnsigned, IsSigned, magnitude, unsigned_of, overlong_unsigned, overlong_signed, sent_signed, IsBytes, Usual, Value, number_bound, signed_bound, signed_above, signed_below, entity_some, unsigned_bound, is_integer, of_integer, Kind, Presence, Mandatory, Optional, ShortestSigned, ShortestUnsigned, ShortestWhole, integer_at, SpellsInteger, SpellsIntegerUsually, overlong_number, is_unsigned, found_here, integer_forms, Spelt}
-
-pub one_byte : (xs : List ℕ) → length xs ≡ 1 → get_or xs 0 0 ∷ [] ≡ xs
-one_byte [] h = absurd (omega (arith, h))
-one_byte (x ∷ []) h = refl
-one_byte (x ∷ y ∷ xs) h = absurd (omega (arith, h))
+use Rattle.fast_relay.proofs.Common.{◌≡◌, ◌⊎◌, ℕ, ℤ, pos, negsuc, zero, suc, ◌+◌, ◌-◌, ◌*◌, ◌%◌, ◌^◌, ◌<◌, ◌≤◌, Bool, true, false, nat_eq, nat_lt, nat_le, List, [], ◌∷◌, length, drop, slice_range, refl, sym, ap, ◌∙◌, not, arith, inl, inr, ◌&&◌, ◌||◌, ◌-ℤ◌, IsTrue, pow-suc, pow-le-pow_right, mul-le-mul_right, cases_lt, nat_tests, ints, length-map, IsEntity, groups, number_of, IsUnsigned, IsSigned, magnitude, unsigned_of, overlong_unsigned, overlong_signed, sent_signed, IsBytes, Usual, Value, number_bound, signed_bound, signed_above, signed_below, entity_some, unsigned_bound, is_integer, of_integer, Kind, Presence, Mandatory, Optional, ShortestSigned, ShortestUnsigned, ShortestWhole, integer_at, SpellsInteger, SpellsIntegerUsually, overlong_number, is_unsigned, found_here, integer_forms, Spelt, or_parts}
 
 -- ---- no sign
 
@@ -33,13 +28,9 @@ not_below : (u s : ℕ) (v : ℤ) → u < s → v ≡ pos u -ℤ pos s → magni
 not_below u s (pos a) h e = absurd (omega (arith, ints))
 not_below u s (negsuc a) h e = omega (arith, ints)
 
-neither : (x y : Bool) → (x || y) ≡ false → (x ≡ false) × (y ≡ false)
-neither true y e = absurd cc
-neither false y e = (refl, e)
-
 -- where the first group is 0 the second has its top bit
 above_zero : (g h : ℕ) → ((nat_eq g 0 && nat_lt h 64) || (nat_eq g 127 && nat_le 64 h)) ≡ false → (1 ≤ g) ⊎ (64 ≤ h)
-above_zero zero h s = let f : nat_lt h 64 ≡ false = (neither (nat_lt h 64) false s).0 in inr (grind (arith, nat_tests))
+above_zero zero h s = let f : nat_lt h 64 ≡ false = (or_parts (nat_lt h 64) false s).0 in inr (grind (arith, nat_tests))
 above_zero (suc g) h s = inl (omega arith)
 
 -- where it is all 1s the second has not
