@@ -1,7 +1,7 @@
 -- Each value that is not refused has a best form.
-use Rattle.fast_field.proofs.Common.{◌≡◌, ℕ, ◌<◌, ◌≤◌, Bool, true, false, List, [], ◌∷◌, length, refl, sym, ap, subst, ◌∙◌, arith, Ok, Err, Result, inl, inr, ℤ, pos, negsuc, int_lt, int_le, nat_lt, nat_le, ◌&&◌, not, Option, Some, None, IsTrue, if◌then◌else◌, AllByRecursion, nat_tests, le-leb, leb-true, Usual, ok_is, IsShortest, Null, is_of, in_range, exponent_in_range, scalar_eq-exact, scalar_eq-same, IsScalar, applies, Kind, Operator, Part, Presence, Mandatory, Optional, FieldPart, Scalar, U32, Decimal, Ascii, Unicode, Bytes, Entry, FieldFault, FieldRefusal, integer_of, units_of, IsFieldPart, IsKindOfPart, delta_base, tail_base, predicted, SpellsInteger, SpellsUnits, Spelled, Cut, uncut, SpellsTail, DeltaValue, DeltaForm, TailForm, InitialOrAbsent, FormOf, FormBy, Form, IsWithin, within_part, HasRange, HasRangeOr, HoldsScalar, IsOfField, IsFieldValue, bit_rank, NoLater, IsBest, is_optional, is_same, gives_same, default_gives, constant_gives, left_out_of, are_characters, has_characters, has_too_many, is_far, other_than_constant, constant_refusal, delta_refusal, tail_refusal, operator_refusal, absent_refusal, value_refusal, refusal_of, ascii_null_shortest, unsigned_nullable_sizes, entity_some, vector_null_shortest, IsSignedNullable, IsUnsignedNullable, is_unsigned, and_parts, ltb-false, not-false}
+use Rattle.fast_field.proofs.Common.{◌≡◌, ℕ, ◌<◌, ◌≤◌, Bool, true, false, List, [], ◌∷◌, length, refl, sym, ap, subst, ◌∙◌, arith, Ok, Err, Result, inl, inr, ℤ, pos, negsuc, int_lt, int_le, nat_lt, nat_le, ◌&&◌, not, Option, Some, None, IsTrue, if◌then◌else◌, AllByRecursion, nat_tests, le-leb, leb-true, Usual, ok_is, IsShortest, Null, is_of, in_range, exponent_in_range, scalar_eq-exact, scalar_eq-same, IsScalar, applies, Kind, Operator, Part, Presence, Mandatory, Optional, FieldPart, Scalar, U32, Decimal, Ascii, Unicode, Bytes, Entry, FieldFault, FieldRefusal, integer_of, units_of, IsFieldPart, IsKindOfPart, delta_base, tail_base, predicted, SpellsInteger, SpellsUnits, Spelled, Cut, uncut, SpellsTail, DeltaValue, DeltaForm, TailForm, InitialOrAbsent, FormOf, FormBy, Form, IsWithin, within_part, HasRange, HasRangeOr, HoldsScalar, IsOfField, IsFieldValue, NoLater, IsBest, is_optional, is_same, gives_same, default_gives, constant_gives, left_out_of, are_characters, has_characters, has_too_many, is_far, other_than_constant, constant_refusal, delta_refusal, tail_refusal, operator_refusal, absent_refusal, value_refusal, refusal_of, ascii_null_shortest, unsigned_nullable_sizes, entity_some, vector_null_shortest, IsSignedNullable, IsUnsignedNullable, is_unsigned, and_parts, ltb-false, not-false}
 use Rattle.fast_value.specs.contracts.scalar.ScalarPartialEq.TheImpl as scalar_eq
-use Rattle.fast_field.proofs.BestForms.{bit_zero_row, bit_zero_is_best}
+use Rattle.fast_field.proofs.BestForms.{bit_zero_row, bit_zero_is_best, size_le}
 use Rattle.fast_field.proofs.BestDeltas.{IsFirst, First, shortest_is_first, number_delta_first, decimal_delta_first}
 use Rattle.fast_field.proofs.BestCuts.{string_delta_first}
 use Rattle.fast_field.proofs.BestTails.{tail_first}
@@ -301,16 +301,9 @@ bit_no_later true false n n' c c' (inl lt) e = absurd (omega (arith, lt))
 bit_no_later true false n n' c c' (inr h) e = h.0
 
 size_no_later : (bit bit' : Bool) (n n' : ℕ) (c c' : Cut) → (bit ≡ false → n ≡ 0) → NoLater bit n c bit' n' c' → n ≤ n'
-size_no_later bit bit' n n' c c' empty (inl lt) = earlier bit bit' lt empty
-  where
-    earlier : (bit bit' : Bool) → bit_rank bit < bit_rank bit' → (bit ≡ false → n ≡ 0) → n ≤ n'
-    earlier false bit' lt empty = let none = empty refl in omega arith
-    earlier true true lt empty = absurd (omega (arith, lt))
-    earlier true false lt empty = absurd (omega (arith, lt))
-size_no_later bit bit' n n' c c' empty (inr h) = elim h.1 [
-  | inl lt ↦ omega (arith, lt)
-  | inr same ↦ let e = same.0 in omega arith
-]
+size_no_later false bit' n n' c c' empty h = let none = empty refl in omega arith
+size_no_later true true n n' c c' empty h = size_le true true n n' c c' refl h
+size_no_later true false n n' c c' empty h = let e = bit_no_later true false n n' c c' h refl in absurd cc
 
 no_bytes : (i : FieldPart) (e : Entry) (bit : Bool) (cut : Cut) (b : List ℕ) (v : Option Scalar) → FormOf Usual i.operator i e bit cut b v → bit ≡ false → length b ≡ 0
 no_bytes i e false cut b v f is = rw (bit_zero_row i.operator i e cut b v f).1 refl

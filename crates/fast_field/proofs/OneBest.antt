@@ -1,6 +1,6 @@
 -- A value has one best form.
 use Rattle.fast_field.proofs.Common.{◌≡◌, ℕ, ◌+◌, ◌-◌, ◌<◌, ◌≤◌, Bool, true, false, List, ◌++◌, length, take, drop, refl, sym, ap, subst, ◌∙◌, arith, inl, inr, ◌⊎◌, length-append, length-take, length-drop, ℤ, pos, negsuc, ◌+ℤ◌, Option, Some, None, IsTrue, ints, take_at, drop_at, Usual, IsSigned, Nullable, Null, Value, unsigned_sizes, signed_sizes, unsigned_nullable_sizes, signed_nullable_sizes, ascii_sizes, ascii_nullable_sizes, vector_sizes, vector_nullable_sizes, ok_is, is_integer, Kind, Operator, Presence, Mandatory, Optional, FieldPart, Scalar, Entry, FieldFault, is_unsigned, integer_of, exponent_of, mantissa_of, units_of, SpellsInteger, SpellsPart, SpellsUnits, SpellsPair, SpelledNumber, SpelledString, SpelledDecimal, Spelled, Side, at_end, in_front, Cut, uncut, removed_of, side_of, put_together, ended_by, SpellsCut, SpellsDelta, SpellsDeltas, SpellsTail, DeltaValue, FormOf, FormBy, Form, bit_rank, side_rank, NoLater, IsBest, CutsNothing, nil_from_length}
-use Rattle.fast_field.proofs.BestForms.{bit_zero_row}
+use Rattle.fast_field.proofs.BestForms.{bit_zero_row, size_le}
 use Rattle.fast_field.proofs.Refused.{units_are}
 use Rattle.fast_field.proofs.BestValues.{none_shorter}
 use Rattle.fast_field.proofs.StandingForms.{number_of}
@@ -190,10 +190,6 @@ one_row o i e x y b c v f g cuts same least least' = one_spelled i.kind i.presen
 rank_le : (bit bit' : Bool) (n n' : ℕ) (c c' : Cut) → NoLater bit n c bit' n' c' → bit_rank bit ≤ bit_rank bit'
 rank_le bit bit' n n' c c' (inl lt) = omega (arith, lt)
 rank_le bit bit' n n' c c' (inr h) = omega (arith, ap bit_rank h.0)
-
-size_le : (bit bit' : Bool) (n n' : ℕ) (c c' : Cut) → bit ≡ bit' → NoLater bit n c bit' n' c' → n ≤ n'
-size_le bit bit' n n' c c' e (inl lt) = absurd (omega (arith, lt, ap bit_rank e))
-size_le bit bit' n n' c c' e (inr h) = elim h.1 [ inl lt ↦ omega (arith, lt) | inr l ↦ let s = l.0 in omega arith ]
 
 cut_le : (bit bit' : Bool) (n n' : ℕ) (c c' : Cut) → bit ≡ bit' → n ≡ n' → NoLater bit n c bit' n' c' → (side_rank c.side < side_rank c'.side) ⊎ ((c.side ≡ c'.side) × (c.part ≤ c'.part))
 cut_le bit bit' n n' c c' e s (inl lt) = absurd (omega (arith, lt, ap bit_rank e))
