@@ -1,5 +1,5 @@
 -- What is chosen for a value is spelled as its best form.
-use Rattle.fast_field.proofs.Common.{◌≡◌, ℕ, ◌-◌, true, false, List, [], ◌++◌, length, take, drop, refl, ap, subst, ◌∙◌, Ok, Err, Result, ℤ, pos, negsuc, ◌-ℤ◌, Option, Some, None, IsTrue, drop_at, take_at, Usual, IsUnsignedNullable, IsShortest, Null, is_integer, IsScalar, applies, Kind, Operator, Presence, FieldPart, Scalar, Decimal, Ascii, Unicode, Bytes, Entry, FieldFault, Pieces, integer_of, exponent_of, mantissa_of, units_of, IsUnitKind, IsFieldPart, delta_base, tail_base, Spelled, uncut, put_together, SpellsTail, DeltaValue, DeltaForm, TailForm, FormOf, HasRangeOr, HoldsScalar, IsBest, left_out_of, operator_refusal, refusal_of, length_of, Both, ShortestSigned, ShortestPart, ShortestPair, ShortestWhole, ShortestPieces, CanBeUnits, CanBeWhole, CanBePieces, IsBestCut, IsWhole, IsNothing, IsDelta, IsTail, OnBase, IsMadeOf}
+use Rattle.fast_field.proofs.Common.{◌≡◌, ℕ, ◌-◌, true, false, List, [], ◌++◌, length, take, drop, refl, ap, subst, ◌∙◌, Ok, Err, Result, ℤ, pos, negsuc, ◌-ℤ◌, Option, Some, None, IsTrue, drop_at, take_at, Usual, IsUnsignedNullable, IsShortest, Null, is_integer, IsScalar, applies, Kind, Operator, Presence, FieldPart, Scalar, Ascii, Unicode, Bytes, Entry, FieldFault, Pieces, integer_of, exponent_of, mantissa_of, units_of, IsUnitKind, IsFieldPart, delta_base, tail_base, put_together, SpellsTail, DeltaValue, DeltaForm, TailForm, FormOf, HasRangeOr, HoldsScalar, IsBest, left_out_of, operator_refusal, refusal_of, length_of, Both, ShortestSigned, ShortestPart, ShortestPair, ShortestWhole, ShortestPieces, CanBeUnits, CanBeWhole, CanBePieces, IsBestCut, IsDelta, IsTail, OnBase, IsMadeOf}
 use Rattle.fast_field.proofs.BestForms.{bit_zero_is_best}
 use Rattle.fast_field.proofs.BestDeltas.{IsFirst, difference_fits, differences_fit, number_delta_is_first, decimal_delta_is_first}
 use Rattle.fast_field.proofs.BestCuts.{cut_is_first, removal_small, drop_fits, take_fits}
@@ -10,12 +10,6 @@ use Rattle.fast_field.proofs.Shortest.{whole_shortest}
 use Rattle.fast_field.proofs.StandingForms.{text_of}
 use Rattle.fast_field.proofs.ValuesWithin.{IsOfType, IsString, units_of_string}
 use Rattle.fast_field.proofs.Refused.{few_units}
-
--- ---- what stands whole
-
-whole_first : (i : FieldPart) (v : Scalar) (x : Pieces) (b : List ℕ) → IsOfType i.kind v → IsWhole v x → ShortestPieces i x b → IsFirst (λ c b. (c ≡ uncut) × Spelled Usual i.kind i.presence b (Some v)) b
-whole_first i v (Pieces.Whole w) b h made s = whole_is_first i.kind i.presence (Some v) b (whole_shortest i.kind i.presence v b h (subst (λ (y : Scalar). ShortestWhole i.presence y b) made s))
-whole_first i v x b h made s = absurd made
 
 -- ---- deltas
 
@@ -65,20 +59,16 @@ tail_first i e v x b fits l made s =
     let base = on_base (tail_base i e) (λ base. IsTail i.kind i.presence base v x) made in
     tail_form_is_first i e base.0 v b base.1 (tail_value i base.0 v x b (unit_kind i.kind fits) l base.2 s)
 
--- ---- constants
-
-constant_first : (i : FieldPart) (e : Entry) (v : Scalar) (x : Pieces) (b : List ℕ) → operator_refusal Operator.Constant i e v ≡ None → IsNothing x → ShortestPieces i x b → IsFirst (λ c b. FormOf Usual Operator.Constant i e true c b (Some v)) b
-constant_first i e v Pieces.Nothing b none made s = rw s (constant_is_first i e v (constant_is i.part i.initial v none))
-constant_first i e v x b none made s = absurd made
-
 -- ---- all operators
 
 chosen_first : (o : Operator) (i : FieldPart) (e : Entry) (v : Scalar) (x : Pieces) (b : List ℕ) → IsTrue (applies o i.kind) → IsFieldPart i → HoldsScalar e → IsOfType i.kind v → operator_refusal o i e v ≡ None → IsMadeOf o i e v x → ShortestPieces i x b
     → IsFirst (λ c b. FormOf Usual o i e true c b (Some v)) b
-chosen_first Operator.Constant i e v x b a is h l none made s = constant_first i e v x b none made s
+chosen_first Operator.Constant i e v Pieces.Nothing b a is h l none made s = rw s (constant_is_first i e v (constant_is i.part i.initial v none))
+chosen_first Operator.Constant i e v x b a is h l none made s = absurd made
 chosen_first Operator.Delta i e v x b a is h l none made s = delta_first i e v x b is h l made s
 chosen_first Operator.Tail i e v x b a is h l none made s = tail_first i e v x b a l made s
-chosen_first o i e v x b a is h l none made s = whole_first i v x b l made s
+chosen_first o i e v (Pieces.Whole w) b a is h l none made s = whole_is_first i.kind i.presence (Some v) b (whole_shortest i.kind i.presence v b l (subst (λ (y : Scalar). ShortestWhole i.presence y b) made s))
+chosen_first o i e v x b a is h l none made s = absurd made
 
 -- the shortest bytes of what was chosen are the best form
 pub chosen_best : (i : FieldPart) (e : Entry) (o : Option Scalar) (v : Scalar) (x : Pieces) → o ≡ Some v → IsFieldPart i → HoldsScalar e → HasRangeOr o → refusal_of i e o ≡ None → left_out_of i.operator i e o ≡ false → IsMadeOf i.operator i e v x
@@ -141,23 +131,17 @@ tail_fits i base v (Pieces.Tail t) u l made =
     units_fit i.kind t.now (back_is_string i.kind (units_of v) (take (length (units_of base) - length t.now) (units_of base)) t.now (units_of_string i.kind v u l) made.made)
 tail_fits i base v x u l made = absurd made
 
-wholes_fit : (i : FieldPart) (v : Scalar) (x : Pieces) → IsScalar v → IsWhole v x → CanBePieces i x
-wholes_fit i v (Pieces.Whole w) h made = rw made (whole_fits v h)
-wholes_fit i v x h made = absurd made
-
-nothing_fits : (i : FieldPart) (x : Pieces) → IsNothing x → CanBePieces i x
-nothing_fits i Pieces.Nothing made = tt
-nothing_fits i x made = absurd made
-
 chosen_fits : (o : Operator) (i : FieldPart) (e : Entry) (v : Scalar) (x : Pieces) → IsTrue (applies o i.kind) → IsFieldPart i → HoldsScalar e → IsOfType i.kind v → IsMadeOf o i e v x → CanBePieces i x
-chosen_fits Operator.Constant i e v x a is h l made = nothing_fits i x made
+chosen_fits Operator.Constant i e v Pieces.Nothing a is h l made = tt
+chosen_fits Operator.Constant i e v x a is h l made = absurd made
 chosen_fits Operator.Delta i e v x a is h l made =
     let base = on_base (delta_base i e) (λ base. IsDelta i.kind i.presence base v x) made in
     delta_fits i base.0 v x (delta_base_within i e base.0 is.typed h base.1) l base.2
 chosen_fits Operator.Tail i e v x a is h l made =
     let base = on_base (tail_base i e) (λ base. IsTail i.kind i.presence base v x) made in
     tail_fits i base.0 v x (unit_kind i.kind a) l base.2
-chosen_fits o i e v x a is h l made = wholes_fit i v x l.1 made
+chosen_fits o i e v (Pieces.Whole w) a is h l made = rw made (whole_fits v l.1)
+chosen_fits o i e v x a is h l made = absurd made
 
 pub chosen_can : (i : FieldPart) (e : Entry) (o : Option Scalar) (v : Scalar) (x : Pieces) → o ≡ Some v → IsFieldPart i → HoldsScalar e → HasRangeOr o → refusal_of i e o ≡ None → IsMadeOf i.operator i e v x → CanBePieces i x
 chosen_can i e o v x of_some is h r none made = chosen_fits i.operator i e v x is.typed.operator_applies is h (rw of_some at (field_value i e o is r none).of_field) made
