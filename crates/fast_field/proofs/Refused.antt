@@ -1,5 +1,5 @@
 -- What is refused has no form.
-use Rattle.fast_field.proofs.Common.{◌≡◌, ℕ, ◌-◌, ◌<◌, ◌≤◌, Bool, true, false, List, [], ◌∷◌, length, take, refl, ap, subst, arith, Ok, length-append, length-take, ℤ, pos, negsuc, int_lt, int_le, nat_lt, Option, Some, None, IsTrue, unwrap_or, AllByRecursion, nat_tests, Level, Usual, ok_is, is_of, scalar_eq-same, IsScalar, Kind, Operator, Part, Presence, Mandatory, Optional, FieldPart, Scalar, Decimal, Ascii, Unicode, Bytes, Entry, Undefined, Empty, Assigned, FieldFault, FieldRefusal, integer_of, units_of, of_units, default_of, IsFieldPart, start_of, absent_or, initial_or, repeated, tail_base, predicted, IsOfUnits, Cut, ended_by, FormOf, Form, within_part, HoldsScalar, IsFieldValue, are_characters, has_characters, has_too_many, is_far, constant_refusal, tail_refusal, operator_refusal, value_refusal, refusal_of, le-ltb, lt-ltb}
+use Rattle.fast_field.proofs.Common.{◌≡◌, ℕ, ◌-◌, ◌<◌, ◌≤◌, Bool, true, false, List, [], ◌∷◌, length, take, refl, ap, subst, arith, Ok, length-append, length-take, ℤ, pos, negsuc, int_lt, int_le, nat_lt, Option, Some, None, IsTrue, unwrap_or, AllByRecursion, nat_tests, Level, Usual, ok_is, is_of, scalar_eq-same, IsScalar, Kind, Operator, Part, Presence, Mandatory, Optional, FieldPart, Scalar, Decimal, Ascii, Unicode, Bytes, Entry, Undefined, Empty, Assigned, FieldFault, FieldRefusal, integer_of, units_of, of_units, default_of, IsFieldPart, absent_or, initial_or, repeated, tail_base, predicted, IsOfUnits, Cut, ended_by, FormOf, Form, within_part, HoldsScalar, IsFieldValue, are_characters, has_characters, has_too_many, is_far, constant_refusal, tail_refusal, operator_refusal, value_refusal, refusal_of, le-ltb, lt-ltb}
 use Rattle.fast_value.specs.contracts.scalar.ScalarPartialEq.TheImpl as scalar_eq
 use Rattle.fast_field.proofs.SpelledForms.{if_ok}
 use Rattle.fast_field.proofs.FieldsWithin.{values_within}
@@ -57,23 +57,19 @@ as_long base v h = let t : nat_lt (length (units_of v)) (length (units_of base))
 pub ended_is_longer : (base tail : List ℕ) → length base ≤ length (ended_by base tail)
 ended_is_longer base tail = omega (arith, length-append (take (length base - length tail) base) tail, length-take (length base - length tail) base)
 
+no_absent : (f : FieldFault) (p : Presence) (v : Scalar) → absent_or f p ≡ Ok (Some v) → ⊥
+no_absent f Mandatory v h = cc
+no_absent f Optional v h = let w = ok_is {F = FieldFault} None (Some v) h in cc
+
 tail_same : (i : FieldPart) (e : Entry) (v : Scalar) → predicted i e ≡ Ok (Some v) → i.operator ≡ Operator.Tail → tail_refusal (tail_base i e) v ≡ None
 tail_same i Undefined v h o = first i.initial h
   where
     first : (x : Option Scalar) → initial_or FieldFault.D5 i x ≡ Ok (Some v) → tail_refusal (Ok (unwrap_or x (default_of i.kind))) v ≡ None
-    first None h = absent i.presence h
-      where
-        absent : (p : Presence) → absent_or FieldFault.D5 p ≡ Ok (Some v) → tail_refusal (Ok (default_of i.kind)) v ≡ None
-        absent Mandatory h = absurd cc
-        absent Optional h = absurd (let w = ok_is {F = FieldFault} None (Some v) h in cc)
+    first None h = absurd (no_absent FieldFault.D5 i.presence v h)
     first (Some w) h =
         let same : w ≡ v = ap (λ (x : Option Scalar). unwrap_or x v) (ok_is {F = FieldFault} (Some w) (Some v) h) in
         as_long w v (rw same (omega arith))
-tail_same i Empty v h o = absent i.presence h
-  where
-    absent : (p : Presence) → absent_or FieldFault.D6 p ≡ Ok (Some v) → tail_refusal (Ok (start_of i)) v ≡ None
-    absent Mandatory h = absurd cc
-    absent Optional h = absurd (let w = ok_is {F = FieldFault} None (Some v) h in cc)
+tail_same i Empty v h o = absurd (no_absent FieldFault.D6 i.presence v h)
 tail_same i (Assigned w) v h o =
     let t = if_ok (is_of i.kind w) (Some (repeated i.operator w)) (Some v) FieldFault.D4 h in
     let same : repeated i.operator w ≡ v = ap (λ (x : Option Scalar). unwrap_or x v) t.1 in
