@@ -1,8 +1,7 @@
 -- The best delta of a string or vector: the longest common prefix with removal at the end, or the longest common suffix
 -- with removal in front.
-use Rattle.fast_field.proofs.Common.{◌≡◌, ℕ, zero, suc, ◌+◌, ◌-◌, ◌^◌, ◌<◌, ◌≤◌, true, false, List, ◌++◌, length, take, drop, get_or, min, refl, sym, ap, subst, arith, inl, inr, length-append, length-take, length-drop, take-append-drop, ℤ, pos, negsuc, nat_le, if◌then◌else◌, IsTrue, eqb, cases_lt, le-leb, eqb_tells, Usual, magnitude, unsigned_size, Value, signed_sizes, signed_nullable_sizes, ascii_sizes, vector_sizes, signed_grow, signed_nullable_grow, unsigned_size-grows, in_range, Kind, Presence, Mandatory, Optional, Scalar, units_of, IsUnitKind, SpellsInteger, SpellsPart, IsOfUnits, Cut, removed_of, side_of, put_together, IsOfFewUnits, SpellsCut, NoLater, IsLongestPrefix, IsLongestSuffix, ShortestSigned, ShortestPart, Both, length_size, part_size, CutNoLater, IsBestCut}
+use Rattle.fast_field.proofs.Common.{◌≡◌, ℕ, zero, suc, ◌+◌, ◌-◌, ◌^◌, ◌<◌, ◌≤◌, true, false, List, ◌++◌, length, take, drop, get_or, min, refl, sym, ap, subst, arith, inl, inr, length-append, length-take, length-drop, take-append-drop, ℤ, pos, negsuc, nat_le, if◌then◌else◌, IsTrue, eqb, cases_lt, le-leb, eqb_tells, Usual, magnitude, unsigned_size, Value, signed_sizes, signed_nullable_sizes, ascii_sizes, vector_sizes, signed_grow, signed_nullable_grow, unsigned_size-grows, in_range, Kind, Presence, Mandatory, Optional, Scalar, units_of, IsUnitKind, SpellsInteger, SpellsPart, IsOfUnits, Cut, removed_of, side_of, put_together, IsOfFewUnits, SpellsCut, NoLater, IsLongestPrefix, IsLongestSuffix, ShortestSigned, ShortestPart, Both, length_size, part_size, CutNoLater, IsBestCut, and_from}
 use Rattle.fast_field.proofs.Agreeing.{prefix_more, prefix_stops, prefix_ends, suffix_none, suffix_more, suffix_stops, suffix_ends}
-use Rattle.fast_field.proofs.FieldsWithin.{and_true}
 use Rattle.fast_field.proofs.Least.{IsPartCost, IsLengthCost, no_worse, end_is_least, front_is_least, ascii_parts, vector_parts}
 use Rattle.fast_field.proofs.BestDeltas.{IsFirst, First}
 use Rattle.fast_field.proofs.Shortest.{signed_form, part_form, length_is, part_is, shortest_signed, shortest_part}
@@ -123,7 +122,7 @@ no_later m n m' n' z z' a a' e le (inr h) = elim (cases_lt n n') [
 
 removal_fits : (z : ℤ) → removed_of z ≤ 65535 → (magnitude z < 2 ^ 68) × IsTrue (in_range Kind.Int32 z)
 removal_fits (pos n) h = (omega arith, le-leb n 2147483647 (omega arith))
-removal_fits (negsuc n) h = (omega arith, and_true (nat_le n 2147483647) true (le-leb n 2147483647 (omega arith)) refl)
+removal_fits (negsuc n) h = (omega arith, and_from (nat_le n 2147483647) true (le-leb n 2147483647 (omega arith)) refl)
 
 pub of_few : (k : Kind) (s : List ℕ) (v : Scalar) → IsOfUnits k (units_of v) v → length (units_of v) ≤ 65535 → units_of v ≡ s → IsOfFewUnits k s v
 of_few k s v h le e = subst (λ (x : List ℕ). IsOfFewUnits k x v) e (le, h)

@@ -1,5 +1,5 @@
 -- How a form is shown to be the best.
-use Rattle.fast_field.proofs.Common.{◌≡◌, ℕ, ◌<◌, ◌≤◌, Bool, true, false, List, [], length, Option, refl, arith, inl, inr, ◌⊎◌, cases_lt, Usual, Operator, FieldPart, Scalar, Entry, Side, at_end, in_front, Cut, uncut, FormOf, FormBy, NoLater, IsBest, side_rank}
+use Rattle.fast_field.proofs.Common.{◌≡◌, ℕ, ◌<◌, ◌≤◌, Bool, true, false, List, [], length, Option, refl, arith, inl, inr, ◌⊎◌, cases_lt, Usual, Operator, FieldPart, Scalar, Entry, Side, at_end, in_front, Cut, uncut, FormOf, FormBy, NoLater, IsBest, ap, bit_rank, side_rank}
 
 -- ---- bit 0
 
@@ -28,3 +28,9 @@ at_end_first n n' part c' le parts = elim (cases_lt n n') [
   | inl lt ↦ inr (refl, inl lt)
   | inr ge ↦ let same : n ≡ n' = omega arith in inr (refl, inr (same, part_decides at_end c'.side part c'.part refl (parts same)))
 ]
+
+-- ---- what comes no later has no more bytes, under the same bit
+
+pub size_le : (bit bit' : Bool) (n n' : ℕ) (c c' : Cut) → bit ≡ bit' → NoLater bit n c bit' n' c' → n ≤ n'
+size_le bit bit' n n' c c' e (inl lt) = absurd (omega (arith, lt, ap bit_rank e))
+size_le bit bit' n n' c c' e (inr h) = elim h.1 [ inl lt ↦ omega (arith, lt) | inr l ↦ let s = l.0 in omega arith ]

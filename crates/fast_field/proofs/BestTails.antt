@@ -89,12 +89,12 @@ NullableBest v j i = NoWorse (ascii_nullable_size (Value (drop j v))) (length v 
 as_cost : (v : List ℕ) (j i : ℕ) → NoWorse (tail_cost v j) (length v - j) (tail_cost v i) (length v - i) → NullableBest v j i
 as_cost v j i h = rw (cost_is v j, cost_is v i) h
 
-vector_nullable_parts : IsPartCost (λ s. vector_nullable_size (Value s))
+pub vector_nullable_parts : IsPartCost (λ s. vector_nullable_size (Value s))
 vector_nullable_parts = vector_parts (λ n. unsigned_size (n + 1)) (λ m n le. unsigned_size-grows (m + 1) (n + 1) (omega arith))
 
 -- ---- which tail that is, told by the sizes of two: the shortest, or one unit more where that has fewer bytes
 
-on_next : (cost : List ℕ → ℕ) → IsPartCost cost → (v : List ℕ) (n : ℕ) → 0 < n → cost (drop n v) ≤ cost (drop (n - 1) v)
+pub on_next : (cost : List ℕ → ℕ) → IsPartCost cost → (v : List ℕ) (n : ℕ) → 0 < n → cost (drop n v) ≤ cost (drop (n - 1) v)
 on_next cost is v n some =
     let on : n - 1 + 1 ≡ n = omega arith in
     let next : drop 1 (drop (n - 1) v) ≡ drop n v = drop-drop 1 (n - 1) v ∙ ap (λ (m : ℕ). drop m v) on in

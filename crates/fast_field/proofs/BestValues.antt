@@ -1,14 +1,14 @@
 -- Each value that is not refused has a best form.
-use Rattle.fast_field.proofs.Common.{◌≡◌, ℕ, ◌<◌, ◌≤◌, Bool, true, false, List, [], ◌∷◌, length, refl, sym, ap, subst, ◌∙◌, arith, Ok, Err, Result, inl, inr, ℤ, pos, negsuc, int_lt, int_le, nat_lt, nat_le, ◌&&◌, not, Option, Some, None, IsTrue, if◌then◌else◌, AllByRecursion, nat_tests, le-leb, leb-true, Usual, ok_is, IsShortest, Null, is_of, in_range, exponent_in_range, scalar_eq-exact, scalar_eq-same, IsScalar, applies, Kind, Operator, Part, Presence, Mandatory, Optional, FieldPart, Scalar, U32, Decimal, Ascii, Unicode, Bytes, Entry, FieldFault, FieldRefusal, integer_of, units_of, IsFieldPart, IsKindOfPart, delta_base, tail_base, predicted, SpellsInteger, SpellsUnits, Spelled, Cut, uncut, SpellsTail, DeltaValue, DeltaForm, TailForm, InitialOrAbsent, FormOf, FormBy, Form, IsWithin, within_part, HasRange, HasRangeOr, HoldsScalar, IsOfField, IsFieldValue, bit_rank, NoLater, IsBest, is_optional, is_same, gives_same, default_gives, constant_gives, left_out_of, are_characters, has_characters, has_too_many, is_far, other_than_constant, constant_refusal, delta_refusal, tail_refusal, operator_refusal, absent_refusal, value_refusal, refusal_of}
+use Rattle.fast_field.proofs.Common.{◌≡◌, ℕ, ◌<◌, ◌≤◌, Bool, true, false, List, [], ◌∷◌, length, refl, sym, ap, subst, ◌∙◌, arith, Ok, Err, Result, inl, inr, ℤ, pos, negsuc, int_lt, int_le, nat_lt, nat_le, ◌&&◌, not, Option, Some, None, IsTrue, if◌then◌else◌, AllByRecursion, nat_tests, le-leb, leb-true, Usual, ok_is, IsShortest, Null, is_of, in_range, exponent_in_range, scalar_eq-exact, scalar_eq-same, IsScalar, applies, Kind, Operator, Part, Presence, Mandatory, Optional, FieldPart, Scalar, U32, Decimal, Ascii, Unicode, Bytes, Entry, FieldFault, FieldRefusal, integer_of, units_of, IsFieldPart, IsKindOfPart, delta_base, tail_base, predicted, SpellsInteger, SpellsUnits, Spelled, Cut, uncut, SpellsTail, DeltaValue, DeltaForm, TailForm, InitialOrAbsent, FormOf, FormBy, Form, IsWithin, within_part, HasRange, HasRangeOr, HoldsScalar, IsOfField, IsFieldValue, NoLater, IsBest, is_optional, is_same, gives_same, default_gives, constant_gives, left_out_of, are_characters, has_characters, has_too_many, is_far, other_than_constant, constant_refusal, delta_refusal, tail_refusal, operator_refusal, absent_refusal, value_refusal, refusal_of, ascii_null_shortest, unsigned_nullable_sizes, entity_some, vector_null_shortest, IsSignedNullable, IsUnsignedNullable, is_unsigned, and_parts, ltb-false, not-false}
 use Rattle.fast_value.specs.contracts.scalar.ScalarPartialEq.TheImpl as scalar_eq
-use Rattle.fast_field.proofs.BestForms.{bit_zero_row, bit_zero_is_best}
+use Rattle.fast_field.proofs.BestForms.{bit_zero_row, bit_zero_is_best, size_le}
 use Rattle.fast_field.proofs.BestDeltas.{IsFirst, First, shortest_is_first, number_delta_first, decimal_delta_first}
 use Rattle.fast_field.proofs.BestCuts.{string_delta_first}
 use Rattle.fast_field.proofs.BestTails.{tail_first}
 use Rattle.fast_field.proofs.FieldsWithin.{delta_base_within, unit_kind, values_within}
 use Rattle.fast_field.proofs.Refused.{not_refused}
-use Rattle.fast_field.proofs.StandingForms.{Stands, whole_stands, null_whole_stands, null_stands, null_units_stand}
-use Rattle.fast_field.proofs.ValuesWithin.{both, IsOfType}
+use Rattle.fast_field.proofs.Shortest.{shortest_whole, whole_shortest}
+use Rattle.fast_field.proofs.ValuesWithin.{IsOfType}
 
 -- ---- bit 0
 
@@ -77,12 +77,10 @@ on_base_first r Makes base b is f = record {
 pub whole_is_first : (k : Kind) (p : Presence) (v : Option Scalar) (b : List ℕ) → IsShortest (Spelled Usual k p) b v → IsFirst (λ c b. (c ≡ uncut) × Spelled Usual k p b v) b
 whole_is_first k p v b s = shortest_is_first (λ c b. (c ≡ uncut) × Spelled Usual k p b v) b (refl, s.form) (λ c o h. (h.0, s.least o h.1))
 
-whole_first : (k : Kind) (p : Presence) (v : Option Scalar) → Stands (Spelled Usual k p) v → First (λ c b. (c ≡ uncut) × Spelled Usual k p b v)
-whole_first k p v s = (s.0, whole_is_first k p v s.0 s.1)
-
-value_first : (i : FieldPart) (v : Option Scalar) → IsOfField i v → First (λ c b. (c ≡ uncut) × Spelled Usual i.kind i.presence b v)
-value_first i None h = subst (λ (p : Presence). First (λ c b. (c ≡ uncut) × Spelled Usual i.kind p b None)) (sym h) (whole_first i.kind Optional None (null_whole_stands i.kind))
-value_first i (Some v) h = whole_first i.kind i.presence (Some v) (whole_stands i.kind i.presence v h)
+value_first : (i : FieldPart) (v : Scalar) → IsOfType i.kind v → First (λ c b. (c ≡ uncut) × Spelled Usual i.kind i.presence b (Some v))
+value_first i v h =
+    let s = shortest_whole i.kind i.presence v h in
+    (s.0, whole_is_first i.kind i.presence (Some v) s.0 (whole_shortest i.kind i.presence v s.0 h s.1))
 
 delta_value_first : (k : Kind) (p : Presence) (base v : Scalar) → IsOfType k base → IsOfType k v → First (λ c b. DeltaValue Usual k p base c b v)
 delta_value_first Kind.Decimal p base v h l = decimal_delta_first p base v h l
@@ -101,12 +99,9 @@ delta_is_first i e base v b is f = on_base_first (delta_base i e) (λ x c b. Del
 pub delta_null_is_first : (i : FieldPart) (e : Entry) (b : List ℕ) → IsShortest (SpellsInteger Usual false i.presence) b Null → IsFirst (λ c b. DeltaForm Usual i e c b None) b
 delta_null_is_first i e b s = shortest_is_first (λ c b. DeltaForm Usual i e c b None) b (refl, s.form) (λ c o f. (f.0, s.least o f.1))
 
-delta_first : (i : FieldPart) (e : Entry) (v : Option Scalar) → IsFieldPart i → HoldsScalar e → IsOfField i v → ((w : Scalar) → v ≡ Some w → delta_refusal (delta_base i e) ≡ None) → First (λ c b. DeltaForm Usual i e c b v)
-delta_first i e None is h l none =
-    let s = subst (λ (p : Presence). Stands (SpellsInteger Usual false p) Null) (sym l) (null_stands false) in
-    (s.0, delta_null_is_first i e s.0 s.1)
-delta_first i e (Some v) is h l none =
-    let base = has_base (delta_base i e) (none v refl) in
+delta_first : (i : FieldPart) (e : Entry) (v : Scalar) → IsFieldPart i → HoldsScalar e → IsOfType i.kind v → delta_refusal (delta_base i e) ≡ None → First (λ c b. DeltaForm Usual i e c b (Some v))
+delta_first i e v is h l none =
+    let base = has_base (delta_base i e) none in
     let f = delta_value_first i.kind i.presence base.0 v (delta_base_within i e base.0 is.typed h base.1) l in
     (f.0, delta_is_first i e base.0 v f.0 base.1 f.1)
 
@@ -124,24 +119,55 @@ tail_form_is_first i e base v b is f = on_base_first (tail_base i e) (λ x c b. 
 pub tail_null_is_first : (i : FieldPart) (e : Entry) (b : List ℕ) → IsShortest (SpellsUnits Usual i.kind i.presence) b Null → IsFirst (λ c b. TailForm Usual i e c b None) b
 tail_null_is_first i e b s = shortest_is_first (λ c b. TailForm Usual i e c b None) b (refl, s.form) (λ c o f. (f.0, s.least o f.1))
 
-tail_form_first : (i : FieldPart) (e : Entry) (v : Option Scalar) → IsFieldPart i → IsTrue (applies Operator.Tail i.kind) → IsOfField i v → ((w : Scalar) → v ≡ Some w → tail_refusal (tail_base i e) w ≡ None) → First (λ c b. TailForm Usual i e c b v)
-tail_form_first i e None is fits l none =
-    let s = subst (λ (p : Presence). Stands (SpellsUnits Usual i.kind p) Null) (sym l) (null_units_stand i.kind) in
-    (s.0, tail_null_is_first i e s.0 s.1)
-tail_form_first i e (Some v) is fits l none =
-    let base = long_enough (tail_base i e) v (none v refl) in
+tail_form_first : (i : FieldPart) (e : Entry) (v : Scalar) → IsTrue (applies Operator.Tail i.kind) → IsOfType i.kind v → tail_refusal (tail_base i e) v ≡ None → First (λ c b. TailForm Usual i e c b (Some v))
+tail_form_first i e v fits l none =
+    let base = long_enough (tail_base i e) v none in
     let f = tail_first i.kind i.presence base.0 v (unit_kind i.kind fits) l base.2 in
     (f.0, tail_form_is_first i e base.0 v f.0 base.1 f.1)
+
+-- ---- NULL is one byte in every form
+
+abbrev pub null_byte : List ℕ
+null_byte = 128 ∷ []
+
+pub unsigned_null : IsUnsignedNullable null_byte Null
+unsigned_null = record { entity = (omega arith, omega arith); short = omega arith; value = refl }
+
+signed_null : IsSignedNullable null_byte Null
+signed_null = record { entity = (omega arith, omega arith); short = omega arith; value = refl }
+
+pub null_is_byte : (b : List ℕ) → IsShortest IsUnsignedNullable b Null → b ≡ null_byte
+null_is_byte b h =
+    let most = h.least null_byte unsigned_null in
+    let some = entity_some b h.form.entity in
+    unsigned_nullable_sizes.one b null_byte Null h.form unsigned_null (omega (arith, most, some))
+
+null_integer : (u : Bool) → IsShortest (SpellsInteger Usual u Optional) null_byte Null
+null_integer true = record { form = unsigned_null; least = λ o h. entity_some o h.entity }
+null_integer false = record { form = signed_null; least = λ o h. entity_some o h.entity }
+
+null_units : (k : Kind) → IsShortest (SpellsUnits Usual k Optional) null_byte Null
+null_units Kind.Ascii = record { form = ascii_null_shortest.form; least = ascii_null_shortest.least }
+null_units k = record { form = vector_null_shortest.form; least = vector_null_shortest.least }
+
+null_spelled : (k : Kind) → IsShortest (Spelled Usual k Optional) null_byte None
+null_spelled Kind.Decimal = record { form = (null_integer false).form; least = (null_integer false).least }
+null_spelled Kind.Ascii = record { form = (null_units Kind.Ascii).form; least = (null_units Kind.Ascii).least }
+null_spelled Kind.Unicode = record { form = (null_units Kind.Unicode).form; least = (null_units Kind.Unicode).least }
+null_spelled Kind.Bytes = record { form = (null_units Kind.Bytes).form; least = (null_units Kind.Bytes).least }
+null_spelled k = record { form = (null_integer (is_unsigned k)).form; least = (null_integer (is_unsigned k)).least }
+
+pub null_first : (o : Operator) (i : FieldPart) (e : Entry) → i.presence ≡ Optional → left_out_of o i e None ≡ false → IsFirst (λ c b. FormOf Usual o i e true c b None) null_byte
+null_first Operator.Constant i e p out = absurd (let w : constant_gives i.presence None ≡ true = rw p refl in cc)
+null_first Operator.Delta i e p out = delta_null_is_first i e null_byte (rw p (null_integer false))
+null_first Operator.Tail i e p out = tail_null_is_first i e null_byte (rw p (null_units i.kind))
+null_first o i e p out = whole_is_first i.kind i.presence None null_byte (rw p (null_spelled i.kind))
 
 -- ---- what is not refused is within its type
 
 if_none : (t : Bool) (r : FieldRefusal) (x : Option FieldRefusal) → (if t then Some r else x) ≡ None → (t ≡ false) × (x ≡ None)
 if_none true r x e = absurd cc
 if_none false r x e = (refl, e)
-
-not_false : (t : Bool) → not t ≡ false → t ≡ true
-not_false true e = refl
-not_false false e = absurd cc
 
 record Unrefused (i : FieldPart) (e : Entry) (v : Scalar) : Type 0 where
   pub of_kind : IsTrue (is_of i.kind v)
@@ -156,22 +182,19 @@ unrefused i e v h =
     let x = if_none (not (is_of i.kind v && has_characters v)) FieldRefusal.Mismatch _ h in
     let y = if_none (has_too_many i.part v) FieldRefusal.Limit _ x.1 in
     let z = if_none (is_far i.part v) FieldRefusal.R1 _ y.1 in
-    let w = both (is_of i.kind v) (has_characters v) (not_false (is_of i.kind v && has_characters v) x.0) in
+    let w = and_parts (is_of i.kind v) (has_characters v) (not-false (is_of i.kind v && has_characters v) x.0) in
     record { of_kind = w.0; characters = w.1; few = y.0; near = z.0; rest = z.1 }
 
 are_all : (s : List ℕ) → are_characters s ≡ true → AllByRecursion (λ c. c < 128) s
 are_all [] h = tt
-are_all (c ∷ s) h = let w = both (nat_lt c 128) (are_characters s) h in let t = w.0 in (grind (arith, nat_tests), are_all s w.1)
-
-no_more : (n : ℕ) → nat_lt 65535 n ≡ false → n ≤ 65535
-no_more n h = grind (arith, nat_tests)
+are_all (c ∷ s) h = let w = and_parts (nat_lt c 128) (are_characters s) h in let t = w.0 in (grind (arith, nat_tests), are_all s w.1)
 
 few_elements : (z : ℤ) → int_lt (pos 65535) z ≡ false → int_le z (pos 65535) ≡ true
-few_elements (pos n) h = let le = no_more n h in grind (arith, nat_tests)
+few_elements (pos n) h = let le = ltb-false 65535 n h in grind (arith, nat_tests)
 few_elements (negsuc n) h = refl
 
 within_limit : (p : Part) (v : Scalar) → has_too_many p v ≡ false → is_far p v ≡ false → IsTrue (within_part p v)
-within_limit Part.Exponent v few near = not_false (exponent_in_range (integer_of v)) near
+within_limit Part.Exponent v few near = not-false (exponent_in_range (integer_of v)) near
 within_limit Part.Length v few near = few_elements (integer_of v) few
 within_limit p v few near = refl
 
@@ -181,11 +204,11 @@ few_units Part.Length k v of_part h few = no_units v (subst (λ (x : Kind). IsTr
     no_units : (v : Scalar) → IsTrue (is_of Kind.UInt32 v) → length (units_of v) ≤ 65535
     no_units (U32 n) h = omega arith
     no_units v h = absurd cc
-few_units p k v of_part h few = no_more (length (units_of v)) few
+few_units p k v of_part h few = ltb-false 65535 (length (units_of v)) few
 
 near_decimal : (p : Part) (k : Kind) (e m : ℤ) → IsKindOfPart p k → IsTrue (is_of k (Decimal e m)) → is_far p (Decimal e m) ≡ false → IsTrue (exponent_in_range e)
 near_decimal Part.Exponent k e m of_part h near = absurd (let w : false ≡ true = subst (λ (x : Kind). is_of x (Decimal e m) ≡ true) of_part h in cc)
-near_decimal p k e m of_part h near = not_false (exponent_in_range e) near
+near_decimal p k e m of_part h near = not-false (exponent_in_range e) near
 
 scalar_within : (i : FieldPart) (e : Entry) (v : Scalar) → IsFieldPart i → HasRange v → Unrefused i e v → IsScalar v
 scalar_within i e (Decimal x m) is h u = (near_decimal i.part i.kind x m is.kind_of_part u.of_kind u.near, h.1)
@@ -216,13 +239,13 @@ pub constant_is_first : (i : FieldPart) (e : Entry) (v : Scalar) → Some v ≡ 
 constant_is_first i e v is = shortest_is_first (λ c b. FormOf Usual Operator.Constant i e true c b (Some v)) [] (refl, refl, is) (λ c o f. (f.0, omega arith))
 
 -- under bit 1, where bit 0 does not give the value
-under_one : (o : Operator) (i : FieldPart) (e : Entry) (v : Option Scalar) → i.operator ≡ o → IsFieldPart i → HoldsScalar e → IsOfField i v → ((w : Scalar) → v ≡ Some w → operator_refusal o i e w ≡ None) → left_out_of o i e v ≡ false
+under_one : (o : Operator) (i : FieldPart) (e : Entry) (v : Option Scalar) → IsTrue (applies o i.kind) → IsFieldPart i → HoldsScalar e → IsOfField i v → ((w : Scalar) → v ≡ Some w → operator_refusal o i e w ≡ None) → left_out_of o i e v ≡ false
     → First (λ c b. FormOf Usual o i e true c b v)
-under_one Operator.Constant i e None o is h l none out = absurd (let w : constant_gives i.presence None ≡ true = rw l refl in cc)
-under_one Operator.Constant i e (Some v) o is h l none out = ([], constant_is_first i e v (constant_is i.part i.initial v (none v refl)))
-under_one Operator.Delta i e v o is h l none out = delta_first i e v is h l none
-under_one Operator.Tail i e v o is h l none out = tail_form_first i e v is (subst (λ (x : Operator). IsTrue (applies x i.kind)) o is.typed.operator_applies) l none
-under_one o i e v of_o is h l none out = value_first i v l
+under_one o i e None a is h l none out = (null_byte, null_first o i e l out)
+under_one Operator.Constant i e (Some v) a is h l none out = ([], constant_is_first i e v (constant_is i.part i.initial v (none v refl)))
+under_one Operator.Delta i e (Some v) a is h l none out = delta_first i e v is h l (none v refl)
+under_one Operator.Tail i e (Some v) a is h l none out = tail_form_first i e v a l (none v refl)
+under_one o i e (Some v) a is h l none out = value_first i v l
 
 pub best_under_one : (i : FieldPart) (e : Entry) (v : Option Scalar) (best : List ℕ) → IsWithin i.part v → IsFirst (λ c b. FormOf Usual i.operator i e true c b v) best → left_out_of i.operator i e v ≡ false → IsBest i e true best v
 best_under_one i e v best within f out = record { cut = f.cut; form = record { row = f.form; within = within }; first = later }
@@ -233,7 +256,7 @@ best_under_one i e v best within f out = record { cut = f.cut; form = record { r
 
 best_by : (i : FieldPart) (e : Entry) (v : Option Scalar) (t : Bool) → left_out_of i.operator i e v ≡ t → IsFieldPart i → HoldsScalar e → IsFieldValue i v → ((w : Scalar) → v ≡ Some w → operator_refusal i.operator i e w ≡ None) → (bit : Bool) × (b : List ℕ) × IsBest i e bit b v
 best_by i e v true out is h l none = (false, [], bit_zero_is_best i e v (record { row = left_out i.operator i e v out; within = l.within }))
-best_by i e v false out is h l none = let f = under_one i.operator i e v refl is h l.of_field none out in (true, f.0, best_under_one i e v f.0 l.within f.1 out)
+best_by i e v false out is h l none = let f = under_one i.operator i e v is.typed.operator_applies is h l.of_field none out in (true, f.0, best_under_one i e v f.0 l.within f.1 out)
 
 pub operator_allows : (i : FieldPart) (e : Entry) (v : Option Scalar) → refusal_of i e v ≡ None → (w : Scalar) → v ≡ Some w → operator_refusal i.operator i e w ≡ None
 operator_allows i e v none w is = (unrefused i e w (subst (λ (x : Option Scalar). refusal_of i e x ≡ None) is none)).rest
@@ -247,7 +270,7 @@ best_stands i e v is h r none = best_by i e v (left_out_of i.operator i e v) ref
 wide : (z : ℤ) → IsTrue (exponent_in_range z) → IsTrue (in_range Kind.Int32 z)
 wide (pos n) h = let le = leb-true n 63 h in le-leb n 2147483647 (omega arith)
 wide (negsuc n) h =
-    let le = leb-true n 62 (both (nat_le n 62) true h).0 in
+    let le = leb-true n 62 (and_parts (nat_le n 62) true h).0 in
     let t : nat_le n 2147483647 ≡ true = le-leb n 2147483647 (omega arith) in
     rw t refl
 
@@ -278,16 +301,9 @@ bit_no_later true false n n' c c' (inl lt) e = absurd (omega (arith, lt))
 bit_no_later true false n n' c c' (inr h) e = h.0
 
 size_no_later : (bit bit' : Bool) (n n' : ℕ) (c c' : Cut) → (bit ≡ false → n ≡ 0) → NoLater bit n c bit' n' c' → n ≤ n'
-size_no_later bit bit' n n' c c' empty (inl lt) = earlier bit bit' lt empty
-  where
-    earlier : (bit bit' : Bool) → bit_rank bit < bit_rank bit' → (bit ≡ false → n ≡ 0) → n ≤ n'
-    earlier false bit' lt empty = let none = empty refl in omega arith
-    earlier true true lt empty = absurd (omega (arith, lt))
-    earlier true false lt empty = absurd (omega (arith, lt))
-size_no_later bit bit' n n' c c' empty (inr h) = elim h.1 [
-  | inl lt ↦ omega (arith, lt)
-  | inr same ↦ let e = same.0 in omega arith
-]
+size_no_later false bit' n n' c c' empty h = let none = empty refl in omega arith
+size_no_later true true n n' c c' empty h = size_le true true n n' c c' refl h
+size_no_later true false n n' c c' empty h = let e = bit_no_later true false n n' c c' h refl in absurd cc
 
 no_bytes : (i : FieldPart) (e : Entry) (bit : Bool) (cut : Cut) (b : List ℕ) (v : Option Scalar) → FormOf Usual i.operator i e bit cut b v → bit ≡ false → length b ≡ 0
 no_bytes i e false cut b v f is = rw (bit_zero_row i.operator i e cut b v f).1 refl

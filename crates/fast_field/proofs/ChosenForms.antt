@@ -1,70 +1,15 @@
 -- What is chosen for a value is spelled as its best form.
-use Rattle.fast_field.proofs.Common.{◌≡◌, ℕ, ◌-◌, Bool, true, false, List, [], ◌∷◌, ◌++◌, length, take, drop, refl, ap, subst, ◌∙◌, arith, Ok, Err, Result, ℤ, pos, negsuc, ◌-ℤ◌, Option, Some, None, IsTrue, drop_at, take_at, Usual, IsUnsignedNullable, IsSignedNullable, IsShortest, Null, ascii_null_shortest, unsigned_nullable_sizes, entity_some, vector_null_shortest, is_integer, IsScalar, applies, Kind, Operator, Presence, Optional, FieldPart, Scalar, U32, I32, U64, I64, Decimal, Ascii, Unicode, Bytes, Entry, FieldFault, Pieces, is_unsigned, integer_of, exponent_of, mantissa_of, units_of, IsUnitKind, IsFieldPart, delta_base, tail_base, SpellsInteger, SpellsUnits, Spelled, uncut, put_together, SpellsTail, DeltaValue, DeltaForm, TailForm, FormOf, HasRangeOr, HoldsScalar, IsBest, constant_gives, left_out_of, operator_refusal, refusal_of, length_of, Both, ShortestSigned, ShortestPart, ShortestPair, ShortestWhole, ShortestPieces, CanBeUnits, CanBeWhole, CanBePieces, IsBestCut, IsWhole, IsNothing, IsDelta, IsTail, OnBase, IsMadeOf}
+use Rattle.fast_field.proofs.Common.{◌≡◌, ℕ, ◌-◌, true, false, List, [], ◌++◌, length, take, drop, refl, ap, subst, ◌∙◌, Ok, Err, Result, ℤ, pos, negsuc, ◌-ℤ◌, Option, Some, None, IsTrue, drop_at, take_at, Usual, IsUnsignedNullable, IsShortest, Null, is_integer, IsScalar, applies, Kind, Operator, Presence, FieldPart, Scalar, Ascii, Unicode, Bytes, Entry, FieldFault, Pieces, integer_of, exponent_of, mantissa_of, units_of, IsUnitKind, IsFieldPart, delta_base, tail_base, put_together, SpellsTail, DeltaValue, DeltaForm, TailForm, FormOf, HasRangeOr, HoldsScalar, IsBest, left_out_of, operator_refusal, refusal_of, length_of, Both, ShortestSigned, ShortestPart, ShortestPair, ShortestWhole, ShortestPieces, CanBeUnits, CanBeWhole, CanBePieces, IsBestCut, IsDelta, IsTail, OnBase, IsMadeOf}
 use Rattle.fast_field.proofs.BestForms.{bit_zero_is_best}
 use Rattle.fast_field.proofs.BestDeltas.{IsFirst, difference_fits, differences_fit, number_delta_is_first, decimal_delta_is_first}
 use Rattle.fast_field.proofs.BestCuts.{cut_is_first, removal_small, drop_fits, take_fits}
 use Rattle.fast_field.proofs.BestTails.{tail_is_first}
-use Rattle.fast_field.proofs.BestValues.{left_out, whole_is_first, delta_is_first, delta_null_is_first, tail_form_is_first, tail_null_is_first, constant_is_first, constant_is, absent_optional, best_under_one, field_value, operator_allows}
+use Rattle.fast_field.proofs.BestValues.{null_first, null_is_byte, left_out, whole_is_first, delta_is_first, tail_form_is_first, constant_is_first, constant_is, absent_optional, best_under_one, field_value, operator_allows}
 use Rattle.fast_field.proofs.FieldsWithin.{delta_base_within, unit_kind}
-use Rattle.fast_field.proofs.Shortest.{unsigned_form, signed_form, units_form, pair_form, pair_least}
-use Rattle.fast_field.proofs.StandingForms.{text_of, number_shortest, string_is_shortest, decimal_is_shortest}
+use Rattle.fast_field.proofs.Shortest.{whole_shortest}
+use Rattle.fast_field.proofs.StandingForms.{text_of}
 use Rattle.fast_field.proofs.ValuesWithin.{IsOfType, IsString, units_of_string}
 use Rattle.fast_field.proofs.Refused.{few_units}
-
--- ---- NULL is one byte in every form
-
-abbrev null_byte : List ℕ
-null_byte = 128 ∷ []
-
-unsigned_null : IsUnsignedNullable null_byte Null
-unsigned_null = record { entity = (omega arith, omega arith); short = omega arith; value = refl }
-
-signed_null : IsSignedNullable null_byte Null
-signed_null = record { entity = (omega arith, omega arith); short = omega arith; value = refl }
-
-null_is_byte : (b : List ℕ) → IsShortest IsUnsignedNullable b Null → b ≡ null_byte
-null_is_byte b h =
-    let most = h.least null_byte unsigned_null in
-    let some = entity_some b h.form.entity in
-    unsigned_nullable_sizes.one b null_byte Null h.form unsigned_null (omega (arith, most, some))
-
-null_integer : (u : Bool) → IsShortest (SpellsInteger Usual u Optional) null_byte Null
-null_integer true = record { form = unsigned_null; least = λ o h. entity_some o h.entity }
-null_integer false = record { form = signed_null; least = λ o h. entity_some o h.entity }
-
-null_units : (k : Kind) → IsShortest (SpellsUnits Usual k Optional) null_byte Null
-null_units Kind.Ascii = record { form = ascii_null_shortest.form; least = ascii_null_shortest.least }
-null_units k = record { form = vector_null_shortest.form; least = vector_null_shortest.least }
-
-null_spelled : (k : Kind) → IsShortest (Spelled Usual k Optional) null_byte None
-null_spelled Kind.Decimal = record { form = (null_integer false).form; least = (null_integer false).least }
-null_spelled Kind.Ascii = record { form = (null_units Kind.Ascii).form; least = (null_units Kind.Ascii).least }
-null_spelled Kind.Unicode = record { form = (null_units Kind.Unicode).form; least = (null_units Kind.Unicode).least }
-null_spelled Kind.Bytes = record { form = (null_units Kind.Bytes).form; least = (null_units Kind.Bytes).least }
-null_spelled k = record { form = (null_integer (is_unsigned k)).form; least = (null_integer (is_unsigned k)).least }
-
-null_first : (o : Operator) (i : FieldPart) (e : Entry) → i.presence ≡ Optional → left_out_of o i e None ≡ false → IsFirst (λ c b. FormOf Usual o i e true c b None) null_byte
-null_first Operator.Constant i e p out = absurd (let w : constant_gives i.presence None ≡ true = rw p refl in cc)
-null_first Operator.Delta i e p out = delta_null_is_first i e null_byte (rw p (null_integer false))
-null_first Operator.Tail i e p out = tail_null_is_first i e null_byte (rw p (null_units i.kind))
-null_first o i e p out = whole_is_first i.kind i.presence None null_byte (rw p (null_spelled i.kind))
-
--- ---- what stands whole
-
-pub whole_shortest : (k : Kind) (p : Presence) (v : Scalar) (b : List ℕ) → IsOfType k v → ShortestWhole p v b → IsShortest (Spelled Usual k p) b (Some v)
-whole_shortest Kind.UInt32 p (U32 n) b h s = number_shortest Kind.UInt32 p (U32 n) b refl h (unsigned_form p n b s)
-whole_shortest Kind.UInt64 p (U64 n) b h s = number_shortest Kind.UInt64 p (U64 n) b refl h (unsigned_form p n b s)
-whole_shortest Kind.Int32 p (I32 z) b h s = number_shortest Kind.Int32 p (I32 z) b refl h (signed_form p z b s)
-whole_shortest Kind.Int64 p (I64 z) b h s = number_shortest Kind.Int64 p (I64 z) b refl h (signed_form p z b s)
-whole_shortest Kind.Decimal p (Decimal e m) b h s = decimal_is_shortest p e m b h (pair_form p e m b s) (pair_least p e m b s)
-whole_shortest Kind.Ascii p (Ascii t) b h s = string_is_shortest Kind.Ascii p (Ascii t) b tt h (units_form Kind.Ascii p t b s)
-whole_shortest Kind.Unicode p (Unicode t) b h s = string_is_shortest Kind.Unicode p (Unicode t) b tt h (units_form Kind.Unicode p t b s)
-whole_shortest Kind.Bytes p (Bytes t) b h s = string_is_shortest Kind.Bytes p (Bytes t) b tt h (units_form Kind.Bytes p t b s)
-whole_shortest k p v b h s = absurd (let e = h.0 in cc)
-
-whole_first : (i : FieldPart) (v : Scalar) (x : Pieces) (b : List ℕ) → IsOfType i.kind v → IsWhole v x → ShortestPieces i x b → IsFirst (λ c b. (c ≡ uncut) × Spelled Usual i.kind i.presence b (Some v)) b
-whole_first i v (Pieces.Whole w) b h made s = whole_is_first i.kind i.presence (Some v) b (whole_shortest i.kind i.presence v b h (subst (λ (y : Scalar). ShortestWhole i.presence y b) made s))
-whole_first i v x b h made s = absurd made
 
 -- ---- deltas
 
@@ -114,20 +59,16 @@ tail_first i e v x b fits l made s =
     let base = on_base (tail_base i e) (λ base. IsTail i.kind i.presence base v x) made in
     tail_form_is_first i e base.0 v b base.1 (tail_value i base.0 v x b (unit_kind i.kind fits) l base.2 s)
 
--- ---- constants
-
-constant_first : (i : FieldPart) (e : Entry) (v : Scalar) (x : Pieces) (b : List ℕ) → operator_refusal Operator.Constant i e v ≡ None → IsNothing x → ShortestPieces i x b → IsFirst (λ c b. FormOf Usual Operator.Constant i e true c b (Some v)) b
-constant_first i e v Pieces.Nothing b none made s = rw s (constant_is_first i e v (constant_is i.part i.initial v none))
-constant_first i e v x b none made s = absurd made
-
 -- ---- all operators
 
 chosen_first : (o : Operator) (i : FieldPart) (e : Entry) (v : Scalar) (x : Pieces) (b : List ℕ) → IsTrue (applies o i.kind) → IsFieldPart i → HoldsScalar e → IsOfType i.kind v → operator_refusal o i e v ≡ None → IsMadeOf o i e v x → ShortestPieces i x b
     → IsFirst (λ c b. FormOf Usual o i e true c b (Some v)) b
-chosen_first Operator.Constant i e v x b a is h l none made s = constant_first i e v x b none made s
+chosen_first Operator.Constant i e v Pieces.Nothing b a is h l none made s = rw s (constant_is_first i e v (constant_is i.part i.initial v none))
+chosen_first Operator.Constant i e v x b a is h l none made s = absurd made
 chosen_first Operator.Delta i e v x b a is h l none made s = delta_first i e v x b is h l made s
 chosen_first Operator.Tail i e v x b a is h l none made s = tail_first i e v x b a l made s
-chosen_first o i e v x b a is h l none made s = whole_first i v x b l made s
+chosen_first o i e v (Pieces.Whole w) b a is h l none made s = whole_is_first i.kind i.presence (Some v) b (whole_shortest i.kind i.presence v b l (subst (λ (y : Scalar). ShortestWhole i.presence y b) made s))
+chosen_first o i e v x b a is h l none made s = absurd made
 
 -- the shortest bytes of what was chosen are the best form
 pub chosen_best : (i : FieldPart) (e : Entry) (o : Option Scalar) (v : Scalar) (x : Pieces) → o ≡ Some v → IsFieldPart i → HoldsScalar e → HasRangeOr o → refusal_of i e o ≡ None → left_out_of i.operator i e o ≡ false → IsMadeOf i.operator i e v x
@@ -190,23 +131,17 @@ tail_fits i base v (Pieces.Tail t) u l made =
     units_fit i.kind t.now (back_is_string i.kind (units_of v) (take (length (units_of base) - length t.now) (units_of base)) t.now (units_of_string i.kind v u l) made.made)
 tail_fits i base v x u l made = absurd made
 
-wholes_fit : (i : FieldPart) (v : Scalar) (x : Pieces) → IsScalar v → IsWhole v x → CanBePieces i x
-wholes_fit i v (Pieces.Whole w) h made = rw made (whole_fits v h)
-wholes_fit i v x h made = absurd made
-
-nothing_fits : (i : FieldPart) (x : Pieces) → IsNothing x → CanBePieces i x
-nothing_fits i Pieces.Nothing made = tt
-nothing_fits i x made = absurd made
-
 chosen_fits : (o : Operator) (i : FieldPart) (e : Entry) (v : Scalar) (x : Pieces) → IsTrue (applies o i.kind) → IsFieldPart i → HoldsScalar e → IsOfType i.kind v → IsMadeOf o i e v x → CanBePieces i x
-chosen_fits Operator.Constant i e v x a is h l made = nothing_fits i x made
+chosen_fits Operator.Constant i e v Pieces.Nothing a is h l made = tt
+chosen_fits Operator.Constant i e v x a is h l made = absurd made
 chosen_fits Operator.Delta i e v x a is h l made =
     let base = on_base (delta_base i e) (λ base. IsDelta i.kind i.presence base v x) made in
     delta_fits i base.0 v x (delta_base_within i e base.0 is.typed h base.1) l base.2
 chosen_fits Operator.Tail i e v x a is h l made =
     let base = on_base (tail_base i e) (λ base. IsTail i.kind i.presence base v x) made in
     tail_fits i base.0 v x (unit_kind i.kind a) l base.2
-chosen_fits o i e v x a is h l made = wholes_fit i v x l.1 made
+chosen_fits o i e v (Pieces.Whole w) a is h l made = rw made (whole_fits v l.1)
+chosen_fits o i e v x a is h l made = absurd made
 
 pub chosen_can : (i : FieldPart) (e : Entry) (o : Option Scalar) (v : Scalar) (x : Pieces) → o ≡ Some v → IsFieldPart i → HoldsScalar e → HasRangeOr o → refusal_of i e o ≡ None → IsMadeOf i.operator i e v x → CanBePieces i x
 chosen_can i e o v x of_some is h r none made = chosen_fits i.operator i e v x is.typed.operator_applies is h (rw of_some at (field_value i e o is r none).of_field) made

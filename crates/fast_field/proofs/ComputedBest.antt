@@ -1,12 +1,12 @@
 -- Best forms that compute: the cut and the tail that a writer takes of a text are functions, and their bytes are the
 -- shortest where they are read as them and are no more than their size.
-use Rattle.fast_field.proofs.Common.{◌≡◌, ℕ, ◌+◌, ◌-◌, ◌<◌, ◌≤◌, Bool, true, false, List, [], ◌∷◌, ◌++◌, length, take, drop, refl, sym, subst, ◌∙◌, arith, Ok, Result, ℤ, pos, negsuc, nat_le, nat_lt, ◌&&◌, Option, Some, AllByRecursion, nat_tests, leb-true, ltb-true, Usual, IsReader, ascii_size, Value, Kind, Delta, Tail, Whole, Presence, Mandatory, Optional, Scalar, Ascii, Entry, FieldFault, delta_base, tail_base, integer_at, part_at, units_at, IsBest, left_out_of, Both, ShortestSigned, ShortestPart, ShortestUnits, length_size, tail_size, IsBestCut, IsBestTail}
+use Rattle.fast_field.proofs.Common.{◌≡◌, ℕ, ◌+◌, ◌-◌, ◌<◌, ◌≤◌, Bool, true, false, List, [], ◌∷◌, ◌++◌, length, take, drop, refl, sym, subst, ◌∙◌, arith, Ok, Result, ℤ, pos, negsuc, nat_le, nat_lt, ◌&&◌, Option, Some, AllByRecursion, nat_tests, leb-true, ltb-true, Usual, IsReader, ascii_size, Value, Kind, Delta, Tail, Whole, Presence, Mandatory, Optional, Scalar, Ascii, Entry, FieldFault, delta_base, tail_base, integer_at, part_at, units_at, IsBest, left_out_of, Both, ShortestSigned, ShortestPart, ShortestUnits, length_size, tail_size, IsBestCut, IsBestTail, and_parts}
 use Rattle.std.proofs.lemmas.List.{append-nil}
 use Rattle.fast_field.proofs.BestCuts.{agree_front, agree_back, front_agrees, back_agrees, best_at_end, best_in_front, cut_is_first, length_least, part_least}
 use Rattle.fast_field.proofs.BestTails.{longer_is_best, shortest_is_best, tail_is_first, tail_least}
 use Rattle.fast_field.proofs.BestValues.{delta_is_first, tail_form_is_first, best_under_one}
 use Rattle.fast_field.proofs.SpelledForms.{integer_forms, part_forms, units_forms}
-use Rattle.fast_field.proofs.ValuesWithin.{both, IsOfType}
+use Rattle.fast_field.proofs.ValuesWithin.{IsOfType}
 use Rattle.fast_field.proofs.WorkedFields.{part_of}
 
 -- ---- texts and bytes
@@ -18,7 +18,7 @@ all_below most (c ∷ s) = nat_lt c most && all_below most s
 all_below_is : (most : ℕ) (s : List ℕ) → all_below most s ≡ true → AllByRecursion (λ c. c < most) s
 all_below_is most [] e = tt
 all_below_is most (c ∷ s) e =
-    let h = both (nat_lt c most) (all_below most s) e in
+    let h = and_parts (nat_lt c most) (all_below most s) e in
     (grind (arith, nat_tests, h.0), all_below_is most s h.1)
 
 abbrev pub is_text : List ℕ → Bool
@@ -26,7 +26,7 @@ is_text s = nat_le (length s) 65535 && all_below 128 s
 
 pub text_is : (s : List ℕ) → is_text s ≡ true → IsOfType Kind.Ascii (Ascii s)
 text_is s e =
-    let h = both (nat_le (length s) 65535) (all_below 128 s) e in
+    let h = and_parts (nat_le (length s) 65535) (all_below 128 s) e in
     (refl, (grind (arith, nat_tests, h.0), all_below_is 128 s h.1))
 
 -- ---- bytes that are read as a value, to their end, are a form of it
@@ -107,7 +107,7 @@ not_below n a b e some = grind (arith, nat_tests, e, some)
 
 tail_is : (p : Presence) (base v : List ℕ) (t : Bool) → length v ≡ length base → more_first p base v ≡ t → IsBestTail Kind.Ascii p base v (tail_by t base v)
 tail_is p base v true long e =
-    let h = both (nat_lt 0 (agree_front base v)) _ e in
+    let h = and_parts (nat_lt 0 (agree_front base v)) _ e in
     longer_is_best Kind.Ascii p base v (agree_front base v) (front_agrees base v) long (ltb-true _ _ h.0) (ltb-true _ _ h.1)
 tail_is p base v false long e = shortest_is_best Kind.Ascii p base v (agree_front base v) (front_agrees base v) long (not_below _ _ _ e)
 

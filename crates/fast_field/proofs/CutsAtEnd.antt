@@ -1,13 +1,11 @@
 -- What is asked of a base and of what is put behind so much of it: how far both agree.
-use Rattle.fast_field.proofs.Common.{◌≡◌, ◌≤◌, ◌<◌, ◌+◌, ◌-◌, ◌%◌, true, List, ℕ, ◌++◌, length, take, drop, get_or, zero, suc, [], ◌∷◌, refl, sym, ap, subst, ◌∙◌, arith, inl, inr, length-append, nat_eq, not, cases_lt, nat_tests, get_or-append-add, get_or-drop, length-map, length-take-le, take-append_seam, IsEntity, groups, entity_some, IsLongestPrefix, IsLongestSuffix, SharesEnd}
+use Rattle.fast_field.proofs.Common.{◌≡◌, ◌≤◌, ◌<◌, ◌+◌, ◌-◌, ◌%◌, true, List, ℕ, ◌++◌, length, take, drop, get_or, sym, ap, subst, ◌∙◌, arith, inl, inr, length-append, nat_eq, not, cases_lt, nat_tests, get_or-append-add, get_or-drop, length-map, take_at, length-take-le, IsEntity, groups, entity_some, IsLongestPrefix, IsLongestSuffix, SharesEnd}
+use Rattle.std.proofs.Math.ListN.{get_or-map}
 use Rattle.fast_field.proofs.Agreeing.{prefix_ends, prefix_more, prefix_stops, suffix_ends, suffix_none, suffix_stops}
 use Rattle.fast_field.proofs.BestCuts.{longest_suffix}
 
 part_at_kept : (base part : List ℕ) (n i : ℕ) → n ≤ length base → get_or (take n base ++ part) (n + i) 0 ≡ get_or part i 0
 part_at_kept base part n i h = let long = length-take-le n base h in subst (λ m. get_or (take n base ++ part) (m + i) 0 ≡ get_or part i 0) long (get_or-append-add (take n base) part i 0)
-
-kept_front : (base part : List ℕ) (n : ℕ) → n ≤ length base → take n (take n base ++ part) ≡ take n base
-kept_front base part n h = let long = length-take-le n base h in subst (λ m. take m (take n base ++ part) ≡ take n base) long (take-append_seam (take n base) part)
 
 pub prefix_stays : (base part : List ℕ) (n : ℕ) → n < length base → 0 < length part → (get_or base n 0 ≡ get_or part 0 0 → ⊥) → IsLongestPrefix base (take n base ++ part) n
 prefix_stays base part n lt some differ =
@@ -15,10 +13,10 @@ prefix_stays base part n lt some differ =
     let within : n ≤ length base = omega arith in
     let first : n + 0 ≡ n = omega arith in
     let here : get_or v n 0 ≡ get_or part 0 0 = subst (λ m. get_or v m 0 ≡ get_or part 0 0) first (part_at_kept base part n 0 within) in
-    prefix_stops base v n lt (omega (arith, some, length-append (take n base) part, length-take-le n base within)) (λ e. differ (e ∙ here)) (sym (kept_front base part n within))
+    prefix_stops base v n lt (omega (arith, some, length-append (take n base) part, length-take-le n base within)) (λ e. differ (e ∙ here)) (sym (take_at (take n base) part n (length-take-le n base within)))
 
 pub prefix_whole : (base part : List ℕ) (n : ℕ) → n ≤ length base → length base ≤ n → IsLongestPrefix base (take n base ++ part) n
-prefix_whole base part n le ge = prefix_ends base (take n base ++ part) n (omega arith) (omega (arith, length-append (take n base) part, length-take-le n base le)) (sym (kept_front base part n le))
+prefix_whole base part n le ge = prefix_ends base (take n base ++ part) n (omega arith) (omega (arith, length-append (take n base) part, length-take-le n base le)) (sym (take_at (take n base) part n (length-take-le n base le)))
 
 pub suffix_stays : (base part : List ℕ) (n : ℕ) → n ≤ length base → 0 < length part → (0 < length base → get_or base (length base - 1) 0 ≡ get_or part (length part - 1) 0 → ⊥) → IsLongestSuffix base (take n base ++ part) 0
 suffix_stays base part n h some differ =
@@ -53,11 +51,6 @@ few_shared base part n lt as_many few prefix =
     let s = longest_suffix base (take n base ++ part) in
     (s.0, s.1, elim (cases_lt n s.0) [ inl more ↦ absurd (behind_first base part n s.0 lt as_many few prefix s.1 more) | inr le ↦ le ])
 
-group_at : (form : List ℕ) (i : ℕ) → i < length form → get_or (groups form) i 0 ≡ get_or form i 0 % 128
-group_at [] i h = absurd (omega arith)
-group_at (b ∷ bs) zero h = refl
-group_at (b ∷ bs) (suc i) h = group_at bs i (omega arith)
-
 pub no_equal : (a b : ℕ) → not (nat_eq a b) ≡ true → a ≡ b → ⊥
 no_equal a b e same = grind (arith, nat_tests)
 
@@ -65,10 +58,10 @@ pub prefix_found : (base form : List ℕ) (n : ℕ) → n < length base → IsEn
 prefix_found base form n lt entity differ =
     let some = entity_some form entity in
     let same = length-map form (λ b. b % 128) in
-    prefix_stays base (groups form) n lt (omega (arith, some, same)) (λ e. differ (e ∙ group_at form 0 (omega (arith, some))))
+    prefix_stays base (groups form) n lt (omega (arith, some, same)) (λ e. differ (e ∙ get_or-map (λ b. b % 128) form 0 0))
 
 pub suffix_found : (base form : List ℕ) (n : ℕ) → n ≤ length base → IsEntity form → (0 < length base → get_or base (length base - 1) 0 ≡ get_or form (length form - 1) 0 % 128 → ⊥) → IsLongestSuffix base (take n base ++ groups form) 0
 suffix_found base form n h entity differ =
     let some = entity_some form entity in
     let same = length-map form (λ b. b % 128) in
-    suffix_stays base (groups form) n h (omega (arith, some, same)) (λ lt e. differ lt (e ∙ ap (λ m. get_or (groups form) (m - 1) 0) same ∙ group_at form (length form - 1) (omega (arith, some))))
+    suffix_stays base (groups form) n h (omega (arith, some, same)) (λ lt e. differ lt (e ∙ ap (λ m. get_or (groups form) (m - 1) 0) same ∙ get_or-map (λ b. b % 128) form (length form - 1) 0))

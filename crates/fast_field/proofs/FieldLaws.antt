@@ -2,13 +2,25 @@
 use Rattle.fast_field.proofs.Common.{◌≡◌, ℕ, Bool, true, false, List, [], ◌++◌, Result, Ok, Err, refl, sym, ap, subst, ◌∙◌, append-nil, Option, Some, None, ◌>>=◌, WireFault, Nullable, Null, Value, ok_is, reader_then, reader_of, reader_as, Scalar, FieldFault, field_fault, in_field, check, unless_null, as_value}
 use Rattle.fast_wire.specs.Reader.{IsReader, Both}
 
-in_field_ok : {A : Type 0} (r : Result A WireFault) (x : A) → in_field r ≡ Ok x → r ≡ Ok x
+pub in_field_ok : {A : Type 0} (r : Result A WireFault) (x : A) → in_field r ≡ Ok x → r ≡ Ok x
 in_field_ok (Ok y) x e = cc
 in_field_ok (Err w) x e = absurd cc
 
 in_field_err : {A : Type 0} (r : Result A WireFault) (f : FieldFault) → in_field r ≡ Err f → (w : WireFault) × (r ≡ Err w) × (field_fault w ≡ f)
 in_field_err (Ok y) f e = absurd cc
 in_field_err (Err w) f e = (w, refl, cc)
+
+abbrev pub made_by : {A B : Type 0} → (A → B) → A × List ℕ → Result (B × List ℕ) FieldFault
+made_by f x = Ok (f x.0, x.1)
+
+-- what a value was made of, where that is one thing alone
+pub made_back : {A B : Type 0} (r : Result (A × List ℕ) FieldFault) (f : A → B) (x : A) (rest : List ℕ) → ((y : A) → f y ≡ f x → y ≡ x) → (r >>= made_by f) ≡ Ok (f x, rest) → r ≡ Ok (x, rest)
+made_back (Ok (y, more)) f x rest one h =
+    let both = ok_is {F = FieldFault} (f y, more) (f x, rest) h in
+    let same : y ≡ x = one y (ap (λ p. p.0) both) in
+    let tails : more ≡ rest = ap (λ p. p.1) both in
+    cc
+made_back (Err d) f x rest one h = absurd cc
 
 -- a byte form in a field
 pub reader_in_field : {A : Type 0} (r : List ℕ → Result (A × List ℕ) WireFault) (Form : List ℕ → A → Type 0) → IsReader WireFault.NeedMore r Form → IsReader FieldFault.NeedMore (λ bytes. in_field (r bytes)) Form

@@ -236,12 +236,6 @@ judging : {A : Type 0} (limit : ℕ) (overlong : List ℕ → Bool) (d : FieldFa
 unfolding entity_at
 judging limit overlong d b bs r short starts = by_byte overlong d (nat_le 128 b) b bs (entity_at limit bs) r short.0 short.1 starts
 
-some : (b : ℕ) → 128 ≤ b → b ≢ 0
-some b h is = absurd (omega (arith, h, is))
-
-few : (b : ℕ) → 128 ≤ b → b ≢ 127
-few b h is = absurd (omega (arith, h, is))
-
 -- ---- how readings behave
 
 -- What a reading does at each level. It judges one entity where One holds, and two at most.
@@ -294,7 +288,7 @@ of_judged limit overlong d read level usual starts short = record {
   agrees = λ bytes. by_entity overlong d (entity_at (suc limit) bytes) (read bytes) level (starts bytes);
   bounded = usual.bounded;
   one = λ o b bs m n. judging limit overlong d b bs (read (b ∷ bs)) (short b m n) (starts (b ∷ bs));
-  two = λ b c cs h m n. judging limit overlong d b (c ∷ cs) (read (b ∷ c ∷ cs)) (short b (some b h) (few b h)) (starts (b ∷ c ∷ cs));
+  two = λ b c cs h m n. judging limit overlong d b (c ∷ cs) (read (b ∷ c ∷ cs)) (short b (λ is. absurd (omega (arith, h, is))) (λ is. absurd (omega (arith, h, is)))) (starts (b ∷ c ∷ cs));
 }
 
 integer : (u : Bool) (p : Presence) → Behaves (Unit {0}) 10 (λ level bytes. integer_at level u p bytes)

@@ -1,8 +1,8 @@
 -- The value of a form is within its type, and so is the entry afterwards.
-use Rattle.fast_field.proofs.Common.{◌≡◌, ℕ, zero, suc, ◌+◌, ◌-◌, ◌<◌, ◌≤◌, Bool, true, false, List, [], length, take, drop, refl, sym, ap, subst, ◌∙◌, arith, Ok, ℤ, pos, negsuc, ◌+ℤ◌, int_lt, nat_le, nat_lt, ◌&&◌, Option, Some, None, IsTrue, IsSome, IfSome, IsUtf8, unwrap_or, if◌then◌else◌, is_utf8, chars, AllByRecursion, nat_tests, ints, IsUtf8-from_is_utf8, le-leb, leb-true, Usual, ok_is, is_of, is_integer, in_range, least_of, greatest_of, kind_of, of_integer, IsScalar, applies, IsInitial, IsTyped, Kind, Operator, Presence, Mandatory, Optional, FieldPart, Scalar, U32, I32, U64, I64, Entry, Undefined, Empty, Assigned, FieldFault, units_of, integer_of, increased, default_of, IsUnitKind, IsFieldPart, kept_of, start_of, delta_base, tail_base, absent_or, initial_or, repeated, predicted, next_of, next, written_entry, delta_entry, IsOfUnits, Cut, put_together, ended_by, SpellsCut, SpellsTail, DeltaValue, DeltaForm, TailForm, InitialOrAbsent, FormOf, Form, HoldsScalar, IsOfField, IsFieldValue}
+use Rattle.fast_field.proofs.Common.{◌≡◌, ℕ, zero, suc, ◌+◌, ◌-◌, ◌<◌, ◌≤◌, Bool, true, false, List, [], length, take, drop, refl, sym, ap, subst, ◌∙◌, arith, Ok, ℤ, pos, negsuc, ◌+ℤ◌, int_lt, nat_le, nat_lt, ◌&&◌, Option, Some, None, IsTrue, IsSome, IfSome, IsUtf8, unwrap_or, if◌then◌else◌, is_utf8, chars, AllByRecursion, nat_tests, ints, IsUtf8-from_is_utf8, le-leb, leb-true, Usual, ok_is, is_of, is_integer, in_range, least_of, greatest_of, kind_of, of_integer, IsScalar, applies, IsInitial, IsTyped, Kind, Operator, Presence, Mandatory, Optional, FieldPart, Scalar, U32, I32, U64, I64, Entry, Undefined, Empty, Assigned, FieldFault, units_of, integer_of, increased, default_of, IsUnitKind, IsFieldPart, kept_of, start_of, delta_base, tail_base, absent_or, initial_or, repeated, predicted, next_of, next, written_entry, delta_entry, IsOfUnits, Cut, put_together, ended_by, SpellsCut, SpellsTail, DeltaValue, DeltaForm, TailForm, InitialOrAbsent, FormOf, Form, HoldsScalar, IsOfField, IsFieldValue, and_from, and_parts}
 use Rattle.fast_field.proofs.SpelledForms.{if_ok}
 use Rattle.fast_field.proofs.BaseSteps.{is_of-kind}
-use Rattle.fast_field.proofs.ValuesWithin.{both, IsOfType, IsOfTypeOr, unit_limit, number_within, string_within, units_of_string, spelled_within, part_within, units_within, null_optional, null_units_optional, all_append, all_take, all_drop}
+use Rattle.fast_field.proofs.ValuesWithin.{IsOfType, IsOfTypeOr, unit_limit, number_within, string_within, units_of_string, spelled_within, part_within, units_within, null_optional, null_units_optional, all_append, all_take, all_drop}
 
 -- ---- what there is without an entry
 
@@ -49,21 +49,18 @@ tail_base_within i o base is h e = subst (λ (x : Scalar). IsOfType i.kind x) (o
 is_lt : (m n : ℕ) → nat_lt m n ≡ true → m + 1 ≤ n
 is_lt m n h = grind (arith, nat_tests)
 
-pub and_true : (a b : Bool) → a ≡ true → b ≡ true → (a && b) ≡ true
-and_true a b h l = rw (h, l) refl
-
 one_up : (n : ℕ) → negsuc (suc n) +ℤ pos 1 ≡ negsuc n
 one_up n = omega (arith, ints)
 
 next_in_range : (k : Kind) (z : ℤ) → IsTrue (is_integer k) → IsTrue (in_range k z) → int_lt z (greatest_of k) ≡ true → IsTrue (in_range k (z +ℤ pos 1))
-next_in_range Kind.UInt32 (pos n) i h l = and_true _ _ (le-leb 0 (n + 1) (omega arith)) (le-leb (n + 1) 4294967295 (is_lt n 4294967295 l))
-next_in_range Kind.UInt64 (pos n) i h l = and_true _ _ (le-leb 0 (n + 1) (omega arith)) (le-leb (n + 1) 18446744073709551615 (is_lt n 18446744073709551615 l))
+next_in_range Kind.UInt32 (pos n) i h l = and_from _ _ (le-leb 0 (n + 1) (omega arith)) (le-leb (n + 1) 4294967295 (is_lt n 4294967295 l))
+next_in_range Kind.UInt64 (pos n) i h l = and_from _ _ (le-leb 0 (n + 1) (omega arith)) (le-leb (n + 1) 18446744073709551615 (is_lt n 18446744073709551615 l))
 next_in_range Kind.Int32 (pos n) i h l = le-leb (n + 1) 2147483647 (is_lt n 2147483647 l)
 next_in_range Kind.Int64 (pos n) i h l = le-leb (n + 1) 9223372036854775807 (is_lt n 9223372036854775807 l)
 next_in_range Kind.Int32 (negsuc zero) i h l = refl
 next_in_range Kind.Int64 (negsuc zero) i h l = refl
-next_in_range Kind.Int32 (negsuc (suc n)) i h l = let w = both (nat_le (suc n) 2147483647) true h in rw (one_up n) (and_true _ _ (le-leb n 2147483647 (omega (arith, leb-true (suc n) 2147483647 w.0))) refl)
-next_in_range Kind.Int64 (negsuc (suc n)) i h l = let w = both (nat_le (suc n) 9223372036854775807) true h in rw (one_up n) (and_true _ _ (le-leb n 9223372036854775807 (omega (arith, leb-true (suc n) 9223372036854775807 w.0))) refl)
+next_in_range Kind.Int32 (negsuc (suc n)) i h l = let w = and_parts (nat_le (suc n) 2147483647) true h in rw (one_up n) (and_from _ _ (le-leb n 2147483647 (omega (arith, leb-true (suc n) 2147483647 w.0))) refl)
+next_in_range Kind.Int64 (negsuc (suc n)) i h l = let w = and_parts (nat_le (suc n) 9223372036854775807) true h in rw (one_up n) (and_from _ _ (le-leb n 9223372036854775807 (omega (arith, leb-true (suc n) 9223372036854775807 w.0))) refl)
 next_in_range k z i h l = absurd cc
 
 one_more_within : (k : Kind) (z : ℤ) (t : Bool) → IsTrue (is_integer k) → IsTrue (in_range k z) → int_lt z (greatest_of k) ≡ t → IsOfType k (if t then of_integer k (z +ℤ pos 1) else of_integer k (least_of k))
@@ -75,7 +72,7 @@ one_more_within Kind.Int64 z false i h l = (refl, refl)
 one_more_within k z false i h l = absurd cc
 
 pub uint_in_range : (n m : ℕ) → n < m + 1 → (nat_le 0 n && nat_le n m) ≡ true
-uint_in_range n m h = and_true _ _ (le-leb 0 n (omega arith)) (le-leb n m (omega arith))
+uint_in_range n m h = and_from _ _ (le-leb 0 n (omega arith)) (le-leb n m (omega arith))
 
 pub increased_within : (v : Scalar) → IsTrue (is_integer (kind_of v)) → IsScalar v → IsOfType (kind_of v) (increased v)
 increased_within (U32 n) i h = one_more_within Kind.UInt32 (pos n) (int_lt (pos n) (pos 4294967295)) refl (uint_in_range n 4294967295 h) refl

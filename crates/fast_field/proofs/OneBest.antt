@@ -1,6 +1,6 @@
 -- A value has one best form.
-use Rattle.fast_field.proofs.Common.{◌≡◌, ℕ, ◌+◌, ◌-◌, ◌<◌, ◌≤◌, Bool, true, false, List, [], ◌∷◌, ◌++◌, length, take, drop, refl, sym, ap, subst, ◌∙◌, arith, inl, inr, ◌⊎◌, length-append, length-take, length-drop, ℤ, pos, negsuc, ◌+ℤ◌, Option, Some, None, IsTrue, ints, take_at, drop_at, Usual, IsSigned, Nullable, Null, Value, unsigned_sizes, signed_sizes, unsigned_nullable_sizes, signed_nullable_sizes, ascii_sizes, ascii_nullable_sizes, vector_sizes, vector_nullable_sizes, ok_is, is_integer, Kind, Operator, Presence, Mandatory, Optional, FieldPart, Scalar, Entry, FieldFault, is_unsigned, integer_of, exponent_of, mantissa_of, units_of, SpellsInteger, SpellsPart, SpellsUnits, SpellsPair, SpelledNumber, SpelledString, SpelledDecimal, Spelled, Side, at_end, in_front, Cut, uncut, removed_of, side_of, put_together, ended_by, SpellsCut, SpellsDelta, SpellsDeltas, SpellsTail, DeltaValue, FormOf, FormBy, Form, bit_rank, side_rank, NoLater, IsBest, CutsNothing}
-use Rattle.fast_field.proofs.BestForms.{bit_zero_row}
+use Rattle.fast_field.proofs.Common.{◌≡◌, ℕ, ◌+◌, ◌-◌, ◌<◌, ◌≤◌, Bool, true, false, List, ◌++◌, length, take, drop, refl, sym, ap, subst, ◌∙◌, arith, inl, inr, ◌⊎◌, length-append, length-take, length-drop, ℤ, pos, negsuc, ◌+ℤ◌, Option, Some, None, IsTrue, ints, take_at, drop_at, Usual, IsSigned, Nullable, Null, Value, unsigned_sizes, signed_sizes, unsigned_nullable_sizes, signed_nullable_sizes, ascii_sizes, ascii_nullable_sizes, vector_sizes, vector_nullable_sizes, ok_is, is_integer, Kind, Operator, Presence, Mandatory, Optional, FieldPart, Scalar, Entry, FieldFault, is_unsigned, integer_of, exponent_of, mantissa_of, units_of, SpellsInteger, SpellsPart, SpellsUnits, SpellsPair, SpelledNumber, SpelledString, SpelledDecimal, Spelled, Side, at_end, in_front, Cut, uncut, removed_of, side_of, put_together, ended_by, SpellsCut, SpellsDelta, SpellsDeltas, SpellsTail, DeltaValue, FormOf, FormBy, Form, bit_rank, side_rank, NoLater, IsBest, CutsNothing, nil_from_length}
+use Rattle.fast_field.proofs.BestForms.{bit_zero_row, size_le}
 use Rattle.fast_field.proofs.Refused.{units_are}
 use Rattle.fast_field.proofs.BestValues.{none_shorter}
 use Rattle.fast_field.proofs.StandingForms.{number_of}
@@ -191,10 +191,6 @@ rank_le : (bit bit' : Bool) (n n' : ℕ) (c c' : Cut) → NoLater bit n c bit' n
 rank_le bit bit' n n' c c' (inl lt) = omega (arith, lt)
 rank_le bit bit' n n' c c' (inr h) = omega (arith, ap bit_rank h.0)
 
-size_le : (bit bit' : Bool) (n n' : ℕ) (c c' : Cut) → bit ≡ bit' → NoLater bit n c bit' n' c' → n ≤ n'
-size_le bit bit' n n' c c' e (inl lt) = absurd (omega (arith, lt, ap bit_rank e))
-size_le bit bit' n n' c c' e (inr h) = elim h.1 [ inl lt ↦ omega (arith, lt) | inr l ↦ let s = l.0 in omega arith ]
-
 cut_le : (bit bit' : Bool) (n n' : ℕ) (c c' : Cut) → bit ≡ bit' → n ≡ n' → NoLater bit n c bit' n' c' → (side_rank c.side < side_rank c'.side) ⊎ ((c.side ≡ c'.side) × (c.part ≤ c'.part))
 cut_le bit bit' n n' c c' e s (inl lt) = absurd (omega (arith, lt, ap bit_rank e))
 cut_le bit bit' n n' c c' e s (inr h) = elim h.1 [ inl lt ↦ absurd (omega (arith, lt)) | inr l ↦ l.1 ]
@@ -259,17 +255,13 @@ forms_uncut Operator.Tail i e bit x b v n f = absurd n
 forms_uncut o i e true x b v n f = f.0
 forms_uncut o i e false x b v n f = f.0
 
-none_of : (b : List ℕ) → length b ≡ 0 → b ≡ []
-none_of [] e = refl
-none_of (n ∷ b) e = absurd (omega (arith, e))
-
 as_short : (bit other : Bool) (i : FieldPart) (e : Entry) (b c : List ℕ) (v : Option Scalar) (f : IsBest i e bit b v) (g : Form Usual i e other c v) → CutsNothing i.operator i.kind → length b ≡ length c → b ≡ c
 as_short bit false i e b c v f g n same =
     let empty = (bit_zero_row i.operator i e g.0 c v g.1.row).1 in
-    none_of b (same ∙ ap length empty) ∙ sym empty
+    nil_from_length b (same ∙ ap length empty) ∙ sym empty
 as_short false true i e b c v f g n same =
     let empty = (bit_zero_row i.operator i e f.cut b v f.form.row).1 in
-    empty ∙ sym (none_of c (sym same ∙ ap length empty))
+    empty ∙ sym (nil_from_length c (sym same ∙ ap length empty))
 as_short true true i e b c v f g n same =
     let cuts = forms_uncut i.operator i e true f.cut b v n f.form.row ∙ sym (forms_uncut i.operator i e true g.0 c v n g.1.row) in
     by_bit true i e f.cut g.0 b c v f.form g.1 cuts same

@@ -89,34 +89,21 @@ known v = Ok v
 assigned_predicted : (i : FieldPart) (v w : Scalar) → is_of i.kind v ≡ true → repeated i.operator v ≡ w → predicted i (Assigned v) ≡ Ok (Some w)
 assigned_predicted i v w is e = rw is (ap (λ (x : Scalar). known (Some x)) e)
 
-pub kept_given : (i : FieldPart) (v : Scalar) → Repeats i.operator → is_of i.kind v ≡ true → IsTrue (within_part i.part v) → Passes i (Assigned v) (Assigned v) (Some v)
-kept_given i v h is within = predicted_passes i (Assigned v) (Some v) (repeats_predicts i.operator h) (assigned_predicted i v v is (repeats i.operator v h)) within
-
 pub kept_passes : (i : FieldPart) (v : Scalar) → Repeats i.operator → is_of i.kind v ≡ true → IsTrue (within_part i.part v) → IsPassed i (Assigned v) (Assigned v) Present
-kept_passes i v h is within = (v, is, kept_given i v h is within)
-
-assigned_given : (i : FieldPart) (v : Scalar) (z : ℤ) → i.operator ≡ Operator.Increment → IsNumberOf i.kind v z → IsFieldNumber i.kind i.part (next_number i.kind z)
-    → Passes i (Assigned v) (Assigned (of_integer i.kind (next_number i.kind z))) (Some (of_integer i.kind (next_number i.kind z)))
-assigned_given i v z o h n =
-    let w = of_integer i.kind (next_number i.kind z) in
-    let e : repeated i.operator v ≡ w = rw o (increased_is i.kind v z h) in
-    predicted_passes i (Assigned v) (Some w) (rw o tt) (assigned_predicted i v w (kind_is i.kind v z h) e) (within_number i.kind i.part (next_number i.kind z) n)
+kept_passes i v h is within = (v, is, predicted_passes i (Assigned v) (Some v) (repeats_predicts i.operator h) (assigned_predicted i v v is (repeats i.operator v h)) within)
 
 entry_given : (i : FieldPart) (e : Entry) (z : ℤ) → i.operator ≡ Operator.Increment → HasNumber i.kind e z → IsFieldNumber i.kind i.part (next_number i.kind z)
     → Passes i e (Assigned (of_integer i.kind (next_number i.kind z))) (Some (of_integer i.kind (next_number i.kind z)))
-entry_given i (Assigned v) z o h n = assigned_given i v z o h n
+entry_given i (Assigned v) z o h n =
+    let w = of_integer i.kind (next_number i.kind z) in
+    let e : repeated i.operator v ≡ w = rw o (increased_is i.kind v z h) in
+    predicted_passes i (Assigned v) (Some w) (rw o tt) (assigned_predicted i v w (kind_is i.kind v z h) e) (within_number i.kind i.part (next_number i.kind z) n)
 entry_given i e z o h n = absurd h
 
-pub next_given : (k : Kind) (i : FieldPart) (e : Entry) (z : ℤ) → k ≡ i.kind → i.operator ≡ Operator.Increment → HasNumber k e z → IsFieldNumber k i.part (next_number k z)
-    → Passes i e (Assigned (of_integer k (next_number k z))) (Some (of_integer k (next_number k z)))
-next_given k i e z same o =
-    subst (λ (k : Kind). HasNumber k e z → IsFieldNumber k i.part (next_number k z) → Passes i e (Assigned (of_integer k (next_number k z))) (Some (of_integer k (next_number k z)))) (sym same) (entry_given i e z o)
-
-next_of_kind : (k : Kind) (i : FieldPart) (z : ℤ) → k ≡ i.kind → IsNumber k z → IsTrue (is_of i.kind (of_integer k z))
-next_of_kind k i z same = subst (λ (k : Kind). IsNumber k z → IsTrue (is_of i.kind (of_integer k z))) (sym same) (of_kind i.kind z)
-
 pub next_passes : (k : Kind) (i : FieldPart) (e : Entry) (z : ℤ) → k ≡ i.kind → i.operator ≡ Operator.Increment → HasNumber k e z → IsFieldNumber k i.part (next_number k z) → IsPassed i e (Assigned (of_integer k (next_number k z))) Present
-next_passes k i e z same o h n = (of_integer k (next_number k z), next_of_kind k i (next_number k z) same n.number, next_given k i e z same o h n)
+next_passes k i e z same o =
+    subst (λ (k : Kind). HasNumber k e z → IsFieldNumber k i.part (next_number k z) → IsPassed i e (Assigned (of_integer k (next_number k z))) Present) (sym same)
+    (λ h n. (of_integer i.kind (next_number i.kind z), of_kind i.kind (next_number i.kind z) n.number, entry_given i e z o h n))
 
 pub empty_passes : (i : FieldPart) → Predicts i.operator → i.presence ≡ Optional → IsPassed i Empty Empty Absent
 empty_passes i h optional = predicted_passes i Empty None h (rw optional refl) tt
@@ -126,11 +113,8 @@ left_given : (o : Operator) (i : FieldPart) (e : Entry) (v : Option Scalar) → 
     → Passes i e e v
 left_given o i e v is bit default row within entry = passes i e e v (rw is bit) default (record { row = subst (λ (x : Operator). FormOf Usual x i e false uncut [] v) (sym is) row; within = within }) (rw is entry)
 
-pub initial_given : (i : FieldPart) (e : Entry) (v : Scalar) → i.operator ≡ Operator.Default → i.initial ≡ Some v → IsTrue (within_part i.part v) → Passes i e e (Some v)
-initial_given i e v o initial within = left_given Operator.Default i e (Some v) o (λ h. absurd cc) (λ d m. rw initial refl) (refl, refl, initial) within refl
-
 pub initial_passes : (i : FieldPart) (e : Entry) (v : Scalar) → i.operator ≡ Operator.Default → i.initial ≡ Some v → is_of i.kind v ≡ true → IsTrue (within_part i.part v) → IsPassed i e e Present
-initial_passes i e v o initial is within = (v, is, initial_given i e v o initial within)
+initial_passes i e v o initial is within = (v, is, left_given Operator.Default i e (Some v) o (λ h. absurd cc) (λ d m. rw initial refl) (refl, refl, initial) within refl)
 
 optional_default : (i : FieldPart) → i.presence ≡ Optional → HasDefault i
 optional_default i optional d m = absurd (let no : Mandatory ≡ Optional = sym m ∙ optional in cc)

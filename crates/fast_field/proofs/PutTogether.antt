@@ -1,5 +1,5 @@
 -- What was sent and units of a base, put together.
-use Rattle.fast_field.proofs.Common.{◌≡◌, ℕ, ◌+◌, ◌-◌, ◌%◌, ◌<◌, ◌≤◌, ◌⊎◌, true, List, ◌++◌, length, get_or, set, refl, ap, ◌∙◌, inl, inr, arith, length-append, nat_lt, nat_tests, get_or-append_right, set-append_right, length-map, groups, Fails, tail_text, Kind, FieldFault, OrRefused, limited_value, units_sent}
+use Rattle.fast_field.proofs.Common.{◌≡◌, ℕ, ◌+◌, ◌-◌, ◌%◌, ◌<◌, ◌≤◌, ◌⊎◌, true, List, ◌++◌, length, get_or, set, refl, ap, ◌∙◌, inl, inr, arith, length-append, nat_lt, get_or-append_right, set-append_right, length-map, groups, Fails, tail_text, Kind, FieldFault, OrRefused, limited_value, units_sent, lt-ltb}
 use Rattle.fast_wire.specs.Spans.{IsTail}
 use Rattle.fast_field.proofs.ValueFaults.{never, few_made}
 
@@ -25,9 +25,9 @@ sent_length k sent = refl
 pub no_memory : (e : FieldFault) (k : Kind) (units : List ℕ) → e ≡ FieldFault.Memory → Fails OrRefused e (limited_value k units)
 no_memory e k units refused = inr (refused, never (limited_value k units) (few_made k units))
 
-pub no_room : (e : FieldFault) (k : Kind) (units : List ℕ) (n : ℕ) → length units ≡ n → (e ≡ FieldFault.Memory) ⊎ ((e ≡ FieldFault.Limit) × (65535 < n)) → Fails OrRefused e (limited_value k units)
+pub no_room : (e : FieldFault) (k : Kind) (a b : List ℕ) (m n : ℕ) → length a ≡ m → length b ≡ n → (e ≡ FieldFault.Memory) ⊎ ((e ≡ FieldFault.Limit) × (65535 < m + n)) → Fails OrRefused e (limited_value k (a ++ b))
 unfolding limited_value
-no_room e k units n all (inl refused) = no_memory e k units refused
-no_room e k units n all (inr h) =
-    let many : nat_lt 65535 (length units) ≡ true = grind (arith, nat_tests, all, h.1) in
+no_room e k a b m n in_a in_b (inl refused) = no_memory e k (a ++ b) refused
+no_room e k a b m n in_a in_b (inr h) =
+    let many : nat_lt 65535 (length (a ++ b)) ≡ true = lt-ltb 65535 (length (a ++ b)) (omega (arith, length-append a b, in_a, in_b, h.1)) in
     rw (many, h.0) (inl refl)

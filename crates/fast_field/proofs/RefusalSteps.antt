@@ -1,19 +1,15 @@
 -- How calls judge a value.
-use Rattle.fast_field.proofs.Common.{◌≡◌, ℕ, zero, suc, ◌<◌, Bool, true, false, List, [], ◌∷◌, get_or, refl, arith, MatchBool, nat_lt, nat_tests, are_characters}
+use Rattle.fast_field.proofs.Common.{◌≡◌, ℕ, zero, suc, ◌<◌, Bool, true, false, List, [], ◌∷◌, get_or, refl, arith, MatchBool, nat_lt, nat_tests, are_characters, and_parts, lt-ltb}
 use Rattle.std.specs.Str.{IsAscii, IsNotAscii}
-use Rattle.fast_field.proofs.ValuesWithin.{both}
 
 each_low : (s : List ℕ) → ((k : ℕ) → get_or s k 0 < 128) → are_characters s ≡ true
 each_low [] h = refl
-each_low (c ∷ s) h =
-    let lt = h 0 in
-    let t : nat_lt c 128 ≡ true = grind (arith, nat_tests) in
-    rw (t, each_low s (λ k. h (suc k))) refl
+each_low (c ∷ s) h = rw (lt-ltb c 128 (h 0), each_low s (λ k. h (suc k))) refl
 
 low_each : (s : List ℕ) → are_characters s ≡ true → (k : ℕ) → get_or s k 0 < 128
 low_each [] h k = omega arith
-low_each (c ∷ s) h zero = let w = both (nat_lt c 128) (are_characters s) h in let t = w.0 in grind (arith, nat_tests)
-low_each (c ∷ s) h (suc k) = let w = both (nat_lt c 128) (are_characters s) h in low_each s w.1 k
+low_each (c ∷ s) h zero = let w = and_parts (nat_lt c 128) (are_characters s) h in let t = w.0 in grind (arith, nat_tests)
+low_each (c ∷ s) h (suc k) = let w = and_parts (nat_lt c 128) (are_characters s) h in low_each s w.1 k
 
 told : (s : List ℕ) (r b : Bool) → are_characters s ≡ b → MatchBool r (IsAscii s) (IsNotAscii s) → r ≡ b
 told s true true e h = refl

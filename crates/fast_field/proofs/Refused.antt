@@ -1,5 +1,5 @@
 -- What is refused has no form.
-use Rattle.fast_field.proofs.Common.{◌≡◌, ℕ, ◌-◌, ◌<◌, ◌≤◌, Bool, true, false, List, [], ◌∷◌, length, take, refl, ap, subst, arith, Ok, length-append, length-take, ℤ, pos, negsuc, int_lt, int_le, nat_lt, Option, Some, None, IsTrue, unwrap_or, AllByRecursion, nat_tests, Level, Usual, ok_is, is_of, scalar_eq-same, IsScalar, Kind, Operator, Part, Presence, Mandatory, Optional, FieldPart, Scalar, Decimal, Ascii, Unicode, Bytes, Entry, Undefined, Empty, Assigned, FieldFault, FieldRefusal, integer_of, units_of, of_units, default_of, IsFieldPart, start_of, absent_or, initial_or, repeated, tail_base, predicted, IsOfUnits, Cut, ended_by, FormOf, Form, within_part, HoldsScalar, IsFieldValue, are_characters, has_characters, has_too_many, is_far, constant_refusal, tail_refusal, operator_refusal, value_refusal, refusal_of}
+use Rattle.fast_field.proofs.Common.{◌≡◌, ℕ, ◌-◌, ◌<◌, ◌≤◌, Bool, true, false, List, [], ◌∷◌, length, take, refl, ap, subst, arith, Ok, length-append, length-take, ℤ, pos, negsuc, int_lt, int_le, nat_lt, Option, Some, None, IsTrue, unwrap_or, AllByRecursion, nat_tests, Level, Usual, ok_is, is_of, scalar_eq-same, IsScalar, Kind, Operator, Part, Presence, Mandatory, Optional, FieldPart, Scalar, Decimal, Ascii, Unicode, Bytes, Entry, Undefined, Empty, Assigned, FieldFault, FieldRefusal, integer_of, units_of, of_units, default_of, IsFieldPart, absent_or, initial_or, repeated, tail_base, predicted, IsOfUnits, Cut, ended_by, FormOf, Form, within_part, HoldsScalar, IsFieldValue, are_characters, has_characters, has_too_many, is_far, constant_refusal, tail_refusal, operator_refusal, value_refusal, refusal_of, le-ltb, lt-ltb}
 use Rattle.fast_value.specs.contracts.scalar.ScalarPartialEq.TheImpl as scalar_eq
 use Rattle.fast_field.proofs.SpelledForms.{if_ok}
 use Rattle.fast_field.proofs.FieldsWithin.{values_within}
@@ -9,7 +9,7 @@ use Rattle.fast_field.proofs.StrictForms.{form_usually}
 
 all_characters : (s : List ℕ) → AllByRecursion (λ c. c < 128) s → are_characters s ≡ true
 all_characters [] h = refl
-all_characters (c ∷ s) h = let le = h.0 in let t : nat_lt c 128 ≡ true = grind (arith, nat_tests) in rw (t, all_characters s h.1) refl
+all_characters (c ∷ s) h = rw (lt-ltb c 128 h.0, all_characters s h.1) refl
 
 pub characters_there : (v : Scalar) → IsScalar v → has_characters v ≡ true
 characters_there (Ascii s) h = all_characters s h.1
@@ -21,16 +21,13 @@ few_units (Unicode s) h = h.0
 few_units (Bytes s) h = h.0
 few_units v h = omega arith
 
-not_more : (n : ℕ) → n ≤ 65535 → nat_lt 65535 n ≡ false
-not_more n h = grind (arith, nat_tests)
-
 few_elements : (z : ℤ) → int_le z (pos 65535) ≡ true → int_lt (pos 65535) z ≡ false
 few_elements (pos n) h = let le = h in grind (arith, nat_tests)
 few_elements (negsuc n) h = refl
 
 few_enough : (p : Part) (v : Scalar) → IsScalar v → IsTrue (within_part p v) → has_too_many p v ≡ false
 few_enough Part.Length v h w = few_elements (integer_of v) w
-few_enough p v h w = not_more (length (units_of v)) (few_units v h)
+few_enough p v h w = le-ltb 65535 (length (units_of v)) (few_units v h)
 
 near : (p : Part) (v : Scalar) → IsScalar v → IsTrue (within_part p v) → is_far p v ≡ false
 near Part.Exponent v h w = rw w refl
@@ -54,32 +51,25 @@ pub units_are : (k : Kind) (s : List ℕ) (v : Scalar) → IsOfUnits k s v → u
 units_are Kind.Unicode s v h = rw h.1 refl
 units_are k s v h = rw h (units_of-of_units k s)
 
-not_less : (m n : ℕ) → n ≤ m → nat_lt m n ≡ false
-not_less m n h = grind (arith, nat_tests)
-
 as_long : (base v : Scalar) → length (units_of base) ≤ length (units_of v) → tail_refusal (Ok base) v ≡ None
-as_long base v h = let t : nat_lt (length (units_of v)) (length (units_of base)) ≡ false = not_less (length (units_of v)) (length (units_of base)) h in rw t refl
+as_long base v h = let t : nat_lt (length (units_of v)) (length (units_of base)) ≡ false = le-ltb (length (units_of v)) (length (units_of base)) h in rw t refl
 
 pub ended_is_longer : (base tail : List ℕ) → length base ≤ length (ended_by base tail)
 ended_is_longer base tail = omega (arith, length-append (take (length base - length tail) base) tail, length-take (length base - length tail) base)
+
+no_absent : (f : FieldFault) (p : Presence) (v : Scalar) → absent_or f p ≡ Ok (Some v) → ⊥
+no_absent f Mandatory v h = cc
+no_absent f Optional v h = let w = ok_is {F = FieldFault} None (Some v) h in cc
 
 tail_same : (i : FieldPart) (e : Entry) (v : Scalar) → predicted i e ≡ Ok (Some v) → i.operator ≡ Operator.Tail → tail_refusal (tail_base i e) v ≡ None
 tail_same i Undefined v h o = first i.initial h
   where
     first : (x : Option Scalar) → initial_or FieldFault.D5 i x ≡ Ok (Some v) → tail_refusal (Ok (unwrap_or x (default_of i.kind))) v ≡ None
-    first None h = absent i.presence h
-      where
-        absent : (p : Presence) → absent_or FieldFault.D5 p ≡ Ok (Some v) → tail_refusal (Ok (default_of i.kind)) v ≡ None
-        absent Mandatory h = absurd cc
-        absent Optional h = absurd (let w = ok_is {F = FieldFault} None (Some v) h in cc)
+    first None h = absurd (no_absent FieldFault.D5 i.presence v h)
     first (Some w) h =
         let same : w ≡ v = ap (λ (x : Option Scalar). unwrap_or x v) (ok_is {F = FieldFault} (Some w) (Some v) h) in
         as_long w v (rw same (omega arith))
-tail_same i Empty v h o = absent i.presence h
-  where
-    absent : (p : Presence) → absent_or FieldFault.D6 p ≡ Ok (Some v) → tail_refusal (Ok (start_of i)) v ≡ None
-    absent Mandatory h = absurd cc
-    absent Optional h = absurd (let w = ok_is {F = FieldFault} None (Some v) h in cc)
+tail_same i Empty v h o = absurd (no_absent FieldFault.D6 i.presence v h)
 tail_same i (Assigned w) v h o =
     let t = if_ok (is_of i.kind w) (Some (repeated i.operator w)) (Some v) FieldFault.D4 h in
     let same : repeated i.operator w ≡ v = ap (λ (x : Option Scalar). unwrap_or x v) t.1 in

@@ -1,6 +1,7 @@
 -- A form at a level is one at the usual level; and a best form has no entity that is longer than it needs to be, so it is
 -- one at the strict level.
-use Rattle.fast_field.proofs.Common.{◌≡◌, ℕ, ◌≤◌, Bool, true, false, List, ◌++◌, length, refl, ap, arith, inl, inr, length-append, ℤ, pos, Option, Some, None, BeginsShort, AtLevel, overlong_signed, IsSigned, IsShortest, Level, Usual, Strict, Nullable, Null, Value, shortest_unsigned_begins, shortest_unsigned_nullable_begins, shortest_signed_begins, shortest_signed_nullable_begins, shortest_ascii_begins, shortest_ascii_nullable_begins, shortest_vector_begins, shortest_vector_nullable_begins, Kind, Operator, Presence, Mandatory, Optional, Scalar, FieldPart, Entry, is_unsigned, overlong_number, overlong_units, SpellsIntegerUsually, SpellsInteger, SpellsMantissa, SpellsPartUsually, SpellsPart, SpellsUnitsUsually, SpellsUnits, SpellsNumber, SpellsString, SpellsPair, SpellsDecimal, Spelled, Cut, SpellsCut, DeltaValue, DeltaForm, TailForm, FormOf, Form, NoLater, IsBest}
+use Rattle.fast_field.proofs.Common.{◌≡◌, ℕ, ◌≤◌, Bool, true, false, List, ◌++◌, length, refl, ap, arith, length-append, ℤ, pos, Option, Some, None, BeginsShort, AtLevel, overlong_signed, IsSigned, IsShortest, Level, Usual, Strict, Nullable, Null, Value, shortest_unsigned_begins, shortest_unsigned_nullable_begins, shortest_signed_begins, shortest_signed_nullable_begins, shortest_ascii_begins, shortest_ascii_nullable_begins, shortest_vector_begins, shortest_vector_nullable_begins, Kind, Operator, Presence, Mandatory, Optional, Scalar, FieldPart, Entry, is_unsigned, overlong_number, overlong_units, SpellsIntegerUsually, SpellsInteger, SpellsMantissa, SpellsPartUsually, SpellsPart, SpellsUnitsUsually, SpellsUnits, SpellsNumber, SpellsString, SpellsPair, SpellsDecimal, Spelled, Cut, SpellsCut, DeltaValue, DeltaForm, TailForm, FormOf, Form, IsBest}
+use Rattle.fast_field.proofs.BestForms.{size_le}
 
 -- ---- the shortest entities
 
@@ -161,17 +162,10 @@ module _ (from to : Level) where
 
 -- ---- a best form is one
 
-no_fewer : (bit : Bool) (c : Cut) (n m : ℕ) → NoLater bit n c bit m c → n ≤ m
-no_fewer bit c n m (inl lt) = absurd (omega (arith, lt))
-no_fewer bit c n m (inr h) = elim h.1 [
-  | inl lt ↦ omega (arith, lt)
-  | inr same ↦ let e = same.0 in omega arith
-]
-
 pub best_at_level : (level : Level) (i : FieldPart) (e : Entry) (bit : Bool) (b : List ℕ) (v : Option Scalar) → IsBest i e bit b v → Form level i e bit b v
 best_at_level level i e bit b v h =
     let f = h.form in
-    (h.cut, record { row = row Usual level i.operator i e bit h.cut b v f.row (λ s o g. no_fewer bit h.cut (length b) (length o) (h.first bit h.cut o (record { row = g; within = f.within }))); within = f.within })
+    (h.cut, record { row = row Usual level i.operator i e bit h.cut b v f.row (λ s o g. size_le bit bit (length b) (length o) h.cut h.cut refl (h.first bit h.cut o (record { row = g; within = f.within }))); within = f.within })
 
 -- and any form is one at the usual level
 pub form_usually : (level : Level) (i : FieldPart) (e : Entry) (bit : Bool) (b : List ℕ) (v : Option Scalar) → Form level i e bit b v → Form Usual i e bit b v

@@ -1,5 +1,5 @@
 -- What is spelled is a value within its type.
-use Rattle.fast_field.proofs.Common.{◌≡◌, ℕ, ◌<◌, ◌≤◌, Bool, true, false, List, [], ◌∷◌, ◌++◌, length, take, drop, zero, suc, refl, arith, ℤ, pos, negsuc, int_le, Option, Some, None, IsTrue, ◌&&◌, AllByRecursion, recursion_from_All, leb-true, Usual, Null, Value, ascii_sizes, ascii_nullable_sizes, is_of, is_integer, in_range, of_integer, IsScalar, Kind, Presence, Mandatory, Optional, Scalar, Ascii, Unicode, Bytes, is_unsigned, units_of, IsUnitKind, SpellsInteger, SpellsPart, SpellsUnits, IsOfUnits, SpelledNumber, SpelledString, SpelledDecimal, Spelled}
+use Rattle.fast_field.proofs.Common.{◌≡◌, ℕ, ◌<◌, ◌≤◌, Bool, true, false, List, [], ◌∷◌, ◌++◌, length, take, drop, zero, suc, refl, arith, ℤ, pos, negsuc, int_le, Option, Some, None, IsTrue, AllByRecursion, recursion_from_All, leb-true, Usual, Null, Value, ascii_sizes, ascii_nullable_sizes, is_of, is_integer, in_range, of_integer, IsScalar, Kind, Presence, Mandatory, Optional, Scalar, Ascii, Unicode, Bytes, is_unsigned, units_of, IsUnitKind, SpellsInteger, SpellsPart, SpellsUnits, IsOfUnits, SpelledNumber, SpelledString, SpelledDecimal, Spelled, and_parts}
 
 -- a value of a type, within it
 abbrev pub IsOfType : Kind → Scalar → Type 0
@@ -7,17 +7,12 @@ IsOfType k v = IsTrue (is_of k v) × IsScalar v
 
 -- ---- numbers
 
-pub both : (a b : Bool) → (a && b) ≡ true → (a ≡ true) × (b ≡ true)
-both true true e = (refl, refl)
-both true false e = absurd cc
-both false b e = absurd cc
-
 uint32 : (z : ℤ) → IsTrue (in_range Kind.UInt32 z) → IsOfType Kind.UInt32 (of_integer Kind.UInt32 z)
-uint32 (pos n) h = let w = both (int_le (pos 0) (pos n)) (int_le (pos n) (pos 4294967295)) h in (refl, omega (arith, leb-true n 4294967295 w.1))
+uint32 (pos n) h = let w = and_parts (int_le (pos 0) (pos n)) (int_le (pos n) (pos 4294967295)) h in (refl, omega (arith, leb-true n 4294967295 w.1))
 uint32 (negsuc n) h = absurd cc
 
 uint64 : (z : ℤ) → IsTrue (in_range Kind.UInt64 z) → IsOfType Kind.UInt64 (of_integer Kind.UInt64 z)
-uint64 (pos n) h = let w = both (int_le (pos 0) (pos n)) (int_le (pos n) (pos 18446744073709551615)) h in (refl, omega (arith, leb-true n 18446744073709551615 w.1))
+uint64 (pos n) h = let w = and_parts (int_le (pos 0) (pos n)) (int_le (pos n) (pos 18446744073709551615)) h in (refl, omega (arith, leb-true n 18446744073709551615 w.1))
 uint64 (negsuc n) h = absurd cc
 
 pub number_within : (k : Kind) (z : ℤ) → IsTrue (is_integer k) → IsTrue (in_range k z) → IsOfType k (of_integer k z)

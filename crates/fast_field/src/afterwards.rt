@@ -45,13 +45,10 @@ pub(crate) fn next_if_changed(
 {
     match instr.operator {
         Operator::Plain | Operator::Constant | Operator::Default => Ok(None),
-        Operator::Copy | Operator::Increment | Operator::Tail => match value {
+        Operator::Copy | Operator::Increment | Operator::Delta | Operator::Tail => match value {
+            Some(value) => Ok(Some(Entry::Assigned(value.copy(alloc)?))),
+            None if instr.operator == Operator::Delta => Ok(None),
             None => Ok(Some(Entry::Empty)),
-            Some(value) => Ok(Some(Entry::Assigned(value.copy(alloc)?))),
-        },
-        Operator::Delta => match value {
-            None => Ok(None),
-            Some(value) => Ok(Some(Entry::Assigned(value.copy(alloc)?))),
         },
     }
 }

@@ -135,14 +135,8 @@ pub(crate) fn base_of_tail<'a>(
         result (tail_base instr.now (entry_of kept.entry)) }
 {
     match kept {
-        EntryRef::Undefined | EntryRef::Empty => Ok(instr.initial()),
-        EntryRef::Assigned(value) => {
-            if is_of_kind(instr.kind, value) {
-                Ok(Some(value))
-            } else {
-                Err(FieldFault::D4)
-            }
-        }
+        EntryRef::Empty => Ok(instr.initial()),
+        EntryRef::Undefined | EntryRef::Assigned(_) => base_of_delta(instr, kept),
     }
 }
 

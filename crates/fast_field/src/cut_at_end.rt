@@ -28,11 +28,7 @@ pub fn agrees_no_further(base: &[u8], kept: usize, form: &[u8]) -> bool
     ensures { result ≡ true
         → IsLongestPrefix base.now (take kept base.now ++ groups form.now) kept }
 {
-    if kept < base.len() {
-        begins_otherwise(base, kept, form)
-    } else {
-        true
-    }
+    kept >= base.len() || begins_otherwise(base, kept, form)
 }
 
 /// Whether it ends otherwise than these do.
@@ -44,11 +40,7 @@ fn ends_otherwise(base: &[u8], kept: usize, form: &[u8]) -> bool
     ensures { result ≡ true
         → IsLongestSuffix base.now (take kept base.now ++ groups form.now) 0 }
 {
-    if base.is_empty() {
-        true
-    } else {
-        base[base.len() - 1] != form[form.len() - 1] % 128
-    }
+    base.is_empty() || base[base.len() - 1] != form[form.len() - 1] % 128
 }
 
 /// Whether a removal at the end, to so many units, takes no more bytes than one in front: no fewer are kept than a text
@@ -79,14 +71,7 @@ pub fn goes_on_otherwise(base: &[u8], kept: usize, part: &[u8]) -> bool
     ensures prefix { result ≡ true
         → IsLongestPrefix base.now (take kept base.now ++ part.now) kept }
 {
-    if part.is_empty() {
-        return false;
-    }
-    if kept < base.len() {
-        base[kept] != part[0]
-    } else {
-        true
-    }
+    !part.is_empty() && (kept >= base.len() || base[kept] != part[0])
 }
 
 /// Whether a base ends otherwise than bytes put behind so many units of it.
@@ -98,11 +83,7 @@ fn vector_ends_otherwise(base: &[u8], kept: usize, part: &[u8]) -> bool
     ensures { result ≡ true
         → IsLongestSuffix base.now (take kept base.now ++ part.now) 0 }
 {
-    if base.is_empty() {
-        true
-    } else {
-        base[base.len() - 1] != part[part.len() - 1]
-    }
+    base.is_empty() || base[base.len() - 1] != part[part.len() - 1]
 }
 
 /// As `is_cut_at_end`, of bytes that are the units themselves.

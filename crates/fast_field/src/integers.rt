@@ -134,12 +134,8 @@ fn set_u32(entry: &mut Entry, number: u32)
     ensures { entry.new ≡ entry_type.Assigned (scalar.U32 number) }
 {
     match entry {
-        Entry::Assigned(Scalar::U32(kept)) => {
-            *kept = number;
-        }
-        _ => {
-            *entry = Entry::Assigned(Scalar::U32(number));
-        }
+        Entry::Assigned(Scalar::U32(kept)) => *kept = number,
+        _ => *entry = Entry::Assigned(Scalar::U32(number)),
     }
 }
 
@@ -148,12 +144,8 @@ fn set_i32(entry: &mut Entry, number: i32)
     ensures { entry.new ≡ entry_type.Assigned (scalar.I32 number) }
 {
     match entry {
-        Entry::Assigned(Scalar::I32(kept)) => {
-            *kept = number;
-        }
-        _ => {
-            *entry = Entry::Assigned(Scalar::I32(number));
-        }
+        Entry::Assigned(Scalar::I32(kept)) => *kept = number,
+        _ => *entry = Entry::Assigned(Scalar::I32(number)),
     }
 }
 
@@ -162,12 +154,8 @@ fn set_u64(entry: &mut Entry, number: u64)
     ensures { entry.new ≡ entry_type.Assigned (scalar.U64 number) }
 {
     match entry {
-        Entry::Assigned(Scalar::U64(kept)) => {
-            *kept = number;
-        }
-        _ => {
-            *entry = Entry::Assigned(Scalar::U64(number));
-        }
+        Entry::Assigned(Scalar::U64(kept)) => *kept = number,
+        _ => *entry = Entry::Assigned(Scalar::U64(number)),
     }
 }
 
@@ -176,12 +164,8 @@ fn set_i64(entry: &mut Entry, number: i64)
     ensures { entry.new ≡ entry_type.Assigned (scalar.I64 number) }
 {
     match entry {
-        Entry::Assigned(Scalar::I64(kept)) => {
-            *kept = number;
-        }
-        _ => {
-            *entry = Entry::Assigned(Scalar::I64(number));
-        }
+        Entry::Assigned(Scalar::I64(kept)) => *kept = number,
+        _ => *entry = Entry::Assigned(Scalar::I64(number)),
     }
 }
 

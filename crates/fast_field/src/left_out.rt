@@ -24,17 +24,6 @@ fn are_same(value: Option<&Scalar>, other: Option<&Scalar>) -> bool
     }
 }
 
-/// Whether a field may be absent.
-#[inline(always)]
-fn may_be_absent(presence: Presence) -> bool
-    ensures { result ≡ is_optional presence }
-{
-    match presence {
-        Presence::Mandatory => false,
-        Presence::Optional => true,
-    }
-}
-
 /// Whether bit 0 of copy, increment and tail gives a value.
 #[inline(always)]
 fn is_predicted(instr: &FieldPart, kept: EntryRef, value: Option<&Scalar>) -> bool
@@ -55,9 +44,9 @@ pub(crate) fn is_left_out(instr: &FieldPart, kept: EntryRef, value: Option<&Scal
 {
     match instr.operator {
         Operator::Plain | Operator::Delta => false,
-        Operator::Constant => value.is_none() && may_be_absent(instr.presence),
+        Operator::Constant => value.is_none() && instr.presence == Presence::Optional,
         Operator::Default => match (instr.initial(), value) {
-            (None, None) => may_be_absent(instr.presence),
+            (None, None) => instr.presence == Presence::Optional,
             (initial, value) => are_same(initial, value),
         },
         Operator::Copy | Operator::Increment | Operator::Tail => is_predicted(instr, kept, value),

@@ -90,42 +90,10 @@ fn check_part(instr: &FieldPart, kept: EntryRef, found: &Found) -> Result<(), Fi
         return Ok(());
     };
     match instr.part {
-        Part::Whole | Part::Mantissa => Ok(()),
-        Part::Exponent => match exponent_within(integer(value)) {
-            Some(_) => Ok(()),
-            None => Err(FieldFault::R1),
-        },
-        Part::Length => {
-            if integer(value) <= LENGTH_LIMIT {
-                Ok(())
-            } else {
-                Err(FieldFault::Limit)
-            }
-        }
+        Part::Exponent if exponent_within(integer(value)).is_none() => Err(FieldFault::R1),
+        Part::Length if integer(value) > LENGTH_LIMIT => Err(FieldFault::Limit),
+        _ => Ok(()),
     }
-}
-
-/// The value that this bit and the bytes give.
-#[tactic(auto, using(crate::proofs::CallSteps::call_steps), unfolding(crate::specs::FieldReading::field_at))]
-#[inline(always)]
-fn read_checked(
-    alloc: Global,
-    instr: &FieldPart,
-    kept: EntryRef,
-    bit: bool,
-    level: Level,
-    bytes: &[u8],
-    at: usize,
-) -> Result<(Found, usize), FieldFault>
-    requires { at ≤ length bytes.now }
-    ensures place { IfOk result (λ x. (at ≤ x.1) × (x.1 ≤ length bytes.now)) }
-    ensures lies { IfOk result (λ x. CanLie (entry_of kept.entry) x.0) }
-    ensures gives { GivesAt OrRefused (field_at level instr.now (entry_of kept.entry) bit)
-        (value_found instr.now (entry_of kept.entry)) bytes.now at result }
-{
-    let (found, next) = read_row(alloc, instr, kept, bit, level, bytes, at)?;
-    check_part(instr, kept, &found)?;
-    Ok((found, next))
 }
 
 /// Reads a field that begins at `at`, and answers where its value lies and the place after it. The entry stays
@@ -135,6 +103,7 @@ fn read_checked(
 ///
 /// The first fault of the field on the bytes from `at` on. Memory: the copy of a string or a vector was
 /// refused, and no more bytes were needed.
+#[tactic(auto, using(crate::proofs::CallSteps::call_steps), unfolding(crate::specs::FieldReading::field_at))]
 #[inline(always)]
 pub fn find_field(
     alloc: Global,
@@ -155,7 +124,9 @@ pub fn find_field(
         → field_at level instr.now (entry_of kept.entry) bit (drop at bytes.now ++ more)
         ≡ Ok (value_found instr.now (entry_of kept.entry) x.0, drop x.1 bytes.now ++ more)) }
 {
-    read_checked(alloc, instr, kept, bit, level, bytes, at)
+    let (found, next) = read_row(alloc, instr, kept, bit, level, bytes, at)?;
+    check_part(instr, kept, &found)?;
+    Ok((found, next))
 }
 
 /// Reads a field that begins at `at`, makes its entry the one afterwards where it lies, and answers where the value

@@ -84,14 +84,8 @@ fn judge_constant(instr: &FieldPart, value: &Scalar) -> Result<(), FieldRefusal>
     ensures { Judges (constant_refusal instr.now.part instr.now.initial value.now) result }
 {
     match &instr.initial {
-        Some(constant) => {
-            if *value == *constant.value() {
-                Ok(())
-            } else {
-                Err(not_the_constant(instr.part))
-            }
-        }
-        None => Err(not_the_constant(instr.part)),
+        Some(constant) if *value == *constant.value() => Ok(()),
+        _ => Err(not_the_constant(instr.part)),
     }
 }
 
@@ -109,13 +103,8 @@ fn judge_tail(instr: &FieldPart, kept: EntryRef, value: &Scalar) -> Result<(), F
     ensures { Judges (tail_refusal (tail_base instr.now (entry_of kept.entry)) value.now) result }
 {
     match base_of_tail(instr, kept) {
-        Ok(base) => {
-            if units(value).len() < base_units(base).len() {
-                Err(FieldRefusal::TooShort)
-            } else {
-                Ok(())
-            }
-        }
+        Ok(base) if units(value).len() < base_units(base).len() => Err(FieldRefusal::TooShort),
+        Ok(_) => Ok(()),
         Err(fault) => Err(no_base(fault)),
     }
 }

@@ -145,13 +145,7 @@ pub(crate) fn judge_units(
                 }
                 Ok(())
             }
-            _ => {
-                let next = fast_wire::entity_end(bytes, at, 10)?;
-                if fast_wire::overlong_unsigned(&bytes[at..next]) {
-                    return Err(FieldFault::R6);
-                }
-                Ok(())
-            }
+            _ => judge_number(level, true, bytes, at),
         },
     }
 }

@@ -4,7 +4,7 @@ pub use Rattle.std.proofs.Math.ListN.{set}
 pub use Rattle.std.proofs.Math.Logic.{◌↔◌}
 pub use Rattle.std.proofs.Math.Nat.{mul-le-mul_right, pow-le-pow_right, pow-suc}
 pub use Rattle.std.proofs.Math.Seq.{take-append_seam, take-nil}
-pub use Rattle.std.proofs.lemmas.Bool.{cases_lt, eq-eqb, eqb-true}
+pub use Rattle.std.proofs.lemmas.Bool.{cases_lt, eq-eqb, eqb-true, le-leb, le-ltb, lt-ltb, or_parts}
 pub use Rattle.std.proofs.lemmas.Bool.Decides.{nat_tests}
 pub use Rattle.std.proofs.lemmas.Int.{ints, to_z-of_z}
 pub use Rattle.std.proofs.lemmas.List.{drop-map, drop-take, drop_more, get_or_default, get_or_past, length-map, length-set, length-take-le, take-append-drop, take_all, take_rest}
@@ -64,7 +64,7 @@ pub use Rattle.fast_field.proofs.BestDeltas.{IsFirst}
 pub use Rattle.fast_field.proofs.BestForms.{bit_zero_is_best}
 pub use Rattle.fast_field.proofs.BestTails.{longer_tail, shortest_is_best, tail_is_first}
 pub use Rattle.fast_field.proofs.BestValues.{best_under_one, constant_is_first, delta_is_first, left_out, tail_form_is_first, whole_is_first}
-pub use Rattle.fast_field.proofs.ChosenForms.{null_best, number_value, string_value, whole_shortest}
+pub use Rattle.fast_field.proofs.ChosenForms.{null_best, number_value, string_value}
 pub use Rattle.fast_field.proofs.CutsAtEnd.{few_shared}
 pub use Rattle.fast_field.proofs.FieldForms.{checked_is, field_forms}
 pub use Rattle.fast_field.proofs.FieldsBehave.{field_goes}
@@ -73,7 +73,7 @@ pub use Rattle.fast_field.proofs.Passing.{increased_is, initial_passes, kind_is,
 pub use Rattle.fast_field.proofs.PutTogether.{last_cleared}
 pub use Rattle.fast_field.proofs.ReadFields.{bytes_from, found_here}
 pub use Rattle.fast_field.proofs.Refused.{few_units}
-pub use Rattle.fast_field.proofs.Shortest.{units_form, units_is}
+pub use Rattle.fast_field.proofs.Shortest.{units_form, units_is, whole_shortest}
 pub use Rattle.fast_field.proofs.SpelledForms.{integer_forms}
 pub use Rattle.fast_field.proofs.StandingForms.{string_is_shortest}
 pub use Rattle.fast_field.proofs.ValuesWithin.{IsOfType, all_append, all_take, part_within, string_within, unit_limit, units_of_string}
@@ -92,7 +92,7 @@ pub use Rattle.fast_field.specs.Values.{IsUnitKind, default_of, integer_of, is_u
 pub use Rattle.fast_field.specs.declared.fault.FieldFault.{FieldFault}
 pub use Rattle.fast_relay.specs.Best.{HasBest}
 pub use Rattle.fast_relay.specs.Judged.{Adds, EndGives, IfFound, JudgedTo, JudgesFrom, Leaves, LeavesWhole, NumberGives, PairGives, PairStandsFrom, StandsAt, StandsFrom, TextGives, UnitsGive, UnitsStandFrom, sent_unsigned, under, zero_byte}
-pub use Rattle.fast_relay.specs.Kept.{TakesKept, keeps_value}
+pub use Rattle.fast_relay.specs.Kept.{TakesKept, TakesText, keeps_value}
 pub use Rattle.fast_relay.specs.Numbers.{KeepsNothing, SpellsWhole, Spelt}
 pub use Rattle.fast_relay.specs.OneByte.{RelaysByte}
 pub use Rattle.fast_relay.specs.Relayed.{Judges, Takes}

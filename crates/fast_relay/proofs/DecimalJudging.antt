@@ -29,9 +29,9 @@ decimal_gives bit i old new x m k p o near fits l = λ bytes at first next s.
           (whole_first i.operator i old (Some v) form o (whole_shortest i.kind i.presence v form (of_type i.kind x m k near fits) (pair_shortest i.presence bytes at first next x m s))),
     )
 
-assigned_adds : (i : FieldPart) (new : Entry) (x m dx dm : ℤ) → i.kind ≡ Kind.Decimal → i.operator ≡ Operator.Delta → i.part ≡ Part.Whole → exponent_in_range (x +ℤ dx) ≡ true → in_range Kind.Int64 (m +ℤ dm) ≡ true → new ≡ Assigned (Decimal (x +ℤ dx) (m +ℤ dm))
-    → PairGives true i (Assigned (Decimal x m)) new dx dm
-assigned_adds i new x m dx dm k o p near fits entry = λ bytes at first next s.
+pub decimal_adds : (i : FieldPart) (old new : Entry) (x m dx dm : ℤ) → old ≡ Assigned (Decimal x m) → i.kind ≡ Kind.Decimal → i.operator ≡ Operator.Delta → i.part ≡ Part.Whole → exponent_in_range (x +ℤ dx) ≡ true → in_range Kind.Int64 (m +ℤ dm) ≡ true
+    → new ≡ Assigned (Decimal (x +ℤ dx) (m +ℤ dm)) → PairGives true i old new dx dm
+decimal_adds i was new x m dx dm is k o p near fits entry = rw is (λ bytes at first next s.
     let old = Assigned (Decimal x m) in
     let v = Decimal (x +ℤ dx) (m +ℤ dm) in
     let form = slice_range bytes first next in
@@ -41,8 +41,4 @@ assigned_adds i new x m dx dm k o p near fits entry = λ bytes at first next s.
       v,
       judges true i old new v (drop at bytes) (drop next bytes) form (rw k refl) within (takes i old new v (drop at bytes) (drop next bytes) within row (entry ∙ sym last)) (delta_out i old (Some v) o)
           (subst (λ (o : Operator). IsFirst (λ c b. FormOf Usual o i old true c b (Some v)) form) (sym o) (delta_first i x m dx dm form k near fits (pair_shortest i.presence bytes at first next dx dm s))),
-    )
-
-pub decimal_adds : (i : FieldPart) (old new : Entry) (x m dx dm : ℤ) → old ≡ Assigned (Decimal x m) → i.kind ≡ Kind.Decimal → i.operator ≡ Operator.Delta → i.part ≡ Part.Whole → exponent_in_range (x +ℤ dx) ≡ true → in_range Kind.Int64 (m +ℤ dm) ≡ true
-    → new ≡ Assigned (Decimal (x +ℤ dx) (m +ℤ dm)) → PairGives true i old new dx dm
-decimal_adds i old new x m dx dm is k o p near fits entry = subst (λ (e : Entry). PairGives true i e new dx dm) (sym is) (assigned_adds i new x m dx dm k o p near fits entry)
+    ))

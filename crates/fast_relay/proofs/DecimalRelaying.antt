@@ -1,22 +1,13 @@
 -- What decimals that are read at once rest on.
-use Rattle.fast_relay.proofs.Common.{◌≡◌, ℕ, true, false, List, Result, Ok, Err, refl, sym, ap, subst, ◌∙◌, ℤ, ◌+ℤ◌, ◌-ℤ◌, Some, Usual, ◌>>=◌, signed_at, Nullable, Null, Value, exponent_in_range, in_range, Kind, Operator, Part, Presence, Mandatory, FieldPart, Scalar, Decimal, Entry, Assigned, ShortestPair, ShortestWhole, DeltaForm, decimal_delta_at, decimal_spelled_at, decimal_value, delta_at, in_field, integer_at, mantissa_behind, mantissa_delta_behind, spelled_at, whole_at, FormOf, FieldFault, IsFirst, delta_is_first, whole_is_first, IsOfType, SpellsWhole, Spelt, is_of}
-use Rattle.fast_field.proofs.ChosenForms.{decimal_value as decimal_is_first, whole_shortest}
+use Rattle.fast_relay.proofs.Common.{◌≡◌, ℕ, true, false, List, Ok, refl, sym, subst, ◌∙◌, ℤ, ◌+ℤ◌, ◌-ℤ◌, Some, Usual, signed_at, Value, exponent_in_range, in_range, Kind, Part, Presence, Mandatory, FieldPart, Decimal, Entry, Assigned, ShortestPair, DeltaForm, decimal_delta_at, decimal_spelled_at, decimal_value, delta_at, in_field, integer_at, mantissa_behind, mantissa_delta_behind, spelled_at, whole_at, IsFirst, delta_is_first, IsOfType, Spelt, is_of}
+use Rattle.fast_field.proofs.ChosenForms.{decimal_value as decimal_is_first}
+use Rattle.fast_field.proofs.FieldLaws.{made_back}
 use Rattle.fast_relay.proofs.Taking.{added_back, base_is}
 
 -- a number that is spelled is read
-not_null : Result (Nullable ℤ × List ℕ) FieldFault → Result (ℤ × List ℕ) FieldFault
-not_null (Ok (Value z, rest)) = Ok (z, rest)
-not_null (Ok (Null, rest)) = Err FieldFault.R1
-not_null (Err f) = Err f
-
-stays : (r : Result (ℤ × List ℕ) FieldFault) → not_null (r >>= λ x. Ok (Value x.0, x.1)) ≡ r
-unfolding not_null
-stays (Ok (z, rest)) = refl
-stays (Err f) = refl
-
 signed_read : (bytes rest : List ℕ) (z : ℤ) → Spelt false Mandatory bytes z rest → in_field (signed_at bytes) ≡ Ok (z, rest)
-unfolding integer_at not_null
-signed_read bytes rest z h = sym (stays (in_field (signed_at bytes))) ∙ ap not_null h
+unfolding integer_at
+signed_read bytes rest z h = made_back (in_field (signed_at bytes)) (λ z. Value z) z rest (λ x e. cc) h
 
 pub delta_as : (k : Kind) (i : FieldPart) (e : Entry) (bytes : List ℕ) → k ≡ Kind.Decimal → delta_at Usual k i e bytes ≡ decimal_delta_at Usual i e bytes
 unfolding delta_at

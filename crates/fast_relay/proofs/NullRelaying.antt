@@ -1,13 +1,10 @@
 -- NULL, read and judged at once.
-use Rattle.fast_relay.proofs.Common.{◌≡◌, ℕ, Bool, true, false, List, [], ◌∷◌, ◌++◌, Ok, refl, sym, ◌∙◌, arith, None, Usual, IsUnsignedNullable, IsShortest, Null, entity_some, Operator, Optional, FieldPart, Entry, IsBest, field_at, row_at, whole_at, left_out_of, null_best, field_forms, bit_zero_is_best, left_out, SpellsWhole, Judges, Leaves, under, ◌+◌, ◌<◌, length, get_or, drop, ap, drop_more, HasBest}
+use Rattle.fast_relay.proofs.Common.{◌≡◌, ℕ, Bool, true, false, List, [], ◌∷◌, ◌++◌, Ok, refl, sym, ◌∙◌, arith, None, Usual, IsUnsignedNullable, IsShortest, Null, entity_some, Operator, Optional, FieldPart, Entry, IsBest, field_at, row_at, whole_at, left_out_of, null_best, field_forms, bit_zero_is_best, left_out, SpellsWhole, Judges, Leaves, under, ◌+◌, ◌<◌, length, get_or, drop, ap, drop_more, HasBest, ◌≤◌, slice_range}
+use Rattle.fast_field.proofs.BestValues.{unsigned_null}
 use Rattle.fast_relay.proofs.Taking.{whole_row}
-use Rattle.fast_relay.proofs.Ranges.{byte_range, range_none}
-
-null_form : IsUnsignedNullable (128 ∷ []) Null
-null_form = record { entity = (omega arith, omega arith); short = omega arith; value = refl }
 
 null_shortest : IsShortest IsUnsignedNullable (128 ∷ []) Null
-null_shortest = record { form = null_form; least = λ other h. entity_some other h.entity }
+null_shortest = record { form = unsigned_null; least = λ other h. entity_some other h.entity }
 
 best : (i : FieldPart) (e : Entry) (b : List ℕ) → i.presence ≡ Optional → left_out_of i.operator i e None ≡ false → IsShortest IsUnsignedNullable b Null → IsBest i e true b None
 best i e b optional out s = null_best i e None refl (rw optional refl) out b s
@@ -54,24 +51,13 @@ pub null_byte : (bytes : List ℕ) (at : ℕ) → at < length bytes → drop at 
 unfolding first_of
 null_byte bytes at there h = ap first_of (sym (drop_more bytes at 0 there) ∙ h)
 
-pub null_stands : (i : FieldPart) (old new : Entry) (bytes : List ℕ) (at : ℕ) → at < length bytes → drop at bytes ≡ 128 ∷ drop (at + 1) bytes → i.presence ≡ Optional → Leaves true i old new None
-    → HasBest i old new bytes at (record { there = false; bit = true; removal = None; first = at; next = at + 1 })
-null_stands i old new bytes at there null optional l = record {
+pub null_judged : (bit : Bool) (i : FieldPart) (old new : Entry) (bytes : List ℕ) (at first : ℕ) → at < length bytes → drop at bytes ≡ 128 ∷ drop (at + 1) bytes → i.presence ≡ Optional → (bit ≡ false → SpellsWhole i.operator) → Leaves bit i old new None
+    → first ≤ at + 1 → slice_range bytes first (at + 1) ≡ under bit (128 ∷ []) → HasBest i old new bytes at (record { there = false; bit = bit; removal = None; first = first; next = at + 1 })
+null_judged bit i old new bytes at first there null optional whole l le sent = record {
   place = omega arith;
-  first = omega arith;
+  first = le;
   within = omega (arith, there);
   value = None;
   is_there = refl;
-  judges = rw (byte_range bytes at there, null_byte bytes at there null, null) (null_judges true i old new (drop (at + 1) bytes) optional (λ none. absurd cc) l);
-}
-
-pub null_given : (i : FieldPart) (e : Entry) (bytes : List ℕ) (at : ℕ) → at < length bytes → drop at bytes ≡ 128 ∷ drop (at + 1) bytes → i.presence ≡ Optional → SpellsWhole i.operator → Leaves false i e e None
-    → HasBest i e e bytes at (record { there = false; bit = false; removal = None; first = at + 1; next = at + 1 })
-null_given i e bytes at there null optional whole l = record {
-  place = omega arith;
-  first = omega arith;
-  within = omega (arith, there);
-  value = None;
-  is_there = refl;
-  judges = rw (range_none bytes (at + 1), null) (null_judges false i e e (drop (at + 1) bytes) optional (λ none. whole) l);
+  judges = rw (sent, null) (null_judges bit i old new (drop (at + 1) bytes) optional whole l);
 }

@@ -1,7 +1,7 @@
 -- Numbers in one byte, which is their shortest form.
-use Rattle.fast_relay.proofs.Common.{◌≡◌, ℕ, pos, suc, ◌+◌, ◌-◌, ◌%◌, ◌<◌, ◌≤◌, Bool, true, false, nat_le, List, ◌∷◌, [], length, drop, slice_range, get_or, refl, subst, arith, length-take, length-drop, nat_tests, one_byte, short_given, short_nullable_given, short_signed_given, short_signed_nullable_given, Presence, Mandatory, Optional, integer_at, overlong_number, bytes_from, StandsAt, zero_byte, Spelt}
+use Rattle.fast_relay.proofs.Common.{◌≡◌, ℕ, pos, suc, ◌+◌, ◌%◌, ◌<◌, ◌≤◌, Bool, true, false, nat_le, List, length, drop, slice_range, get_or, refl, arith, nat_tests, one_byte, short_given, short_nullable_given, short_signed_given, short_signed_nullable_given, Presence, Mandatory, Optional, integer_at, overlong_number, bytes_from, StandsAt, zero_byte, Spelt}
 use Rattle.fast_relay.proofs.Judging.{stands_at}
-use Rattle.fast_relay.proofs.Standing.{one_byte as alone}
+use Rattle.fast_relay.proofs.Ranges.{byte_range}
 
 no_sign : (x : ℕ) → x < 64 → nat_le 64 x ≡ false
 no_sign x less = grind (arith, nat_tests)
@@ -26,10 +26,8 @@ module _ (bytes : List ℕ) (at n : ℕ) (fits : (k : ℕ) → get_or bytes k 0 
       rw (short_nullable_given bytes at (suc n) (at + 1) (one_byte bytes at (suc n) fits there (omega arith) (omega arith))) refl
 
   single : (u : Bool) → overlong_number u (slice_range bytes at (at + 1)) ≡ false
-  single u =
-      let long : length (slice_range bytes at (at + 1)) ≡ 1 = omega (arith, length-take (at + 1 - at) (drop at bytes), length-drop at bytes) in
-      let none : (x : ℕ) → overlong_number u (x ∷ []) ≡ false = λ x. elim u as (λ v. overlong_number v (x ∷ []) ≡ false) [ true ↦ refl | false ↦ refl ] in
-      subst (λ xs. overlong_number u xs ≡ false) (alone (slice_range bytes at (at + 1)) long) (none _)
+  single true = rw (byte_range bytes at there) refl
+  single false = rw (byte_range bytes at there) refl
 
   pub signed_stands : (p : Presence) → n < 63 → get_or bytes at 0 ≡ zero_byte p + n → StandsAt false p bytes at (at + 1) (pos n)
   signed_stands p few is =

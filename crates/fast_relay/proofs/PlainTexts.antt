@@ -1,13 +1,22 @@
 -- Strings that stand in their shortest form, read and judged at once.
-use Rattle.fast_relay.proofs.Common.{rules, ◌≡◌, ◌≤◌, ◌<◌, ◌+◌, ◌-◌, ◌%◌, true, false, List, ℕ, ◌++◌, Ok, length, take, drop, get_or, zero, suc, [], ◌∷◌, refl, sym, ap, subst, ◌∙◌, arith, length-append, length-drop, append_assoc, slice_range, drop-drop, Some, ℤ, pos, negsuc, nat_le, nat_lt, nat_tests, drop-map, drop-take, length-map, length-take-le, take-append-drop, AllByRecursion, Usual, IsEntity, groups, IsPlain, ascii_at, ascii_nullable_at, ascii_forms, ascii_nullable_forms, Value, Kind, Operator, Part, Presence, Mandatory, Optional, FieldPart, Ascii, Entry, Assigned, magnitude, sent_signed, groups_from, signed_nullable_size, signed_size, groups_from-positive, entity_some, delta_base, next, IsBestCut, IsBestTail, ShortestPart, ShortestSigned, ShortestUnits, length_size, part_size, tail_size, IsLongestPrefix, SharesEnd, ended_value, limited_value, new_part_behind, part_at, tail_at, unit_delta_at, unit_value, units_at, units_spelled_at, SpellsWhole, Spelt, is_same, left_out_of, GivesCut, GivesTail, IsText, best_at_end, shortest_is_best, units_is, all_append, all_take, part_within, string_within, unit_limit, units_of_string, Bool, IsTrue, is_of, Leaves, under, Judges}
-use Rattle.std.proofs.Math.Seq.{drop-append_seam, take-add}
+use Rattle.fast_relay.proofs.Common.{◌≡◌, ◌≤◌, ◌<◌, ◌+◌, ◌-◌, ◌%◌, true, false, List, ℕ, ◌++◌, Ok, length, take, drop, get_or, zero, suc, [], ◌∷◌, refl, sym, ap, subst, ◌∙◌, arith, length-append, length-drop, append_assoc, slice_range, drop-drop, Some, ℤ, pos, negsuc, drop-map, drop-take, length-map, length-take-le, take-append-drop, AllByRecursion, Usual, IsEntity, groups, IsPlain, ascii_at, ascii_nullable_at, ascii_forms, ascii_nullable_forms, Value, Kind, Operator, Part, Presence, Mandatory, Optional, FieldPart, Ascii, Entry, Assigned, magnitude, sent_signed, groups_from, signed_nullable_size, signed_size, groups_from-positive, entity_some, next, IsBestCut, IsBestTail, ShortestPart, ShortestSigned, ShortestUnits, length_size, part_size, tail_size, IsLongestPrefix, SharesEnd, limited_value, part_at, tail_at, unit_delta_at, unit_value, units_at, units_spelled_at, SpellsWhole, Spelt, GivesCut, GivesTail, IsText, best_at_end, units_is, all_append, all_take, part_within, Bool, IsTrue, is_of, Leaves, under, Judges, le-ltb, lt-ltb}
+use Rattle.std.proofs.Math.Seq.{take-add}
+use Rattle.std.proofs.lemmas.List.{drop_at}
 use Rattle.fast_wire.specs.Ascii.{IsAscii, IsAsciiNullable, SpellsAscii, SpellsAsciiNullable}
-use Rattle.fast_relay.proofs.TextRelaying.{tail_base_is, tail_judges, text_delta_judges, text_judges}
+use Rattle.fast_relay.proofs.TextRelaying.{delta_made, end_best, other_end, tail_base_is, tail_made, tail_judges, text_delta_judges, text_judges}
 
 units_plain : (p : Presence) (bytes form rest : List ℕ) → IsPlain bytes form rest → units_at Usual Kind.Ascii p bytes ≡ Ok (Value (groups form), rest)
 unfolding units_at part_at
 units_plain Mandatory bytes form rest h = rw h.read refl
 units_plain Optional bytes form rest h = rw h.read_nullable refl
+
+part_plain : (bytes form rest : List ℕ) → IsPlain bytes form rest → part_at Usual Kind.Ascii bytes ≡ Ok (groups form, rest)
+unfolding part_at
+part_plain bytes form rest h = rw h.read refl
+
+few_plain : (s : List ℕ) → length s ≤ 65535 → limited_value Kind.Ascii s ≡ Ok (Ascii s)
+unfolding limited_value unit_value
+few_plain s few = rw (le-ltb 65535 (length s) few) refl
 
 pub spelled_plain : (p : Presence) (bytes form rest : List ℕ) → IsPlain bytes form rest → units_spelled_at Usual Kind.Ascii p bytes ≡ Ok (Some (Ascii (groups form)), rest)
 unfolding units_spelled_at unit_value
@@ -19,8 +28,7 @@ shortest_plain Optional bytes form rest h = h.shortest_nullable
 
 pub text_plain : (bytes form rest : List ℕ) → IsPlain bytes form rest → IsText Kind.Ascii (Ascii (groups form))
 text_plain bytes form rest h =
-    let w = string_within Kind.Ascii (groups form) (Ascii (groups form)) tt refl (part_within Kind.Ascii form (groups form) h.shortest.form) in
-    record { of_units = tt; of_kind = w.0; within = w.1 }
+    record { of_units = tt; of_kind = refl; within = part_within Kind.Ascii form (groups form) h.shortest.form }
 
 pub plain_judges : (bit : Bool) (i : FieldPart) (old new : Entry) (bytes form rest : List ℕ) → i.kind ≡ Kind.Ascii → i.part ≡ Part.Whole → SpellsWhole i.operator → IsPlain bytes form rest → Leaves bit i old new (Some (Ascii (groups form)))
     → IsTrue (is_of i.kind (Ascii (groups form))) × Judges bit (under bit form) i old new (Some (Ascii (groups form))) bytes rest
@@ -63,27 +71,15 @@ behind_zero bytes form rest parts h =
 
 -- ---- deltas that remove few characters at the end
 
-pub le_true : (m n : ℕ) → m ≤ n → nat_le m n ≡ true
-le_true m n h = grind (arith, nat_tests)
-
-lt_true : (m n : ℕ) → m < n → nat_lt m n ≡ true
-lt_true m n h = grind (arith, nat_tests)
-
-pub lt_false : (m n : ℕ) → n ≤ m → nat_lt m n ≡ false
-lt_false m n h = grind (arith, nat_tests)
-
 small_size : (p : Presence) (r : ℕ) → r < 63 → length_size p (pos r) ≡ 1
 unfolding signed_size signed_nullable_size groups_from
-small_size Mandatory r h = rw (lt_true r 64 (omega arith)) refl
-small_size Optional r h = rw (lt_true (r + 1) 64 (omega arith)) refl
+small_size Mandatory r h = rw (lt-ltb r 64 (omega arith)) refl
+small_size Optional r h = rw (lt-ltb (r + 1) 64 (omega arith)) refl
 
 some_size : (p : Presence) (z : ℤ) → 1 ≤ length_size p z
 unfolding signed_size signed_nullable_size
 some_size Mandatory z = groups_from-positive 9 64 (magnitude z)
 some_size Optional z = groups_from-positive 9 64 (magnitude (sent_signed (Value z)))
-
-pub behind_kept : (base part : List ℕ) (n : ℕ) → n ≤ length base → drop n (take n base ++ part) ≡ part
-behind_kept base part n h = let long = length-take-le n base h in subst (λ m. drop m (take n base ++ part) ≡ part) long (drop-append_seam (take n base) part)
 
 no_less : (p : Presence) (s : List ℕ) → length s ≤ tail_size Kind.Ascii p s
 no_less Mandatory [] = omega arith
@@ -105,7 +101,7 @@ best_removal k p base part r n few le is prefix shared least =
     let m = shared.0 in
     let h : n ≤ length base = omega (arith, is) in
     let removed : length base - n ≡ r = omega (arith, is, le) in
-    let behind = behind_kept base part n h in
+    let behind = drop_at (take n base) part n (length-take-le n base h) in
     let front = take (length v - m) v in
     let long : length front ≡ length v - m = length-take-le (length v - m) v (omega arith) in
     let less : part_size k (drop n v) ≤ part_size k front = rw behind (least front (omega (arith, long, length-append (take n base) part, length-take-le n base h, shared.2))) in
@@ -113,32 +109,23 @@ best_removal k p base part r n few le is prefix shared least =
     let best = best_at_end k p base v n m prefix shared.1 (omega (arith, one, less, some_size p (negsuc (length base - m)))) in
     rw (removed, behind) at best
 
-delta_base_is : (i : FieldPart) (base : List ℕ) → i.kind ≡ Kind.Ascii → delta_base i (Assigned (Ascii base)) ≡ Ok (Ascii base)
-delta_base_is i base k = rw k refl
-
-new_part_read : (base : List ℕ) (r : ℕ) (middle form rest : List ℕ) → r ≤ length base → IsPlain middle form rest → length (take (length base - r) base ++ groups form) ≤ 65535
-    → new_part_behind Usual Kind.Ascii (pos r) base middle ≡ Ok (Some (Ascii (take (length base - r) base ++ groups form)), rest)
-unfolding new_part_behind part_at limited_value unit_value
-new_part_read base r middle form rest le h few = rw (le_true r (length base) le, h.read, lt_false 65535 (length (take (length base - r) base ++ groups form)) few) refl
-
-delta_read_plain : (i : FieldPart) (base : List ℕ) (r : ℕ) (bytes middle form rest : List ℕ) → i.kind ≡ Kind.Ascii → r < 63 → r ≤ length base → Spelt false i.presence bytes (pos r) middle → IsPlain middle form rest → length (take (length base - r) base ++ groups form) ≤ 65535
-    → unit_delta_at Usual i (Assigned (Ascii base)) bytes ≡ Ok (Some (Ascii (take (length base - r) base ++ groups form)), rest)
-unfolding unit_delta_at
-delta_read_plain i base r bytes middle form rest k small le removal h few =
-    rw (removal, le_true r 2147483647 (omega (arith, small)), delta_base_is i base k, k) (new_part_read base r middle form rest le h few)
-
 text_together : (base form : List ℕ) (n : ℕ) → IsText Kind.Ascii (Ascii base) → IsText Kind.Ascii (Ascii (groups form)) → length (take n base ++ groups form) ≤ 65535 → IsText Kind.Ascii (Ascii (take n base ++ groups form))
-text_together base form n b f few =
-    let us = units_of_string Kind.Ascii (Ascii base) tt (b.of_kind, b.within) in
-    let uf = units_of_string Kind.Ascii (Ascii (groups form)) tt (f.of_kind, f.within) in
-    let w = string_within Kind.Ascii (take n base ++ groups form) (Ascii (take n base ++ groups form)) tt refl (few, all_append (λ x. x < unit_limit Kind.Ascii) (take n base) (groups form) (all_take (λ x. x < unit_limit Kind.Ascii) n base us.1) uf.1) in
-    record { of_units = tt; of_kind = w.0; within = w.1 }
+text_together base form n b f few = record { of_units = tt; of_kind = refl; within = (few, all_append (λ c. c < 128) (take n base) (groups form) (all_take (λ c. c < 128) n base b.within.1) f.within.1) }
 
 pub cut_read : (i : FieldPart) (base : List ℕ) (r : ℕ) (bytes middle form rest : List ℕ) → i.kind ≡ Kind.Ascii → r < 63 → r ≤ length base → Spelt false i.presence bytes (pos r) middle → IsPlain middle form rest → (length base - r) + length form ≤ 65535 → GivesCut i base bytes r form rest
 cut_read i base r bytes middle form rest k few le removal h short =
     let long : length (take (length base - r) base ++ groups form) ≤ 65535 =
     omega (arith, short, length-append (take (length base - r) base) (groups form), length-take-le (length base - r) base (omega arith), length-map form (λ b. b % 128)) in
-    record { behind = middle; plain = h; few = few; within = le; short = short; read = delta_read_plain i base r bytes middle form rest k few le removal h long }
+    record { behind = middle; plain = h; few = few; within = le; short = short; read = delta_made i (Ascii base) (Ascii (take (length base - r) base ++ groups form)) r (groups form) bytes middle rest (rw k refl) few le removal (rw k (part_plain middle form rest h)) (rw k (few_plain _ long)) }
+
+pub slice_length : (xs : List ℕ) (a b : ℕ) → a ≤ b → b ≤ length xs → length (slice_range xs a b) ≡ b - a
+slice_length xs a b h k = length-take-le (b - a) (drop a xs) (omega (arith, h, k, length-drop a xs))
+
+-- the same of characters that stand between two places
+pub cut_found : (i : FieldPart) (base b bytes : List ℕ) (r middle first next : ℕ) → i.kind ≡ Kind.Ascii → r < 63 → r ≤ length base → Spelt false i.presence b (pos r) (drop middle bytes) → IsPlain (drop middle bytes) (slice_range bytes first next) (drop next bytes) → first ≤ next → next ≤ length bytes
+    → (length base - r) + (next - first) ≤ 65535 → GivesCut i base b r (slice_range bytes first next) (drop next bytes)
+cut_found i base b bytes r middle first next k few le removal h before within short =
+    cut_read i base r b (drop middle bytes) (slice_range bytes first next) (drop next bytes) k few le removal h (omega (arith, slice_length bytes first next before within, short))
 
 -- the first characters of a text and of a form, where each is the same
 pub agree : (text form : List ℕ) (m : ℕ) → m ≤ length text → m ≤ length form → ((j : ℕ) → j < m → get_or text j 0 ≡ get_or form j 0 % 128) → take m text ≡ take m (groups form)
@@ -153,9 +140,6 @@ kept_more base form n m same =
     sym (take-append-drop m (groups form)) ∙ ap (λ (x : List ℕ). x ++ drop m (groups form)) (sym same) ∙ ap (λ (x : List ℕ). take m (drop n base) ++ x) (drop-map (λ b. b % 128) m form) in
     let whole : take (n + m) base ≡ take n base ++ take m (drop n base) = take-add n m base in
     ap (λ (x : List ℕ). take n base ++ x) parts ∙ sym (append_assoc (take n base) (take m (drop n base)) (groups (drop m form))) ∙ ap (λ (x : List ℕ). x ++ groups (drop m form)) (sym whole)
-
-pub slice_length : (xs : List ℕ) (a b : ℕ) → a ≤ b → b ≤ length xs → length (slice_range xs a b) ≡ b - a
-slice_length xs a b h k = length-take-le (b - a) (drop a xs) (omega (arith, h, k, length-drop a xs))
 
 slice_drop : (xs : List ℕ) (a b m : ℕ) → a + m ≤ b → drop m (slice_range xs a b) ≡ slice_range xs (a + m) b
 slice_drop xs a b m h =
@@ -197,30 +181,17 @@ plain_delta_judges i base r n bytes form rest front k whole o text is cut prefix
     (record { front = front; back = form; parts = refl; first = s; second = subst (λ (k : Kind). ShortestPart k (groups form) form) (sym k) h.shortest })
 
 pub characters_text : (s : List ℕ) → (length s ≤ 65535) × AllByRecursion (λ c. c < 128) s → IsText Kind.Ascii (Ascii s)
-characters_text s h = let w = string_within Kind.Ascii s (Ascii s) tt refl h in record { of_units = tt; of_kind = w.0; within = w.1 }
+characters_text s h = record { of_units = tt; of_kind = refl; within = h }
 
 -- ---- tails
-
-not_same : (s t : List ℕ) → (s ≡ t → ⊥) → is_same (Some (Ascii s)) (Some (Ascii t)) ≡ false
-not_same s t differ = search rules
-
-tail_read_plain : (i : FieldPart) (base : List ℕ) (bytes form rest : List ℕ) → i.kind ≡ Kind.Ascii → IsPlain bytes form rest → length (take (length base - length (groups form)) base ++ groups form) ≤ 65535
-    → tail_at Usual i (Assigned (Ascii base)) bytes ≡ Ok (Some (Ascii (take (length base - length (groups form)) base ++ groups form)), rest)
-unfolding tail_at ended_value limited_value unit_value
-tail_read_plain i base bytes form rest k h few = rw (k, units_plain i.presence bytes form rest h, lt_false 65535 (length (take (length base - length (groups form)) base ++ groups form)) few) refl
 
 best_end : (p : Presence) (base bytes form rest : List ℕ) (n : ℕ) → n + length (groups form) ≡ length base → IsPlain bytes form rest → IsLongestPrefix base (take n base ++ groups form) n → IsBestTail Kind.Ascii p base (take n base ++ groups form) (groups form)
 best_end p base bytes form rest n is h prefix =
     let v = take n base ++ groups form in
     let long = length-take-le n base (omega (arith, is)) in
-    let whole : length v ≡ length base = omega (arith, length-append (take n base) (groups form), long, is) in
-    let behind = behind_kept base (groups form) n (omega (arith, is)) in
     let size : tail_size Kind.Ascii p (groups form) ≡ length form = sym (units_is Kind.Ascii p (groups form) form (shortest_plain p bytes form rest h)) in
-    let less : 0 < n → tail_size Kind.Ascii p (drop n v) ≤ tail_size Kind.Ascii p (drop (n - 1) v) = λ some. rw behind (omega (arith, some, size, length-map form (λ b. b % 128), whole, is, length-drop (n - 1) v, no_less p (drop (n - 1) v))) in
-    rw behind at (shortest_is_best Kind.Ascii p base v n prefix whole less)
-
-other_end : (i : FieldPart) (base v : List ℕ) → i.kind ≡ Kind.Ascii → i.operator ≡ Operator.Tail → (base ≡ v → ⊥) → left_out_of i.operator i (Assigned (Ascii base)) (Some (Ascii v)) ≡ false
-other_end i base v k o differ = rw (o, k) (not_same base v differ)
+    end_best Kind.Ascii p base (groups form) n is prefix
+    (λ some. rw (drop_at (take n base) (groups form) n long) (omega (arith, some, size, length-map form (λ b. b % 128), length-append (take n base) (groups form), long, is, length-drop (n - 1) v, no_less p (drop (n - 1) v))))
 
 pub no_same_text : (base part : List ℕ) (n : ℕ) → n < length base → IsLongestPrefix base (take n base ++ part) n → base ≡ take n base ++ part → ⊥
 no_same_text base part n lt prefix e =
@@ -236,7 +207,8 @@ tail_read i base bytes form rest k short le h =
       behind = bytes;
       plain = h;
       within = le;
-      read = subst (λ m. tail_at Usual i (Assigned (Ascii base)) bytes ≡ Ok (Some (Ascii (take (length base - m) base ++ groups form)), rest)) same (tail_read_plain i base bytes form rest k h long);
+      read = subst (λ m. tail_at Usual i (Assigned (Ascii base)) bytes ≡ Ok (Some (Ascii (take (length base - m) base ++ groups form)), rest)) same
+          (tail_made i (Ascii base) (Ascii (take (length base - length (groups form)) base ++ groups form)) (groups form) bytes rest (rw k refl) (rw k (units_plain i.presence bytes form rest h)) (rw k (few_plain _ long)));
     }
 
 pub tail_less : (i : FieldPart) (base bytes b behind : List ℕ) (first next m : ℕ) → first + m ≤ next → next ≤ length bytes → take m (drop (length base - (next - first)) base) ≡ take m (groups (slice_range bytes first next)) → IsPlain behind (slice_range bytes (first + m) next) (drop next bytes)
@@ -276,6 +248,6 @@ plain_tail_judges i base n bytes form rest k whole o text short is gives prefix 
     (tail_base_is i (Ascii base) (rw k refl))
     (subst (λ (k : Kind). IsText k (Ascii v)) (sym k) t)
     (subst (λ m. tail_at Usual i (Assigned (Ascii base)) bytes ≡ Ok (Some (Ascii (take m base ++ groups form)), rest)) (sym kept) read)
-    (other_end i base v k o (no_same_text base (groups form) n (omega (arith, is, some)) prefix))
+    (other_end i (Ascii base) (Ascii v) o (rw k refl) (no_same_text base (groups form) n (omega (arith, is, some)) prefix))
     (subst (λ (k : Kind). IsBestTail k i.presence base v (groups form)) (sym k) (best_end i.presence base gives.behind form rest n (omega (arith, is, same)) h prefix))
     (subst (λ (k : Kind). ShortestUnits k i.presence (groups form) form) (sym k) (shortest_plain i.presence gives.behind form rest h))

@@ -1,124 +1,48 @@
 -- An entity with no needless group in front is the shortest form of its number, so a number that stands in it is copied.
-use Rattle.fast_relay.proofs.Common.{◌≡◌, ◌⊎◌, ℕ, ℤ, pos, negsuc, zero, suc, ◌+◌, ◌-◌, ◌*◌, ◌%◌, ◌^◌, ◌<◌, ◌≤◌, Bool, true, false, nat_eq, nat_lt, nat_le, List, [], ◌∷◌, length, drop, slice_range, get_or, refl, sym, ap, ◌∙◌, not, arith, inl, inr, ◌&&◌, ◌||◌, ◌-ℤ◌, IsTrue, pow-suc, pow-le-pow_right, mul-le-mul_right, cases_lt, nat_tests, ints, length-map, IsEntity, groups, number_of, IsUnsigned, IsSigned, magnitude, unsigned_of, overlong_unsigned, overlong_signed, sent_signed, IsBytes, Usual, Value, number_bound, signed_bound, signed_above, signed_below, entity_some, unsigned_bound, is_integer, of_integer, Kind, Presence, Mandatory, Optional, ShortestSigned, ShortestUnsigned, ShortestWhole, integer_at, SpellsInteger, SpellsIntegerUsually, overlong_number, is_unsigned, found_here, integer_forms, Spelt}
+use Rattle.fast_wire.proofs.FormSizes.{signed_sizes, unsigned_sizes}
+use Rattle.fast_wire.proofs.NotOverlong.{without_sign, without_zero}
+use Rattle.fast_relay.proofs.Common.{◌≡◌, ℕ, ℤ, pos, negsuc, zero, suc, ◌+◌, ◌-◌, ◌%◌, ◌≤◌, Bool, true, false, List, [], ◌∷◌, length, drop, slice_range, refl, sym, ◌∙◌, not, arith, inl, inr, IsTrue, cases_lt, IsEntity, IsUnsigned, IsSigned, overlong_unsigned, overlong_signed, sent_signed, IsBytes, Usual, Value, is_integer, of_integer, Kind, Presence, Mandatory, Optional, ShortestSigned, ShortestUnsigned, ShortestWhole, integer_at, SpellsInteger, SpellsIntegerUsually, overlong_number, is_unsigned, found_here, integer_forms, Spelt, le-leb, lt-ltb}
 
-pub one_byte : (xs : List ℕ) → length xs ≡ 1 → get_or xs 0 0 ∷ [] ≡ xs
-one_byte [] h = absurd (omega (arith, h))
-one_byte (x ∷ []) h = refl
-one_byte (x ∷ y ∷ xs) h = absurd (omega (arith, h))
+-- ---- a form that is longer than another has a needless group: so many in front of the other are the same bytes
 
--- ---- no sign
+module _ {V : Type 0} (Form : List ℕ → V → Type 0) (overlong : List ℕ → Bool) (v : V) (one : (b c : List ℕ) → Form b v → Form c v → length b ≡ length c → b ≡ c)
+    (more : (b : List ℕ) → Form b v → length b ≤ 9 → (x : ℕ) × Form (x ∷ b) v × (overlong (x ∷ b) ≡ true)) where
+  longer : (n : ℕ) (b : List ℕ) → Form b v → n + length b ≤ 9 → (c : List ℕ) × Form c v × (overlong c ≡ true) × (length c ≡ suc n + length b)
+  longer zero b f le = let g = more b f (omega arith) in (g.0 ∷ b, g.1, g.2, omega arith)
+  longer (suc n) b f le =
+      let h = longer n b f (omega arith) in
+      let g = more h.0 h.1 (omega (arith, h.3)) in
+      (g.0 ∷ h.0, g.1, g.2, omega (arith, h.3))
 
-some_first : (g : ℕ) → nat_eq g 0 ≡ false → 1 ≤ g
-some_first zero h = absurd cc
-some_first (suc g) h = omega arith
+  least : (b : List ℕ) → Form b v → length b ≤ 10 → overlong b ≡ false → (other : List ℕ) → Form other v → length b ≤ length other
+  least b f few short other o = elim (cases_lt (length other) (length b)) [
+    | inl less ↦
+        let h = longer (length b - suc (length other)) other o (omega arith) in
+        let same : b ≡ h.0 = one b h.0 f h.1 (omega (arith, h.3)) in
+        absurd (let long : overlong b ≡ true = rw same h.2 in cc)
+    | inr le ↦ le
+  ]
+
+more_unsigned : (v : ℕ) (b : List ℕ) → IsUnsigned b v → length b ≤ 9 → (x : ℕ) × IsUnsigned (x ∷ b) v × (overlong_unsigned (x ∷ b) ≡ true)
+more_unsigned v [] f le = absurd f.entity
+more_unsigned v (c ∷ bs) f le = (0, record { entity = (omega arith, f.entity); short = omega arith; value = f.value ∙ sym (without_zero 0 (c ∷ bs) refl) }, refl)
+
+more_signed : (v : ℤ) (b : List ℕ) → IsSigned b v → length b ≤ 9 → (x : ℕ) × IsSigned (x ∷ b) v × (overlong_signed (x ∷ b) ≡ true)
+more_signed v [] f le = absurd f.entity
+more_signed v (c ∷ bs) f le = elim (cases_lt (c % 128) 64) [
+  | inl low ↦
+      let long : overlong_signed (0 ∷ c ∷ bs) ≡ true = rw (lt-ltb (c % 128) 64 low) refl in
+      (0, record { entity = (omega arith, f.entity); short = omega arith; value = f.value ∙ sym (without_sign 0 c bs long) }, long)
+  | inr high ↦
+      let long : overlong_signed (127 ∷ c ∷ bs) ≡ true = le-leb 64 (c % 128) high in
+      (127, record { entity = (omega arith, f.entity); short = omega arith; value = f.value ∙ sym (without_sign 127 c bs long) }, long)
+]
 
 unsigned_least : (b : List ℕ) (v : ℕ) → IsUnsigned b v → overlong_unsigned b ≡ false → (other : List ℕ) → IsUnsigned other v → length b ≤ length other
-unsigned_least [] v f short other o = absurd f.entity
-unsigned_least (x ∷ []) v f short other o = let some = entity_some other o.entity in omega arith
-unsigned_least (x ∷ c ∷ bs) v f short other o = elim (cases_lt (length other) (length (x ∷ c ∷ bs))) [
-  | inl less ↦
-      let le : length other ≤ length (c ∷ bs) = omega arith in
-      let top : 128 ^ length other ≤ 128 ^ length (c ∷ bs) = pow-le-pow_right {n = 128} (omega arith) le in
-      let long : length (groups (c ∷ bs)) ≡ length (c ∷ bs) = length-map (c ∷ bs) (λ b. b % 128) in
-      let low : 1 * 128 ^ length (c ∷ bs) ≤ x % 128 * 128 ^ length (c ∷ bs) = mul-le-mul_right (128 ^ length (c ∷ bs)) (some_first (x % 128) short) in
-      let is : v ≡ x % 128 * 128 ^ length (groups (c ∷ bs)) + number_of (groups (c ∷ bs)) = f.value in
-      let same : x % 128 * 128 ^ length (groups (c ∷ bs)) ≡ x % 128 * 128 ^ length (c ∷ bs) = ap (λ (n : ℕ). x % 128 * 128 ^ n) long in
-      absurd (omega (arith, unsigned_bound other v o))
-  | inr le ↦ le
-]
-
--- ---- with a sign
-
-not_below : (u s : ℕ) (v : ℤ) → u < s → v ≡ pos u -ℤ pos s → magnitude v + suc u ≡ s
-not_below u s (pos a) h e = absurd (omega (arith, ints))
-not_below u s (negsuc a) h e = omega (arith, ints)
-
-neither : (x y : Bool) → (x || y) ≡ false → (x ≡ false) × (y ≡ false)
-neither true y e = absurd cc
-neither false y e = (refl, e)
-
--- where the first group is 0 the second has its top bit
-above_zero : (g h : ℕ) → ((nat_eq g 0 && nat_lt h 64) || (nat_eq g 127 && nat_le 64 h)) ≡ false → (1 ≤ g) ⊎ (64 ≤ h)
-above_zero zero h s = let f : nat_lt h 64 ≡ false = (neither (nat_lt h 64) false s).0 in inr (grind (arith, nat_tests))
-above_zero (suc g) h s = inl (omega arith)
-
--- where it is all 1s the second has not
-below_ones : (g h : ℕ) → ((nat_eq g 0 && nat_lt h 64) || (nat_eq g 127 && nat_le 64 h)) ≡ false → g < 128 → (g ≤ 126) ⊎ (h < 64)
-below_ones g h s fits = elim (cases_lt g 127) [
-  | inl less ↦ inl (omega arith)
-  | inr more ↦
-      let is : g ≡ 127 = omega arith in
-      let f : nat_le 64 h ≡ false = rw is at s in
-      inr (grind (arith, nat_tests))
-]
-
-abbrev Two : ℕ → ℕ → ℕ → ℕ → ℕ → ℕ → Type 0
-Two x c p w r u = (w ≡ p * 128) × (u ≡ x * w + (c * p + r)) × (r < p)
-
-some_low : (x c p w r u : ℕ) → Two x c p w r u → 1 ≤ x → 64 * p ≤ u
-some_low x c p w r u t h = let e = t.0 in let k = t.1 in let a : 1 * w ≤ x * w = mul-le-mul_right w h in omega arith
-
-second_low : (x c p w r u : ℕ) → Two x c p w r u → 64 ≤ c → 64 * p ≤ u
-second_low x c p w r u t h = let k = t.1 in let a : 64 * p ≤ c * p = mul-le-mul_right p h in omega arith
-
-some_high : (x c p w r u : ℕ) → Two x c p w r u → c < 128 → x ≤ 126 → u + 1 + 64 * p ≤ w * 128
-some_high x c p w r u t fits h =
-    let e = t.0 in
-    let k = t.1 in
-    let l = t.2 in
-    let a : x * w ≤ 126 * w = mul-le-mul_right w h in
-    let b : c * p ≤ 127 * p = mul-le-mul_right p (omega arith) in
-    omega arith
-
-second_high : (x c p w r u : ℕ) → Two x c p w r u → x < 128 → c < 64 → u + 1 + 64 * p ≤ w * 128
-second_high x c p w r u t fits h =
-    let e = t.0 in
-    let k = t.1 in
-    let l = t.2 in
-    let a : x * w ≤ 127 * w = mul-le-mul_right w (omega arith) in
-    let b : c * p ≤ 63 * p = mul-le-mul_right p (omega arith) in
-    omega arith
-
-two_groups : (x c : ℕ) (bs : List ℕ) → Two (x % 128) (c % 128) (128 ^ length bs) (128 ^ suc (length bs)) (unsigned_of bs) (unsigned_of (x ∷ c ∷ bs))
-two_groups x c bs = (
-  pow-suc 128 (length bs),
-  ap (λ (n : ℕ). x % 128 * 128 ^ suc n + (c % 128 * 128 ^ n + number_of (groups bs))) (length-map bs (λ b. b % 128)),
-  number_bound bs,
-)
-
-abbrev first_needless : ℕ → ℕ → Bool
-first_needless g h = (nat_eq g 0 && nat_lt h 64) || (nat_eq g 127 && nat_le 64 h)
-
-signed_low : (x c : ℕ) (bs : List ℕ) (v : ℤ) → IsSigned (x ∷ c ∷ bs) v → first_needless (x % 128) (c % 128) ≡ false → 64 * 128 ^ length bs ≤ magnitude v
-signed_low x c bs v f short =
-    let g = x % 128 in
-    let h = c % 128 in
-    let p = 128 ^ length bs in
-    let w = 128 ^ suc (length bs) in
-    let r = unsigned_of bs in
-    let u = unsigned_of (x ∷ c ∷ bs) in
-    let t = two_groups x c bs in
-    elim (cases_lt (x % 128) 64) [
-      | inl less ↦
-          let low : 64 * p ≤ u = elim (above_zero g h short) [ inl some ↦ some_low g h p w r u t some | inr second ↦ second_low g h p w r u t second ] in
-          rw (f.value ∙ signed_above (x ∷ c ∷ bs) (omega arith) less) low
-      | inr more ↦
-          let m = not_below u (128 ^ suc (suc (length bs))) v (number_bound (x ∷ c ∷ bs)) (f.value ∙ signed_below (x ∷ c ∷ bs) (omega arith) more) in
-          let top : 128 ^ suc (suc (length bs)) ≡ w * 128 = pow-suc 128 (suc (length bs)) in
-          let high : u + 1 + 64 * p ≤ w * 128 = elim (below_ones g h short (omega arith)) [ inl some ↦ some_high g h p w r u t (omega arith) some | inr second ↦ second_high g h p w r u t (omega arith) second ] in
-          omega arith
-    ]
+unsigned_least b v f = least IsUnsigned overlong_unsigned v (λ b c. unsigned_sizes.one b c v) (more_unsigned v) b f (omega (arith, f.short))
 
 signed_least : (b : List ℕ) (v : ℤ) → IsSigned b v → overlong_signed b ≡ false → (other : List ℕ) → IsSigned other v → length b ≤ length other
-signed_least [] v f short other o = absurd f.entity
-signed_least (x ∷ []) v f short other o = let some = entity_some other o.entity in omega arith
-signed_least (x ∷ c ∷ bs) v f short other o = elim (cases_lt (length other) (length (x ∷ c ∷ bs))) [
-  | inl less ↦
-      let le : length other - 1 ≤ length bs = omega arith in
-      let top : 128 ^ (length other - 1) ≤ 128 ^ length bs = pow-le-pow_right {n = 128} (omega arith) le in
-      absurd (omega (arith, signed_low x c bs v f short, signed_bound other v o))
-  | inr le ↦ le
-]
+signed_least b v f = least IsSigned overlong_signed v (λ b c. signed_sizes.one b c v) (more_signed v) b f (omega (arith, f.short))
 
 -- ---- a number that stands in the bytes
 

@@ -1,5 +1,7 @@
 -- What strings and vectors that are read and judged at once rest on.
-use Rattle.fast_relay.proofs.Common.{◌≡◌, ◌≤◌, true, false, List, ℕ, Ok, length, refl, sym, subst, ◌∙◌, ℤ, Some, IsTrue, Usual, IsShortest, is_of, Kind, Operator, Part, Presence, FieldPart, Scalar, Entry, Assigned, tail_base, Both, IsBestCut, IsBestTail, ShortestPart, ShortestSigned, ShortestUnits, DeltaForm, delta_at, row_at, spelled_at, tail_at, unit_delta_at, units_spelled_at, whole_at, FormOf, within_part, SpellsWhole, left_out_of, Spelled, IsText, units_of, IsUnitKind, IsFirst, tail_is_first, delta_is_first, tail_form_is_first, whole_is_first, string_value, few_units, units_form, string_is_shortest, IsOfType, Bool, Leaves, under, Judges}
+use Rattle.fast_relay.proofs.Common.{◌≡◌, ◌<◌, ◌+◌, ◌-◌, ◌++◌, ◌≤◌, true, false, List, ℕ, Ok, length, refl, sym, subst, ◌∙◌, ℤ, Some, IsTrue, Usual, IsShortest, is_of, Kind, Operator, Part, Presence, FieldPart, Scalar, Entry, Assigned, tail_base, Both, IsBestCut, IsBestTail, ShortestPart, ShortestSigned, ShortestUnits, DeltaForm, delta_at, row_at, spelled_at, tail_at, unit_delta_at, units_spelled_at, whole_at, FormOf, within_part, SpellsWhole, left_out_of, Spelled, IsText, units_of, IsUnitKind, IsFirst, tail_is_first, delta_is_first, tail_form_is_first, string_value, few_units, units_form, string_is_shortest, IsOfType, Bool, Leaves, under, Judges, ap, arith, drop, length-append, pos, take, le-leb, length-take-le, Value, scalar_eq-exact, shortest_is_best, tail_size, IsLongestPrefix, ended_by, ended_value, limited_value, new_part_behind, part_at, units_at, Spelt}
+use Rattle.fast_value.specs.contracts.scalar.ScalarPartialEq.TheImpl as scalar_eq
+use Rattle.std.proofs.lemmas.List.{drop_at}
 use Rattle.fast_relay.proofs.Taking.{base_is, delta_out, delta_row, judges, takes, whole_first, whole_row}
 
 pub whole_within : (p : Part) (v : Scalar) → p ≡ Part.Whole → IsTrue (within_part p v)
@@ -75,3 +77,30 @@ tail_judges i old base v tail bytes rest form whole o given l read out best s =
     let within = whole_within i.part v whole in
     judges true i old (Assigned v) v bytes rest form l.of_kind within (takes i old (Assigned v) v bytes rest within (tail_row i.operator i old bytes o ∙ read) (rw o refl)) out
     (subst (λ (o : Operator). IsFirst (λ c b. FormOf Usual o i old true c b (Some v)) form) (sym o) (tail_form_is_first i old base v form given (tail_is_first i.kind i.presence base v tail form l.of_units (text_of_type i.kind v l) best s)))
+
+-- ---- what is read on the string or vector that an entry has
+
+pub delta_made : (i : FieldPart) (base v : Scalar) (r : ℕ) (s bytes middle rest : List ℕ) → is_of i.kind base ≡ true → r < 63 → r ≤ length (units_of base) → Spelt false i.presence bytes (pos r) middle → part_at Usual i.kind middle ≡ Ok (s, rest) → limited_value i.kind (take (length (units_of base) - r) (units_of base) ++ s) ≡ Ok v
+    → unit_delta_at Usual i (Assigned base) bytes ≡ Ok (Some v, rest)
+unfolding unit_delta_at new_part_behind
+delta_made i base v r s bytes middle rest is small le removal read made =
+    rw (removal, le-leb r 2147483647 (omega (arith, small)), base_is i base is, le-leb r (length (units_of base)) le, read, made) refl
+
+pub tail_made : (i : FieldPart) (base v : Scalar) (s bytes rest : List ℕ) → is_of i.kind base ≡ true → units_at Usual i.kind i.presence bytes ≡ Ok (Value s, rest) → limited_value i.kind (ended_by (units_of base) s) ≡ Ok v → tail_at Usual i (Assigned base) bytes ≡ Ok (Some v, rest)
+unfolding tail_at ended_value
+tail_made i base v s bytes rest is read made = rw (read, is, made) refl
+
+not_same : (v w : Scalar) (b : Bool) → (units_of v ≡ units_of w → ⊥) → (scalar_eq.eq-value).it v w ≡ b → (scalar_eq.eq-value).it v w ≡ false
+not_same v w true differ e = absurd (differ (ap units_of (scalar_eq-exact v w e)))
+not_same v w false differ e = e
+
+pub other_end : (i : FieldPart) (base v : Scalar) → i.operator ≡ Operator.Tail → is_of i.kind base ≡ true → (units_of base ≡ units_of v → ⊥) → left_out_of i.operator i (Assigned base) (Some v) ≡ false
+other_end i base v o is differ = rw (o, is) (not_same base v ((scalar_eq.eq-value).it base v) differ refl)
+
+-- as many units as were there, behind the longest common front
+pub end_best : (k : Kind) (p : Presence) (base s : List ℕ) (n : ℕ) → n + length s ≡ length base → IsLongestPrefix base (take n base ++ s) n → (0 < n → tail_size k p (drop n (take n base ++ s)) ≤ tail_size k p (drop (n - 1) (take n base ++ s))) → IsBestTail k p base (take n base ++ s) s
+end_best k p base s n size prefix least =
+    let v = take n base ++ s in
+    let long = length-take-le n base (omega (arith, size)) in
+    let whole : length v ≡ length base = omega (arith, length-append (take n base) s, long, size) in
+    rw (drop_at (take n base) s n long) at (shortest_is_best k p base v n prefix whole least)

@@ -1,46 +1,29 @@
 -- Unicode strings and byte vectors, read and written at once.
-use Rattle.fast_relay.proofs.Common.{◌≡◌, ◌≤◌, ◌<◌, ◌+◌, ◌-◌, Bool, true, false, List, [], ℕ, ◌++◌, Result, Ok, Err, length, take, drop, slice_range, refl, sym, ap, subst, ◌∙◌, arith, drop-drop, length-append, length-drop, Some, None, ℤ, pos, IsCharBoundary, length-take-le, IsUtf8-append, IsUtf8-take, is_utf8-from_IsUtf8, take-nil, Usual, ◌>>=◌, behind_length, bytes_at, unsigned_at, unsigned_nullable_at, vector_at, vector_nullable_at, WireFault, Nullable, Null, Value, IsBytes, unsigned_size, vector_nullable_size, unsigned_size-grows, is_of, scalar_eq-exact, Kind, Operator, Part, Presence, Mandatory, Optional, FieldPart, Scalar, Unicode, Bytes, Entry, Assigned, Empty, FieldFault, start_of, Both, IsBestCut, IsBestTail, ShortestPart, ShortestSigned, ShortestUnits, part_size, tail_size, IsLongestPrefix, SharesEnd, ended_by, ended_value, in_field, integer_at, limited_value, new_part_behind, part_at, signless, tail_at, unit_delta_at, unit_value, units_at, units_spelled_at, left_out_of, default_of, of_units, units_of, SpellsWhole, Spelt, IsText, IsVectorKind, parts, longer_tail, shortest_is_best, IsPartCost, vector_parts, all_append, all_take, IsTrue, Leaves, UnitsGive, Judges}
+use Rattle.fast_relay.proofs.Common.{◌≡◌, ◌≤◌, ◌<◌, ◌+◌, ◌-◌, Bool, true, false, List, [], ℕ, ◌++◌, Ok, length, take, drop, slice_range, refl, sym, ap, subst, ◌∙◌, arith, drop-drop, length-append, length-drop, Some, None, pos, IsCharBoundary, length-take-le, IsUtf8-append, IsUtf8-take, is_utf8-from_IsUtf8, take-nil, Usual, ◌>>=◌, behind_length, bytes_at, unsigned_at, unsigned_nullable_at, vector_at, vector_nullable_at, Nullable, Null, Value, IsBytes, vector_nullable_size, unsigned_size-grows, is_of, Kind, Operator, Part, Presence, Mandatory, Optional, FieldPart, Scalar, Unicode, Bytes, Entry, Assigned, Empty, start_of, Both, IsBestCut, IsBestTail, ShortestPart, ShortestSigned, ShortestUnits, part_size, tail_size, IsLongestPrefix, SharesEnd, ended_by, ended_value, in_field, integer_at, limited_value, part_at, signless, tail_at, unit_value, units_at, units_spelled_at, left_out_of, default_of, of_units, units_of, SpellsWhole, Spelt, IsText, IsVectorKind, parts, longer_tail, all_append, all_take, IsTrue, Leaves, UnitsGive, Judges, le-ltb}
 use Rattle.fast_value.specs.contracts.scalar.ScalarPartialEq.TheImpl as scalar_eq
-use Rattle.fast_relay.proofs.PlainTexts.{behind_kept, best_removal, le_true, lt_false, no_same_text}
-use Rattle.fast_relay.proofs.Taking.{base_is}
-use Rattle.fast_relay.proofs.TextRelaying.{tail_base_is, tail_judges, text_delta_judges, text_judges}
+use Rattle.fast_field.proofs.BestTails.{on_next, vector_nullable_parts}
+use Rattle.fast_field.proofs.FieldLaws.{in_field_ok, made_back, made_by}
+use Rattle.fast_relay.proofs.PlainTexts.{best_removal, no_same_text}
+use Rattle.fast_relay.proofs.TextRelaying.{delta_made, end_best, other_end, tail_base_is, tail_made, tail_judges, text_delta_judges, text_few, text_judges}
 
 -- ---- what stands behind a length
 
--- the number that was sent, and the same where it may be NULL
-number : Result (Nullable ℤ × List ℕ) FieldFault → Result (ℕ × List ℕ) WireFault
-number (Ok (Value (pos n), rest)) = Ok (n, rest)
-number (Ok (x, rest)) = Err WireFault.NeedMore
-number (Err f) = Err WireFault.NeedMore
+sent : (bytes : List ℕ) (n : ℕ) (rest : List ℕ) → (in_field (unsigned_at bytes) >>= made_by (λ n. Value (pos n))) ≡ Ok (Value (pos n), rest) → unsigned_at bytes ≡ Ok (n, rest)
+sent bytes n rest h = in_field_ok (unsigned_at bytes) (n, rest) (made_back (in_field (unsigned_at bytes)) (λ n. Value (pos n)) n rest (λ m e. cc) h)
 
-number_or_null : Result (Nullable ℤ × List ℕ) FieldFault → Result (Nullable ℕ × List ℕ) WireFault
-number_or_null (Ok (Value (pos n), rest)) = Ok (Value n, rest)
-number_or_null (Ok (x, rest)) = Ok (Null, rest)
-number_or_null (Err f) = Err WireFault.NeedMore
+not_null : (x : Nullable ℕ) (n : ℕ) → signless x ≡ Value (pos n) → x ≡ Value n
+not_null Null n e = absurd cc
+not_null (Value m) n e = cc
 
-abbrev as_number : ℕ × List ℕ → Result (Nullable ℤ × List ℕ) FieldFault
-as_number x = Ok (Value (pos x.0), x.1)
-
-abbrev as_nullable : Nullable ℕ × List ℕ → Result (Nullable ℤ × List ℕ) FieldFault
-as_nullable x = Ok (signless x.0, x.1)
-
-sent : (r : Result (ℕ × List ℕ) WireFault) (n : ℕ) (rest : List ℕ) → (in_field r >>= as_number) ≡ Ok (Value (pos n), rest) → r ≡ Ok (n, rest)
-unfolding number
-sent (Ok (m, more)) n rest h = ap number h
-sent (Err f) n rest h = absurd cc
-
-sent_nullable : (r : Result (Nullable ℕ × List ℕ) WireFault) (n : ℕ) (rest : List ℕ) → (in_field r >>= as_nullable) ≡ Ok (Value (pos n), rest) → r ≡ Ok (Value n, rest)
-unfolding number_or_null
-sent_nullable (Ok (Value m, more)) n rest h = ap number_or_null h
-sent_nullable (Ok (Null, more)) n rest h = ap number_or_null h
-sent_nullable (Err f) n rest h = absurd cc
+sent_nullable : (bytes : List ℕ) (n : ℕ) (rest : List ℕ) → (in_field (unsigned_nullable_at bytes) >>= made_by signless) ≡ Ok (Value (pos n), rest) → unsigned_nullable_at bytes ≡ Ok (Value n, rest)
+sent_nullable bytes n rest h = in_field_ok (unsigned_nullable_at bytes) (Value n, rest) (made_back (in_field (unsigned_nullable_at bytes)) signless (Value n) rest (λ m e. not_null m n e) h)
 
 behind : (k : Kind) (p : Presence) (bytes rest : List ℕ) (n : ℕ) → IsVectorKind k → Spelt true p bytes (pos n) rest → n ≤ 65535 → n ≤ length rest → units_at Usual k p bytes ≡ Ok (Value (take n rest), drop n rest)
 unfolding integer_at units_at part_at vector_at vector_nullable_at behind_length bytes_at
-behind Kind.Unicode Mandatory bytes rest n k h few there = rw (sent (unsigned_at bytes) n rest h, lt_false 65535 n few, lt_false (length rest) n there) refl
-behind Kind.Bytes Mandatory bytes rest n k h few there = rw (sent (unsigned_at bytes) n rest h, lt_false 65535 n few, lt_false (length rest) n there) refl
-behind Kind.Unicode Optional bytes rest n k h few there = rw (sent_nullable (unsigned_nullable_at bytes) n rest h, lt_false 65535 n few, lt_false (length rest) n there) refl
-behind Kind.Bytes Optional bytes rest n k h few there = rw (sent_nullable (unsigned_nullable_at bytes) n rest h, lt_false 65535 n few, lt_false (length rest) n there) refl
+behind Kind.Unicode Mandatory bytes rest n k h few there = rw (sent bytes n rest h, le-ltb 65535 n few, le-ltb (length rest) n there) refl
+behind Kind.Bytes Mandatory bytes rest n k h few there = rw (sent bytes n rest h, le-ltb 65535 n few, le-ltb (length rest) n there) refl
+behind Kind.Unicode Optional bytes rest n k h few there = rw (sent_nullable bytes n rest h, le-ltb 65535 n few, le-ltb (length rest) n there) refl
+behind Kind.Bytes Optional bytes rest n k h few there = rw (sent_nullable bytes n rest h, le-ltb 65535 n few, le-ltb (length rest) n there) refl
 behind k' p bytes rest n k h few there = absurd k
 
 pub bytes_found : (k : Kind) (p : Presence) (bytes : List ℕ) (at start n : ℕ) → IsVectorKind k → Spelt true p (drop at bytes) (pos n) (drop start bytes) → n ≤ 65535 → n ≤ length bytes - start → start ≤ length bytes
@@ -79,62 +62,38 @@ together Kind.Unicode s t is a b few = record { of_units = tt; of_kind = refl; w
 together Kind.Bytes s t is a b few = record { of_units = tt; of_kind = refl; within = (few, all_append (λ c. c < 256) s t a.within.1 b.within.1) }
 together k s t is a b few = absurd is
 
-pub put_behind : (k : Kind) (base s : List ℕ) (n : ℕ) → IsVectorKind k → n ≤ length base → n + length s ≤ 65535 → IsText k (of_units k (take n base)) → IsText k (of_units k s) → IsText k (of_units k (take n base ++ s))
-put_behind k base s n is within few front back = together k (take n base) s is front back (omega (arith, few, length-append (take n base) s, length-take-le n base within))
-
-pub front_text : (k : Kind) (base : Scalar) (n : ℕ) → IsVectorKind k → IsText k base → n ≤ length (units_of base) → (k ≡ Kind.Unicode → IsCharBoundary (units_of base) n) → IsText k (of_units k (take n (units_of base)))
+front_text : (k : Kind) (base : Scalar) (n : ℕ) → IsVectorKind k → IsText k base → n ≤ length (units_of base) → (k ≡ Kind.Unicode → IsCharBoundary (units_of base) n) → IsText k (of_units k (take n (units_of base)))
 front_text Kind.Unicode (Unicode s) n is t le cut = record { of_units = tt; of_kind = refl; within = (omega (arith, length-take-le n s le, le, t.within.0), all_take (λ c. c < 256) n s t.within.1, IsUtf8-take s n t.within.2 (cut refl)) }
 front_text Kind.Bytes (Bytes s) n is t le cut = record { of_units = tt; of_kind = refl; within = (omega (arith, length-take-le n s le, le, t.within.0), all_take (λ c. c < 256) n s t.within.1) }
 front_text Kind.Unicode v n is t le cut = absurd (let e = t.of_kind in cc)
 front_text Kind.Bytes v n is t le cut = absurd (let e = t.of_kind in cc)
 front_text k v n is t le cut = absurd is
 
+-- units put behind so many of a string or vector
+pub joined_text : (k : Kind) (base : Scalar) (n : ℕ) (s : List ℕ) → IsVectorKind k → IsText k base → n ≤ length (units_of base) → n + length s ≤ 65535 → (k ≡ Kind.Unicode → IsCharBoundary (units_of base) n) → IsText k (of_units k s) → IsText k (of_units k (take n (units_of base) ++ s))
+joined_text k base n s is t le few cut part =
+    together k (take n (units_of base)) s is (front_text k base n is t le cut) part (omega (arith, few, length-append (take n (units_of base)) s, length-take-le n (units_of base) le))
+
 pub limited : (k : Kind) (s : List ℕ) → IsVectorKind k → IsText k (of_units k s) → limited_value k s ≡ Ok (of_units k s)
 unfolding limited_value unit_value
-limited Kind.Unicode s is t = rw (lt_false 65535 (length s) t.within.0, is_utf8-from_IsUtf8 s t.within.2) refl
-limited Kind.Bytes s is t = rw (lt_false 65535 (length s) t.within.0) refl
+limited Kind.Unicode s is t = rw (le-ltb 65535 (length s) t.within.0, is_utf8-from_IsUtf8 s t.within.2) refl
+limited Kind.Bytes s is t = rw (le-ltb 65535 (length s) t.within.0) refl
 limited k s is t = absurd is
 
 -- ---- tails
 
-pub tail_read : (i : FieldPart) (base v : Scalar) (s bytes rest : List ℕ) → is_of i.kind base ≡ true → units_at Usual i.kind i.presence bytes ≡ Ok (Value s, rest) → limited_value i.kind (ended_by (units_of base) s) ≡ Ok v → tail_at Usual i (Assigned base) bytes ≡ Ok (Some v, rest)
-unfolding tail_at ended_value
-tail_read i base v s bytes rest is read made = rw (read, is, made) refl
-
-not_same : (v w : Scalar) (b : Bool) → (units_of v ≡ units_of w → ⊥) → (scalar_eq.eq-value).it v w ≡ b → (scalar_eq.eq-value).it v w ≡ false
-not_same v w true differ e = absurd (differ (ap units_of (scalar_eq-exact v w e)))
-not_same v w false differ e = e
-
-other_end : (i : FieldPart) (base v : Scalar) → i.operator ≡ Operator.Tail → is_of i.kind base ≡ true → (units_of base ≡ units_of v → ⊥) → left_out_of i.operator i (Assigned base) (Some v) ≡ false
-other_end i base v o is differ = rw (o, is) (not_same base v ((scalar_eq.eq-value).it base v) differ refl)
-
-vector_parts_nullable : IsPartCost (λ s. vector_nullable_size (Value s))
-vector_parts_nullable = vector_parts (λ n. unsigned_size (n + 1)) (λ m n le. unsigned_size-grows (m + 1) (n + 1) (omega arith))
-
-shorter : (cost : List ℕ → ℕ) → IsPartCost cost → (v : List ℕ) (n : ℕ) → 0 < n → cost (drop n v) ≤ cost (drop (n - 1) v)
-shorter cost is v n some =
-    let on : n - 1 + 1 ≡ n = omega (arith, some) in
-    let next : drop 1 (drop (n - 1) v) ≡ drop n v = drop-drop 1 (n - 1) v ∙ ap (λ (m : ℕ). drop m v) on in
-    subst (λ (t : List ℕ). cost t ≤ cost (drop (n - 1) v)) next (is.on_drop 1 (drop (n - 1) v))
-
 no_more : (k : Kind) (p : Presence) (v : List ℕ) (n : ℕ) → IsVectorKind k → 0 < n → tail_size k p (drop n v) ≤ tail_size k p (drop (n - 1) v)
-no_more Kind.Unicode Mandatory v n is some = shorter (part_size Kind.Unicode) (parts Kind.Unicode) v n some
-no_more Kind.Bytes Mandatory v n is some = shorter (part_size Kind.Bytes) (parts Kind.Bytes) v n some
-no_more Kind.Unicode Optional v n is some = shorter (λ s. vector_nullable_size (Value s)) vector_parts_nullable v n some
-no_more Kind.Bytes Optional v n is some = shorter (λ s. vector_nullable_size (Value s)) vector_parts_nullable v n some
+no_more Kind.Unicode Mandatory v n is some = on_next (part_size Kind.Unicode) (parts Kind.Unicode) v n some
+no_more Kind.Bytes Mandatory v n is some = on_next (part_size Kind.Bytes) (parts Kind.Bytes) v n some
+no_more Kind.Unicode Optional v n is some = on_next (λ s. vector_nullable_size (Value s)) vector_nullable_parts v n some
+no_more Kind.Bytes Optional v n is some = on_next (λ s. vector_nullable_size (Value s)) vector_nullable_parts v n some
 no_more k p v n is some = absurd is
 
-best_end : (k : Kind) (p : Presence) (base s : List ℕ) (n : ℕ) → IsVectorKind k → n + length s ≡ length base → IsLongestPrefix base (take n base ++ s) n → IsBestTail k p base (take n base ++ s) s
-best_end k p base s n is size prefix =
-    let v = take n base ++ s in
-    let within : n ≤ length base = omega (arith, size) in
-    let whole : length v ≡ length base = omega (arith, length-append (take n base) s, length-take-le n base within, size) in
-    rw (behind_kept base s n within) at (shortest_is_best k p base v n prefix whole (λ some. no_more k p v n is some))
-
 pub end_gives : (i : FieldPart) (base : Scalar) (n : ℕ) (s : List ℕ) → IsVectorKind i.kind → i.part ≡ Part.Whole → i.operator ≡ Operator.Tail → IsText i.kind base → n + length s ≡ length (units_of base) → 0 < length s
-    → IsLongestPrefix (units_of base) (take n (units_of base) ++ s) n → IsText i.kind (of_units i.kind (take n (units_of base) ++ s)) → IsText i.kind (of_units i.kind s) → UnitsGive true i (Assigned base) (Assigned (of_units i.kind (take n (units_of base) ++ s))) s
-end_gives i base n s is whole o text size some prefix t part = λ bytes at first next stands.
+    → IsLongestPrefix (units_of base) (take n (units_of base) ++ s) n → (i.kind ≡ Kind.Unicode → IsCharBoundary (units_of base) n) → IsText i.kind (of_units i.kind s) → UnitsGive true i (Assigned base) (Assigned (of_units i.kind (take n (units_of base) ++ s))) s
+end_gives i base n s is whole o text size some prefix cut part = λ bytes at first next stands.
     let b = units_of base in
+    let t = joined_text i.kind base n s is text (omega (arith, size)) (omega (arith, size, text_few i.kind base text)) cut part in
     let joined = take n b ++ s in
     let v = of_units i.kind joined in
     let back = units_back i.kind joined is in
@@ -142,9 +101,9 @@ end_gives i base n s is whole o text size some prefix t part = λ bytes at first
     let made : limited_value i.kind (ended_by b s) ≡ Ok v = subst (λ (m : ℕ). limited_value i.kind (take m b ++ s) ≡ Ok v) kept (limited i.kind joined is t) in (
       v,
       tail_judges i (Assigned base) base v s (drop at bytes) (drop next bytes) (slice_range bytes first next) whole o (tail_base_is i base text.of_kind) t
-          (tail_read i base v s (drop at bytes) (drop next bytes) text.of_kind stands.spelt made)
+          (tail_made i base v s (drop at bytes) (drop next bytes) text.of_kind stands.spelt made)
           (other_end i base v o text.of_kind (λ e. no_same_text b s n (omega (arith, size, some)) prefix (e ∙ back)))
-          (subst (λ (x : List ℕ). IsBestTail i.kind i.presence b x s) (sym back) (best_end i.kind i.presence b s n is size prefix))
+          (subst (λ (x : List ℕ). IsBestTail i.kind i.presence b x s) (sym back) (end_best i.kind i.presence b s n size prefix (λ some. no_more i.kind i.presence joined n is some)))
           (stands.shortest part),
     )
 
@@ -185,45 +144,23 @@ part_least Kind.Unicode s t is le = omega (arith, le, unsigned_size-grows (lengt
 part_least Kind.Bytes s t is le = omega (arith, le, unsigned_size-grows (length s) (length t) le)
 part_least k s t is le = absurd is
 
-part_of : Result (Nullable (List ℕ) × List ℕ) FieldFault → Result (List ℕ × List ℕ) FieldFault
-part_of (Ok (Value s, rest)) = Ok (s, rest)
-part_of (Ok (Null, rest)) = Ok (rest, rest)
-part_of (Err f) = Err f
-
-abbrev as_units : List ℕ × List ℕ → Result (Nullable (List ℕ) × List ℕ) FieldFault
-as_units x = Ok (Value x.0, x.1)
-
-part_sent : (r : Result (List ℕ × List ℕ) FieldFault) (s rest : List ℕ) → (r >>= as_units) ≡ Ok (Value s, rest) → r ≡ Ok (s, rest)
-unfolding part_of
-part_sent (Ok (t, more)) s rest h = ap part_of h
-part_sent (Err f) s rest h = absurd cc
-
 pub part_read : (k : Kind) (bytes s rest : List ℕ) → units_at Usual k Mandatory bytes ≡ Ok (Value s, rest) → part_at Usual k bytes ≡ Ok (s, rest)
 unfolding units_at
-part_read k bytes s rest h = part_sent (part_at Usual k bytes) s rest h
-
-new_part_read : (k : Kind) (base : List ℕ) (v : Scalar) (r : ℕ) (s middle rest : List ℕ) → r ≤ length base → part_at Usual k middle ≡ Ok (s, rest) → limited_value k (take (length base - r) base ++ s) ≡ Ok v → new_part_behind Usual k (pos r) base middle ≡ Ok (Some v, rest)
-unfolding new_part_behind
-new_part_read k base v r s middle rest le read made = rw (le_true r (length base) le, read, made) refl
-
-pub delta_read : (i : FieldPart) (base v : Scalar) (r : ℕ) (s bytes middle rest : List ℕ) → is_of i.kind base ≡ true → r < 63 → r ≤ length (units_of base) → Spelt false i.presence bytes (pos r) middle → part_at Usual i.kind middle ≡ Ok (s, rest) → limited_value i.kind (take (length (units_of base) - r) (units_of base) ++ s) ≡ Ok v
-    → unit_delta_at Usual i (Assigned base) bytes ≡ Ok (Some v, rest)
-unfolding unit_delta_at
-delta_read i base v r s bytes middle rest is small le removal read made =
-    rw (removal, le_true r 2147483647 (omega (arith, small)), base_is i base is) (new_part_read i.kind (units_of base) v r s middle rest le read made)
+part_read k bytes s rest h = made_back (part_at Usual k bytes) (λ s. Value s) s rest (λ t e. cc) h
 
 pub vector_delta_judges : (i : FieldPart) (base : Scalar) (r n : ℕ) (s bytes middle rest form : List ℕ) → IsVectorKind i.kind → i.part ≡ Part.Whole → i.operator ≡ Operator.Delta → IsText i.kind base → r < 63 → r ≤ length (units_of base) → n ≡ length (units_of base) - r
-    → IsLongestPrefix (units_of base) (take n (units_of base) ++ s) n → SharesEnd (units_of base) (take n (units_of base) ++ s) n → IsText i.kind (of_units i.kind (take n (units_of base) ++ s)) → Spelt false i.presence bytes (pos r) middle → units_at Usual i.kind Mandatory middle ≡ Ok (Value s, rest)
+    → IsLongestPrefix (units_of base) (take n (units_of base) ++ s) n → SharesEnd (units_of base) (take n (units_of base) ++ s) n → n + length s ≤ 65535 → (i.kind ≡ Kind.Unicode → IsCharBoundary (units_of base) n) → IsText i.kind (of_units i.kind s) → Spelt false i.presence bytes (pos r) middle → units_at Usual i.kind Mandatory middle ≡ Ok (Value s, rest)
     → Both (ShortestSigned i.presence (pos r)) (ShortestPart i.kind s) form
     → IsTrue (is_of i.kind (of_units i.kind (take n (units_of base) ++ s))) × Judges true form i (Assigned base) (Assigned (of_units i.kind (take n (units_of base) ++ s))) (Some (of_units i.kind (take n (units_of base) ++ s))) bytes rest
-vector_delta_judges i base r n s bytes middle rest form is whole o text small le kept prefix suffix t removal read shortest =
+vector_delta_judges i base r n s bytes middle rest form is whole o text small le kept prefix suffix few cut part removal read shortest =
     let b = units_of base in
+    let t = joined_text i.kind base n s is text (omega (arith, kept)) few cut part in
     let joined = take n b ++ s in
     let v = of_units i.kind joined in
     let back = units_back i.kind joined is in
     let made : limited_value i.kind (take (length b - r) b ++ s) ≡ Ok v = subst (λ (m : ℕ). limited_value i.kind (take m b ++ s) ≡ Ok v) kept (limited i.kind joined is t) in
     text_delta_judges i base v (pos r) s bytes rest form whole o text t
-    (delta_read i base v r s bytes middle rest text.of_kind small le removal (part_read i.kind middle s rest read) made)
+    (delta_made i base v r s bytes middle rest text.of_kind small le removal (part_read i.kind middle s rest read) made)
     (subst (λ (x : List ℕ). IsBestCut i.kind i.presence b x (pos r) s) (sym back) (best_removal i.kind i.presence b s r n small le kept prefix suffix (λ t le. part_least i.kind s t is le)))
     shortest
 

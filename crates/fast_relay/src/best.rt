@@ -29,14 +29,14 @@ pub struct Best {
     pub next: usize,
 }
 
-/// The best form of a value that is there: the bytes between two places.
+/// The best form of a value that is there: its bit, and the bytes between two places.
 #[inline(always)]
-fn sent(first: usize, next: usize) -> Best
-    ensures { result ≡ record { there = true; bit = true; removal = None; first = first; next = next } }
+fn sent(bit: bool, first: usize, next: usize) -> Best
+    ensures { result ≡ record { there = true; bit = bit; removal = None; first = first; next = next } }
 {
     Best {
         there: true,
-        bit: true,
+        bit,
         removal: None,
         first,
         next,
@@ -52,16 +52,10 @@ pub fn best_of(judged: Judged, bytes: &[u8], at: usize) -> Option<Best>
     ensures elsewhere { IfNone result (judged ≡ Judged.Elsewhere) }
 {
     match judged {
-        Judged::Stands(next) => Some(sent(at, next)),
-        Judged::Behind(next) => Some(sent(at + 1, next)),
-        Judged::BehindTwo(next) => Some(sent(at + 2, next)),
-        Judged::Given(next) => Some(Best {
-            there: true,
-            bit: false,
-            removal: None,
-            first: next,
-            next,
-        }),
+        Judged::Stands(next) => Some(sent(true, at, next)),
+        Judged::Behind(next) => Some(sent(true, at + 1, next)),
+        Judged::BehindTwo(next) => Some(sent(true, at + 2, next)),
+        Judged::Given(next) => Some(sent(false, next, next)),
         Judged::Elsewhere => None,
     }
 }

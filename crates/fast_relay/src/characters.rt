@@ -38,10 +38,7 @@ fn find_behind_zero(bytes: &[u8], at: usize) -> Option<(usize, usize)>
         (slice_range bytes.now x.0 x.1) (drop x.1 bytes.now)) }
 {
     if at < bytes.len() && bytes[at] == 0 {
-        match plain_ascii_end(bytes, at + 1) {
-            Some(next) => Some((at + 1, next)),
-            None => None,
-        }
+        Some((at + 1, plain_ascii_end(bytes, at + 1)?))
     } else {
         None
     }

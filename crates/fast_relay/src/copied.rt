@@ -61,15 +61,6 @@ pub(crate) fn copy_few_over(units: &mut [u8], kept: usize, part: &[u8])
     copy_few(&mut units[kept..], part);
 }
 
-/// Puts bytes in the place of the last ones of a byte vector, which are as many.
-#[inline(always)]
-fn put_over_bytes(bytes: &mut ByteString, kept: usize, part: &[u8])
-    requires { kept + length part.now ≡ length bytes.now }
-    ensures { bytes.new ≡ take kept bytes.old ++ part.now }
-{
-    copy_over(bytes.as_mut_slice(), kept, part);
-}
-
 /// Puts bytes behind so many units of a string or vector, in place of the others, as `put_units` does.
 #[inline(always)]
 pub(crate) fn put_part(
@@ -92,7 +83,7 @@ pub(crate) fn put_part(
                 true
             }
             (Kind::Bytes, Scalar::Bytes(bytes)) => {
-                put_over_bytes(bytes, kept, part);
+                copy_over(bytes.as_mut_slice(), kept, part);
                 true
             }
             _ => false,

@@ -54,18 +54,12 @@ fn less_removed(base: &[u8], bytes: &[u8], cut: Cut) -> Cut
     let more = count_same(&base[kept..], &bytes[cut.first..cut.next]);
     let first = cut.first + more;
     match plain_ascii_end(bytes, first) {
-        None => cut,
-        Some(next) => {
-            if next == cut.next {
-                Cut {
-                    removed: cut.removed - more,
-                    first,
-                    next,
-                }
-            } else {
-                cut
-            }
-        }
+        Some(next) if next == cut.next => Cut {
+            removed: cut.removed - more,
+            first,
+            next,
+        },
+        _ => cut,
     }
 }
 

@@ -26,10 +26,7 @@ pub(crate) fn absent_bit(instr: &FieldPart, entry: &Entry) -> Option<bool>
 {
     match instr.operator {
         Operator::Plain | Operator::Delta => Some(true),
-        Operator::Default => match &instr.initial {
-            None => Some(false),
-            Some(_) => Some(true),
-        },
+        Operator::Default => Some(instr.initial.is_some()),
         Operator::Copy | Operator::Increment => match entry {
             Entry::Assigned(_) => Some(true),
             Entry::Empty => Some(false),
@@ -77,11 +74,7 @@ pub(crate) fn units_bit(instr: &FieldPart, entry: &Entry, part: &[u8]) -> Option
             None => Some(true),
             Some(initial) => {
                 if *units(initial.value()) == *part {
-                    if is_made_of(instr.kind, initial.value(), part) {
-                        Some(false)
-                    } else {
-                        None
-                    }
+                    is_made_of(instr.kind, initial.value(), part).then_some(false)
                 } else {
                     Some(true)
                 }
@@ -90,11 +83,7 @@ pub(crate) fn units_bit(instr: &FieldPart, entry: &Entry, part: &[u8]) -> Option
         Operator::Copy => match entry {
             Entry::Assigned(value) => {
                 if *units(value) == *part {
-                    if is_made_of(instr.kind, value, part) {
-                        Some(false)
-                    } else {
-                        None
-                    }
+                    is_made_of(instr.kind, value, part).then_some(false)
                 } else {
                     Some(true)
                 }
@@ -117,23 +106,11 @@ pub(crate) fn text_bit(instr: &FieldPart, entry: &Entry, form: &[u8]) -> Option<
         Operator::Plain => Some(true),
         Operator::Default => match instr.initial() {
             None => Some(true),
-            Some(Scalar::Ascii(text)) => {
-                if is_text_of(text.as_slice(), form) {
-                    Some(false)
-                } else {
-                    Some(true)
-                }
-            }
+            Some(Scalar::Ascii(text)) => Some(!is_text_of(text.as_slice(), form)),
             Some(_) => None,
         },
         Operator::Copy => match entry {
-            Entry::Assigned(Scalar::Ascii(text)) => {
-                if is_text_of(text.as_slice(), form) {
-                    Some(false)
-                } else {
-                    Some(true)
-                }
-            }
+            Entry::Assigned(Scalar::Ascii(text)) => Some(!is_text_of(text.as_slice(), form)),
             Entry::Empty => Some(true),
             Entry::Assigned(_) | Entry::Undefined => None,
         },

@@ -139,10 +139,7 @@ fn judge_default(instr: &FieldPart, entry: &Entry, parts: Parts) -> Option<bool>
 {
     match &instr.initial {
         None => Some(true),
-        Some(initial) => match parts_of(initial.value()) {
-            Some(given) => Some(given != parts),
-            None => None,
-        },
+        Some(initial) => Some(parts_of(initial.value())? != parts),
     }
 }
 

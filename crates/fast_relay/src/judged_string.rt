@@ -37,16 +37,10 @@ fn judge_plain(alloc: Global, instr: &FieldPart, entry: &mut Entry, form: &[u8])
     ensures gives { IfSome result (λ bit. TextGives bit instr.now entry.old entry.new form.now) }
     ensures entry { IfNone result (entry.new ≡ entry.old) }
 {
-    match text_bit(instr, entry, form) {
-        Some(true) => {
-            if keep_plain(alloc, instr.operator, entry, form) {
-                Some(true)
-            } else {
-                None
-            }
-        }
-        Some(false) => Some(false),
-        None => None,
+    if text_bit(instr, entry, form)? {
+        keep_plain(alloc, instr.operator, entry, form).then_some(true)
+    } else {
+        Some(false)
     }
 }
 
@@ -169,16 +163,9 @@ fn judge_end(alloc: Global, instr: &FieldPart, text: &mut ByteString, form: &[u8
     }
     let kept = base.len() - form.len();
     if agrees_no_further(base, kept, form) {
-        if put_characters(alloc, text, kept, form) {
-            return Some(true);
-        }
-        return None;
+        return put_characters(alloc, text, kept, form).then_some(true);
     }
-    if is_text_of(&base[kept..], form) {
-        Some(false)
-    } else {
-        None
-    }
+    is_text_of(&base[kept..], form).then_some(false)
 }
 
 /// Judges a new end of the string that the entry has, or one that it has already, which bit 0 gives. (A call of its own, so

@@ -75,16 +75,10 @@ fn judge_whole(alloc: Global, instr: &FieldPart, entry: &mut Entry, part: &[u8])
     if !are_text(instr.kind, part) {
         return None;
     }
-    match units_bit(instr, entry, part) {
-        Some(true) => {
-            if keep_bytes(alloc, instr.kind, instr.operator, entry, part) {
-                Some(true)
-            } else {
-                None
-            }
-        }
-        Some(false) => Some(false),
-        None => None,
+    if units_bit(instr, entry, part)? {
+        keep_bytes(alloc, instr.kind, instr.operator, entry, part).then_some(true)
+    } else {
+        Some(false)
     }
 }
 
@@ -112,11 +106,7 @@ fn judge_end(alloc: Global, instr: &FieldPart, value: &mut Scalar, part: &[u8]) 
     if !are_text(instr.kind, part) || !may_end(instr.kind, base, kept) {
         return None;
     }
-    if put_part(alloc, instr.kind, value, kept, part) {
-        Some(true)
-    } else {
-        None
-    }
+    put_part(alloc, instr.kind, value, kept, part).then_some(true)
 }
 
 /// The same of a new end of an empty entry: it is the whole value.
@@ -202,11 +192,7 @@ fn judge_vector_delta(
     if part.len() > UNIT_LIMIT - kept {
         return None;
     }
-    if put_part(alloc, instr.kind, value, kept, part) {
-        Some(next)
-    } else {
-        None
-    }
+    put_part(alloc, instr.kind, value, kept, part).then_some(next)
 }
 
 /// Judges a difference from the string or vector that the entry has.

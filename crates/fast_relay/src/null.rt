@@ -45,32 +45,21 @@ pub(crate) fn judge_null(
     requires { at ≤ length bytes.now }
     ensures { MatchOption result (entry.new ≡ entry.old) (λ best. HasBest instr.now entry.old entry.new bytes.now at best) }
 {
-    match instr.presence {
-        Presence::Mandatory => None,
-        Presence::Optional => {
-            if !begins_with_null(bytes, at) {
-                return None;
-            }
-            match absent_bit(instr, entry) {
-                Some(true) => {
-                    keep_absent(instr.operator, entry);
-                    Some(Best {
-                        there: false,
-                        bit: true,
-                        removal: None,
-                        first: at,
-                        next: at + 1,
-                    })
-                }
-                Some(false) => Some(Best {
-                    there: false,
-                    bit: false,
-                    removal: None,
-                    first: at + 1,
-                    next: at + 1,
-                }),
-                None => None,
-            }
-        }
+    if instr.presence == Presence::Mandatory || !begins_with_null(bytes, at) {
+        return None;
     }
+    let bit = absent_bit(instr, entry)?;
+    let first = if bit {
+        keep_absent(instr.operator, entry);
+        at
+    } else {
+        at + 1
+    };
+    Some(Best {
+        there: false,
+        bit,
+        removal: None,
+        first,
+        next: at + 1,
+    })
 }

@@ -68,10 +68,8 @@ fn read_long_removal(presence: Presence, bytes: &[u8], at: usize) -> Option<(usi
         (pos x.0) (drop x.1 bytes.now)) }
 {
     let (removal, next) = read_number(false, presence, bytes, at)?;
-    match few_bytes(i128::from(removal)) {
-        Some(removed) if removed < usize::from(FEW) => Some((removed, next)),
-        _ => None,
-    }
+    let removed = few_bytes(i128::from(removal))?;
+    (removed < usize::from(FEW)).then_some((removed, next))
 }
 
 /// How many units a subtraction length removes at the end, if they are few, in any form, and the place behind it.
@@ -104,10 +102,8 @@ fn read_removal_behind(presence: Presence, bytes: &[u8], at: usize) -> Option<(u
     ensures stands { IfSome result (λ x. StandsFrom false presence bytes.now at x.1 x.2 (pos x.0)) }
 {
     let (removed, first, next) = read_behind(false, presence, bytes, at)?;
-    match few_bytes(i128::from(removed)) {
-        Some(count) if count < usize::from(FEW) => Some((count, first, next)),
-        _ => None,
-    }
+    let count = few_bytes(i128::from(removed))?;
+    (count < usize::from(FEW)).then_some((count, first, next))
 }
 
 /// The same where its shortest form stands here, or behind one needless group or two.
@@ -144,10 +140,7 @@ pub(crate) fn read_length_behind(
     ensures stands { IfSome result (λ x. StandsFrom true presence bytes.now at x.1 x.2 (pos x.0)) }
 {
     let (length, first, start) = read_behind(true, presence, bytes, at)?;
-    match few_bytes(i128::from(length)) {
-        Some(count) => Some((count, first, start)),
-        None => None,
-    }
+    Some((few_bytes(i128::from(length))?, first, start))
 }
 
 /// The same as `read_length`, of a length of more bytes.
@@ -159,10 +152,7 @@ fn read_long_length(presence: Presence, bytes: &[u8], at: usize) -> Option<(usiz
     ensures stands { IfSome result (λ x. StandsAt true presence bytes.now at x.1 (pos x.0)) }
 {
     let (length, start) = read_shortest(true, presence, bytes, at)?;
-    match few_bytes(i128::from(length)) {
-        Some(count) => Some((count, start)),
-        None => None,
-    }
+    Some((few_bytes(i128::from(length))?, start))
 }
 
 /// A length that stands in its shortest form and is not too large, and the place behind it.

@@ -12,12 +12,12 @@ ghost use Rattle.fast_relay.specs.Numbers.{SpellsWhole};
 ghost use Rattle.fast_field.specs.Planning.{left_out_of};
 
 use crate::copied::{FEW, copy_few_over, copy_over};
+use crate::vectors::put_bytes;
 use fast_dictionary::Entry;
 use fast_field::begins_otherwise;
 use fast_template::{ByteString, FieldPart, Operator, Scalar};
 use fast_wire::is_text_of;
 use std::alloc::Global;
-use std::mem;
 
 /// Puts the characters of an entity behind so many characters of a text, in place of the others, where these are not as
 /// many. Answers as `put_characters`.
@@ -28,22 +28,13 @@ fn put_anew(alloc: Global, text: &mut ByteString, kept: usize, form: &[u8]) -> b
     ensures put { result ≡ true → text.new ≡ take kept text.old ++ groups form.now }
     ensures unchanged { result ≡ false → text.new ≡ text.old }
 {
-    let empty = ByteString::from_vec(Vec::new(alloc));
-    let mut characters = mem::replace(text, empty).into_vec();
-    match characters.reserve(form.len()) {
-        Err(_) => {
-            *text = ByteString::from_vec(characters);
-            false
-        }
-        Ok(()) => {
-            characters.truncate(kept);
-            characters.extend_from_slice(form).unwrap();
-            let last = characters.len() - 1;
-            characters[last] %= 128;
-            *text = ByteString::from_vec(characters);
-            true
-        }
+    if !put_bytes(alloc, text, kept, form) {
+        return false;
     }
+    let characters = text.as_mut_slice();
+    let last = characters.len() - 1;
+    characters[last] %= 128;
+    true
 }
 
 /// Puts the characters of an entity in the place of the last ones of a text, which are as many.
@@ -98,11 +89,7 @@ fn make_string(alloc: Global, form: &[u8]) -> Option<ByteString>
     ensures { IfSome result (λ text. text ≡ groups form.now) }
 {
     let mut text = ByteString::from_vec(Vec::new(alloc));
-    if put_characters(alloc, &mut text, 0, form) {
-        Some(text)
-    } else {
-        None
-    }
+    put_characters(alloc, &mut text, 0, form).then_some(text)
 }
 
 /// Makes an entry the one that the string leaves which bytes spell whole; answers false, and leaves it as it was,

@@ -41,10 +41,10 @@ fn respell_delta(
     let cut = read_cut(instr, base, bytes, at)?;
     let form = &bytes[cut.first..cut.next];
     let kept = base.len() - cut.removed;
-    if !agrees_no_further(base, kept, form) || !is_cut_at_end(base, kept, form) {
-        return None;
-    }
-    if !put_characters(alloc, text, kept, form) {
+    if !agrees_no_further(base, kept, form)
+        || !is_cut_at_end(base, kept, form)
+        || !put_characters(alloc, text, kept, form)
+    {
         return None;
     }
     Some(Best {

@@ -33,11 +33,7 @@ fn take_whole(
     ensures { TakesKept instr.now bytes.now at result entry.old entry.new }
 {
     let (first, next) = find_plain(bytes, at)?;
-    if keep_plain(alloc, Operator::Copy, entry, &bytes[first..next]) {
-        Some(next)
-    } else {
-        None
-    }
+    keep_plain(alloc, Operator::Copy, entry, &bytes[first..next]).then_some(next)
 }
 
 /// Takes a removal of few characters at the end of the text that the entry has, and a new part.
@@ -58,11 +54,7 @@ fn take_cut(
     let base = text.as_slice();
     let cut = read_cut(instr, base, bytes, at)?;
     let kept = base.len() - cut.removed;
-    if put_characters(alloc, text, kept, &bytes[cut.first..cut.next]) {
-        Some(cut.next)
-    } else {
-        None
-    }
+    put_characters(alloc, text, kept, &bytes[cut.first..cut.next]).then_some(cut.next)
 }
 
 /// Takes a new end of the text that the entry has.
@@ -87,11 +79,7 @@ fn take_tail(
     let (first, next) = find_tail(instr, base, bytes, at)?;
     let form = &bytes[first..next];
     let kept = base.len() - form.len();
-    if put_characters(alloc, text, kept, form) {
-        Some(next)
-    } else {
-        None
-    }
+    put_characters(alloc, text, kept, form).then_some(next)
 }
 
 /// Reads an ASCII string under bit 1 into the entry, which has it then, and answers the place after it. None: nothing has
@@ -138,11 +126,7 @@ fn put_aside(
     ensures text { IfNone result (text.new ≡ text.old) }
 {
     let (first, next) = find_plain(bytes, at)?;
-    if put_characters(alloc, text, 0, &bytes[first..next]) {
-        Some(next)
-    } else {
-        None
-    }
+    put_characters(alloc, text, 0, &bytes[first..next]).then_some(next)
 }
 
 /// Reads an ASCII string under bit 1 that its entry does not keep into another value, in whose place it is put, and answers
@@ -160,11 +144,7 @@ pub fn take_aside(
     ensures value { IfNone result (value.new ≡ value.old) }
 {
     match (instr.kind, instr.part, instr.operator) {
-        (Kind::Ascii, Part::Whole, Operator::Plain) => match value {
-            Scalar::Ascii(text) => put_aside(alloc, instr, text, bytes, at),
-            _ => None,
-        },
-        (Kind::Ascii, Part::Whole, Operator::Default) => match value {
+        (Kind::Ascii, Part::Whole, Operator::Plain | Operator::Default) => match value {
             Scalar::Ascii(text) => put_aside(alloc, instr, text, bytes, at),
             _ => None,
         },

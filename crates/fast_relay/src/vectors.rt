@@ -88,7 +88,7 @@ fn put_behind(units: &mut Vec<u8>, kept: usize, part: &[u8]) -> bool
 
 /// The same of a byte vector.
 #[inline(always)]
-fn put_bytes(alloc: Global, bytes: &mut ByteString, kept: usize, part: &[u8]) -> bool
+pub(crate) fn put_bytes(alloc: Global, bytes: &mut ByteString, kept: usize, part: &[u8]) -> bool
     requires { kept ≤ length bytes.now }
     ensures put { result ≡ true → bytes.new ≡ take kept bytes.old ++ part.now }
     ensures unchanged { result ≡ false → bytes.new ≡ bytes.old }

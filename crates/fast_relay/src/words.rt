@@ -40,29 +40,8 @@ fn plain_end_by_call(bytes: &[u8], at: usize) -> Option<usize>
     plain_ascii_end(bytes, at)
 }
 
-/// Where the ASCII string that begins at a place ends, if its bytes are the shortest form of it, with NULL and without.
-#[inline(always)]
-pub(crate) fn plain_end(bytes: &[u8], at: usize) -> Option<usize>
-    requires { at ≤ length bytes.now }
-    ensures place { IfSome result (λ next. (at < next) × (next ≤ length bytes.now)) }
-    ensures plain { IfSome result (λ next. IsPlain (drop at bytes.now)
-        (slice_range bytes.now at next) (drop next bytes.now)) }
-{
-    if bytes.len() - at < LANES {
-        return plain_end_by_call(bytes, at);
-    }
-    let run = stop_free_run(bytes, at);
-    if run == LANES {
-        return plain_end_by_call(bytes, at);
-    }
-    if bytes[at] % 128 == 0 {
-        None
-    } else {
-        Some(at + run + 1)
-    }
-}
-
-/// The same of a string that ends within sixteen bytes which are there; none of another one.
+/// Where the ASCII string that begins at a place ends within sixteen bytes which are there, if its bytes are the shortest form
+/// of it, with NULL and without; none of another one.
 #[inline(always)]
 pub(crate) fn short_plain_end(bytes: &[u8], at: usize) -> Option<usize>
     requires { at ≤ length bytes.now }
@@ -81,5 +60,19 @@ pub(crate) fn short_plain_end(bytes: &[u8], at: usize) -> Option<usize>
         None
     } else {
         Some(at + run + 1)
+    }
+}
+
+/// The same of a string of any length.
+#[inline(always)]
+pub(crate) fn plain_end(bytes: &[u8], at: usize) -> Option<usize>
+    requires { at ≤ length bytes.now }
+    ensures place { IfSome result (λ next. (at < next) × (next ≤ length bytes.now)) }
+    ensures plain { IfSome result (λ next. IsPlain (drop at bytes.now)
+        (slice_range bytes.now at next) (drop next bytes.now)) }
+{
+    match short_plain_end(bytes, at) {
+        Some(next) => Some(next),
+        None => plain_end_by_call(bytes, at),
     }
 }

@@ -26,7 +26,7 @@ one_true false y e = inr e
 
 -- ---- integers
 
-without_zero : (b : ℕ) (cs : List ℕ) → nat_eq (b % 128) 0 ≡ true → unsigned_of (b ∷ cs) ≡ unsigned_of cs
+pub without_zero : (b : ℕ) (cs : List ℕ) → nat_eq (b % 128) 0 ≡ true → unsigned_of (b ∷ cs) ≡ unsigned_of cs
 without_zero b cs e = let z : b % 128 ≡ 0 = grind arith in rw z (omega arith)
 
 unsigned_short : (b : List ℕ) (v : ℕ) → IsShortest IsUnsigned b v → overlong_unsigned b ≡ false
@@ -38,7 +38,7 @@ unsigned_short (b ∷ c ∷ bs) v h = not_so (nat_eq (b % 128) 0) (λ e. no_shor
 less_by : (u w n : ℕ) → w ≡ n * 128 → pos (127 * n + u) -ℤ pos w ≡ pos u -ℤ pos n
 less_by u w n e = omega (arith, ints)
 
-without_sign : (b c : ℕ) (bs : List ℕ) → repeats_sign (groups (b ∷ c ∷ bs)) ≡ true → signed_of (b ∷ c ∷ bs) ≡ signed_of (c ∷ bs)
+pub without_sign : (b c : ℕ) (bs : List ℕ) → repeats_sign (groups (b ∷ c ∷ bs)) ≡ true → signed_of (b ∷ c ∷ bs) ≡ signed_of (c ∷ bs)
 without_sign b c bs e = elim (one_true (nat_eq (b % 128) 0 && nat_lt (c % 128) 64) (nat_eq (b % 128) 127 && nat_le 64 (c % 128)) e) [
   | inl zeros ↦
       let both = both_true (nat_eq (b % 128) 0) (nat_lt (c % 128) 64) zeros in

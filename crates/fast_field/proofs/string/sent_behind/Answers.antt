@@ -1,11 +1,8 @@
-use Rattle.fast_field.proofs.Common.{◌≡◌, ◌+◌, ◌++◌, length, arith, length-append, err_from_is_err_and, units_sent}
+use Rattle.fast_field.proofs.Common.{refl, err_from_is_err_and, units_sent}
 use Rattle.fast_field.proofs.PutTogether.{no_room, sent_length}
 use Rattle.fast_field.proofs.string.sent_behind.Goals as goal
 
 pub returns-in_err-units : goal.returns-in_err-units
 returns-in_err-units c =
     let p = err_from_is_err_and c.from_residual.result c.from_residual.ensures.1 in
-    let front = c.args.front.now in
-    let sent = c.args.sent.now in
-    let all : length (front ++ units_sent c.args.kind sent) ≡ length front + length sent = omega (arith, length-append front (units_sent c.args.kind sent), sent_length c.args.kind sent) in
-    rw (p.1, p.2) (no_room _ c.args.kind _ _ all c.in_err-units.ensures.err)
+    rw (p.1, p.2) (no_room _ c.args.kind c.args.front.now (units_sent c.args.kind c.args.sent.now) _ _ refl (sent_length c.args.kind c.args.sent.now) c.in_err-units.ensures.err)

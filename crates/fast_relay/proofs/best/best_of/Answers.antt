@@ -12,4 +12,4 @@ pub returns-in-BehindTwo-clause-best : goal.returns-in-BehindTwo-clause-best
 returns-in-BehindTwo-clause-best c = λ i old new j. rw (c.sent-in-BehindTwo.ensures) (sent_best (c.args.at + 2) c.in-BehindTwo.next (omega arith) (rw (c.in-BehindTwo.is) at j))
 
 pub returns-in-Given-clause-best : goal.returns-in-Given-clause-best
-returns-in-Given-clause-best c = λ i old new j. given_best c.in-Given.next (rw (c.in-Given.is) at j)
+returns-in-Given-clause-best c = λ i old new j. rw (c.sent-in-Given.ensures) (given_best c.in-Given.next (rw (c.in-Given.is) at j))

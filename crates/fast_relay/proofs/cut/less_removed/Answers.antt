@@ -2,8 +2,8 @@ use Rattle.fast_relay.proofs.Common.{◌≡◌, ◌≤◌, ◌+◌, ◌-◌, len
 use Rattle.fast_relay.proofs.PlainTexts.{agree, cut_less, slice_length}
 use Rattle.fast_relay.proofs.cut.less_removed.Goals as goal
 
-pub returns-then-next-cut-clause-same : goal.returns-then-next-cut-clause-same
-returns-then-next-cut-clause-same c = λ i b h.
+pub returns-in-Some-clause-same : goal.returns-in-Some-clause-same
+returns-in-Some-clause-same c = λ i b h.
     let base = c.args.base.now in
     let bytes = c.args.bytes.now in
     let r = c.args.cut.removed in

@@ -1,8 +1,5 @@
-use Rattle.fast_relay.proofs.Giving.{empty, no_initial}
+use Rattle.fast_relay.proofs.Giving.{empty}
 use Rattle.fast_relay.proofs.given.absent_bit.Goals as goal
 
 pub returns-in-Empty-clause-bit : goal.returns-in-Empty-clause-bit
 returns-in-Empty-clause-bit c = rw c.in-Empty.is (empty c.args.instr.now c.in-Copy.is c.requires.presence)
-
-pub returns-in-None-clause-bit : goal.returns-in-None-clause-bit
-returns-in-None-clause-bit c = no_initial c.args.instr.now c.args.entry.now c.in-Default.is c.in-None.is c.requires.presence
