@@ -57,34 +57,6 @@ fn number_in(value: Option<&Scalar>) -> Option<u32>
     }
 }
 
-// Reads a part, and appends the best form of the number that it is; answers the number, the bit of its best form and the
-// place behind what was read.
-#[inline(never)]
-fn count_generally(
-    alloc: Global,
-    part: &FieldPart,
-    entry: &mut Entry,
-    bit: bool,
-    level: Level,
-    bytes: &[u8],
-    at: usize,
-    out: &mut Vec<u8>,
-) -> Result<(Option<u32>, bool, usize), FieldFault>
-    requires place { at ≤ length bytes.now }
-    requires bit { part_needs_bit_of part.now ≡ false → bit ≡ true }
-    requires part { IsFieldPart part.now }
-    requires entry { HoldsScalar entry.old }
-    requires kind { part.now.kind ≡ UInt32 }
-    ensures { MatchResult result
-        (λ x. RelaysEntry level part.now entry.old entry.new bit x.1 (length_of x.0) bytes.now at x.2
-        out.old.items out.new.items)
-        (StopsEntry level part.now entry.old entry.new bit (drop at bytes.now) out.old.items out.new.items) }
-{
-    let (found, best, next) = relay_entry(alloc, part, entry, bit, level, bytes, at, out)?;
-    let number = number_in(found.value(part, entry.view()));
-    Ok((number, best, next))
-}
-
 /// Reads a part that is a number without sign of 32 bits, and appends the best form of its value to a segment; answers
 /// the number, none where it is absent, and the place behind what was read.
 #[inline(never)]
@@ -111,27 +83,10 @@ pub(crate) fn relay_count<E: Entries>(
 {
     let entry = entries.entry_mut(&part.key)?;
     let out = &mut segment.bytes.out;
-    let (count, best, next) = count_generally(alloc, part, entry, bit, level, bytes, at, out)?;
+    let (found, best, next) = relay_entry(alloc, part, entry, bit, level, bytes, at, out)?;
+    let count = number_in(found.value(part, entry.view()));
     segment.ask(part_needs_bit(part), best)?;
     Ok((count, next))
-}
-
-// Takes the number that bit 0 repeats under a key, or that there is none. None: nothing has changed, and the part goes another
-// way.
-#[inline(always)]
-fn repeat_kept<E: Entries>(
-    entries: &mut E,
-    part: &FieldPart,
-) -> Result<Option<Option<u32>>, AllocError>
-    requires served { IsTrue (E.serves entries.now part.now.key) }
-    ensures repeats { IfOk result (λ repeated. MatchOption repeated (E.contents entries.new ≡ E.contents entries.old)
-        (λ count. (new : EntryOf)
-        × Passes part.now (entry_at (E.contents entries.old) part.now.key) new (length_of count)
-        × (E.contents entries.new ≡ set_entry (E.contents entries.old) part.now.key new))) }
-    ensures same_keys { E.serves entries.new ≡ E.serves entries.old }
-{
-    let entry = entries.entry_mut(&part.key)?;
-    Ok(repeat_count(part, entry))
 }
 
 /// The same of the identifier of a template. Most are the one before, so that no byte is read.
@@ -156,11 +111,17 @@ pub(crate) fn relay_identifier<E: Entries>(
         bytes.now at (level_of segment.old) (level_of segment.new) result }
     ensures same_keys { E.serves entries.new ≡ E.serves entries.old }
 {
-    if !bit && let Some(count) = repeat_kept(entries, part)? {
-        segment.ask(part_needs_bit(part), false)?;
-        return Ok((count, at));
+    if bit {
+        return relay_count(alloc, entries, part, bit, level, bytes, at, segment);
     }
-    relay_count(alloc, entries, part, bit, level, bytes, at, segment)
+    let entry = entries.entry_mut(&part.key)?;
+    match repeat_count(part, entry) {
+        None => relay_count(alloc, entries, part, bit, level, bytes, at, segment),
+        Some(count) => {
+            segment.ask(part_needs_bit(part), false)?;
+            Ok((count, at))
+        }
+    }
 }
 
 /// The same of the length of a sequence. Most stand in one byte and are kept nowhere, so that no entry is asked for.

@@ -118,15 +118,9 @@ impl Receiver for Writer {
     ) -> Result<(u32, usize), FieldFault> {
         self.outer.clear();
         self.inner.begin(true);
+        let inner = &mut self.inner;
         let (id, next) = relay_identifier(
-            alloc,
-            entries,
-            identifier,
-            bit,
-            level,
-            bytes,
-            at,
-            &mut self.inner,
+            alloc, entries, identifier, bit, level, bytes, at, inner,
         )?;
         match id {
             Some(id) => Ok((id, next)),
@@ -160,16 +154,8 @@ impl Receiver for Writer {
         bytes: &[u8],
         at: usize,
     ) -> Result<usize, FieldFault> {
-        let (_there, next) = relay_part(
-            alloc,
-            entries,
-            part,
-            bit,
-            level,
-            bytes,
-            at,
-            &mut self.inner,
-        )?;
+        let inner = &mut self.inner;
+        let (_there, next) = relay_part(alloc, entries, part, bit, level, bytes, at, inner)?;
         Ok(next)
     }
 
@@ -223,16 +209,8 @@ impl Receiver for Writer {
         bytes: &[u8],
         at: usize,
     ) -> Result<usize, FieldFault> {
-        let (_there, next) = relay_part(
-            alloc,
-            entries,
-            part,
-            bit,
-            level,
-            bytes,
-            at,
-            &mut self.inner,
-        )?;
+        let inner = &mut self.inner;
+        let (_there, next) = relay_part(alloc, entries, part, bit, level, bytes, at, inner)?;
         Ok(next)
     }
 
