@@ -20,12 +20,6 @@ extends_more a b c x y = record {
 pub appended_more : (a b c s t : List ℕ) → b ≡ a ++ s → c ≡ b ++ t → c ≡ a ++ (s ++ t)
 appended_more a b c s t e f = f ∙ ap (λ l. l ++ t) e ∙ append_assoc a s t
 
--- ---- texts that are always there
-
-pub writes_stop : (t s a b c : List ℕ) (r : Result Unit AllocError) → IsErr r → b ≡ a ++ s → Extends b c → Writes t r a c
-writes_stop t s a b c (Ok u) e was more = absurd (true≢false (sym e))
-writes_stop t s a b c (Err f) e was more = extends_more a b c (extends_by a b s was) more
-
 -- ---- a string
 
 plain_unit : (form : Form) (c : ℕ) → is_plain c ≡ true → unit_text form c ≡ c ∷ []

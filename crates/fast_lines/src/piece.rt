@@ -47,6 +47,15 @@ impl Piece {
         Piece { bytes: [0; 96] }
     }
 
+    /// What is laid out, of a piece that begins here.
+    #[inline(always)]
+    pub(crate) fn as_slice(&self, start: usize) -> &[u8]
+        requires { start ≤ 64 }
+        ensures { result.now ≡ laid self.now.bytes start }
+    {
+        &self.bytes[start..Piece::END]
+    }
+
     /// Lays a byte in front; answers where the piece begins then.
     #[inline(always)]
     pub fn lay_byte(&mut self, start: usize, byte: u8) -> usize

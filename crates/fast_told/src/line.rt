@@ -2,9 +2,8 @@
 
 ghost use Rattle.std.specs.Prelude.{◌≤◌, length};
 
-use crate::units::{UNITS, lay_units};
 use fast_gaps::{Gaps, Rest};
-use fast_lines::{Page, Piece, Signs, all_stand, lay_scalar, push_scalar};
+use fast_lines::{Page, Piece, Signs, UNITS, all_stand, lay_scalar, lay_units, push_scalar};
 use fast_template::{ByteString, FieldPart, Name, Scalar};
 use std::alloc::{AllocError, Global};
 use std::mem;

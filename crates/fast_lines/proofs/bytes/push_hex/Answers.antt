@@ -10,7 +10,7 @@ pub loop-byte-preserved : goal.loop-byte-preserved
 loop-byte-preserved c =
     let before = encode_lower (take c.loop-byte.byte-index c.args.bytes.now) in
     let one = encode_lower (get_or c.args.bytes.now c.loop-byte.byte-index 0 ∷ []) in
-    c.in_ok-push_hex_pair.ensures
+    (rw (c.hex_pair.ensures) at c.in_ok-push.ensures)
     ∙ ap (λ l. l ++ one) c.loop-byte.invariant
     ∙ append_assoc c.args.out.now.items before one
     ∙ ap (λ l. c.args.out.now.items ++ l) (sym (encode_one c.args.bytes.now c.loop-byte.byte-index 0 c.loop-byte-test.true))
