@@ -66,7 +66,7 @@ has_length {form} {l = l} {o = o} {name} {number} {presence} {p} {members} {is} 
 pub has_left_out : {form : Form} {out : List ℕ} {own : TemplateList} {z : ℤ} {l k : Line} {o : Received} {name : List ℕ} {number : ℕ} {presence : Presence} {members is : Instructions}
     → o.next ≡ at_instruction → o.body.rest ≡ then_instruction (group_of name number presence members) is → is_optional presence ≡ true → Said form name (absent_text form Optional) l k
     → HasTold form out own z l o → HasTold form out own z k (passed o is (single None))
-has_left_out {name = name} {number} {Optional} {members} next first optional s = has_said (group_of name number Optional members) (single None) next first refl s
+has_left_out {name = name} {number} {presence = Optional} {members} next first optional s = has_said (group_of name number Optional members) (single None) next first refl s
 has_left_out next first optional s = absurd cc
 
 -- in a segment that has just begun
