@@ -63,13 +63,9 @@ encode_pair b = refl
 
 -- ---- texts that may not be there
 
--- what is made of a text that is not there is not there
-none_of : (g : List ℕ → List ℕ) (t : Option (List ℕ)) → t ≡ None → option_map g t ≡ None
-none_of g t e = ap (option_map g) e
-
 pub shows_err : (g : List ℕ → List ℕ) (t : Option (List ℕ)) (a b c : List ℕ) (f : ShowFault) → Extends a b → Shows t (Err f) b c → Shows (option_map g t) (Err f) a c
 shows_err g t a b c Memory x w = extends_more a b c x w
-shows_err g t a b c Mismatch x w = (none_of g t w.0, extends_more a b c x w.1)
+shows_err g t a b c Mismatch x w = (ap (option_map g) w.0, extends_more a b c x w.1)
 
 -- a text in front
 pub shows_behind : (s : List ℕ) (t : Option (List ℕ)) (a b c : List ℕ) (r : Result Unit ShowFault) → b ≡ a ++ s → Shows t r b c → Shows (option_map (λ x. s ++ x) t) r a c

@@ -147,6 +147,7 @@ impl Piece {
     }
 
     /// Lays two hex digits of each byte in front; none where there are many, or too little room for them and a byte more.
+    #[tactic(auto, using(crate::proofs::Written::hex_more))]
     #[inline(always)]
     pub(crate) fn lay_hex(&mut self, start: usize, bytes: &[u8]) -> Option<usize>
         requires { start ≤ 64 }

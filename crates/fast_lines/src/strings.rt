@@ -100,6 +100,7 @@ pub fn lay_units<S: Escape>(escape: S, text: &[u8], piece: &mut Piece) -> usize
 }
 
 /// Appends a string without its quotes, piece by piece.
+#[tactic(auto, using(crate::proofs::Written::appended_more, crate::proofs::Written::flat_map_piece))]
 fn push_units<S: Escape>(escape: S, text: &[u8], out: &mut Vec<u8>) -> Result<(), AllocError>
     ensures { Writes (flat_map (unit_text S.form) text.now) result out.old.items out.new.items }
 {
