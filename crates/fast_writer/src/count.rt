@@ -1,29 +1,24 @@
 //! The identifier of a template or the length of a sequence, read and written at once: a part whose number is wanted.
 
-ghost use Rattle.std.specs.Prelude.{◌≡◌, ◌≤◌, IfOk, IfSome, MatchOption, MatchResult, IsTrue, length, drop, false, true};
+ghost use Rattle.std.specs.Prelude.{◌≡◌, ◌≤◌, IfSome, MatchOption, IsTrue, length, false, true};
 ghost use Rattle.fast_template.specs.Resolved.{part_needs_bit as part_needs_bit_of};
-ghost use Rattle.fast_dictionary.specs.Dictionary.{entry_at, set_entry};
-ghost use Rattle.fast_dictionary.specs.declared.entry.Entry.{Entry as EntryOf};
 ghost use Rattle.std.specs.Option.{option_copied};
 ghost use Rattle.fast_value.specs.Scalar.{is_of};
 ghost use Rattle.fast_value.specs.declared.kind.Kind.TheVariants.{UInt32};
 ghost use Rattle.fast_field.specs.Parts.{IsFieldPart};
-ghost use Rattle.fast_field.specs.Within.{HoldsScalar};
 ghost use Rattle.fast_field.specs.Passed.{Passes};
 ghost use Rattle.fast_walk.specs.Received.{length_of};
-ghost use Rattle.fast_value.specs.declared.kind.Part.TheVariants.{Length};
-ghost use Rattle.fast_walk.specs.Told.{IsTold, KeepScalars};
+ghost use Rattle.fast_walk.specs.Told.{KeepScalars};
 ghost use Rattle.fast_writer.specs.Levels.{level_of};
-ghost use Rattle.fast_writer.specs.Quick.{RelaysCount, RelaysEntry, StopsEntry};
+ghost use Rattle.fast_writer.specs.Quick.{RelaysCount};
 
 use crate::relay::relay_entry;
 use crate::segment::Segment;
 use fast_dictionary::{Entries, Entry};
-use fast_field::{FieldFault, Passed, pass_left_out, reads_as_usual};
-use fast_relay::read_short_length;
+use fast_field::{FieldFault, Passed, pass_left_out};
 use fast_template::{FieldPart, Kind, Operator, Scalar, part_needs_bit};
 use fast_wire::Level;
-use std::alloc::{AllocError, Global};
+use std::alloc::Global;
 
 // Takes the number of the entry that bit 0 repeats, or that there is none. None: nothing has changed, and the part goes
 // the general way.
@@ -122,36 +117,4 @@ pub(crate) fn relay_identifier<E: Entries>(
             Ok((count, at))
         }
     }
-}
-
-/// The same of the length of a sequence. Most stand in one byte and are kept nowhere, so that no entry is asked for.
-#[inline(always)]
-pub(crate) fn relay_length<E: Entries>(
-    alloc: Global,
-    entries: &mut E,
-    part: &FieldPart,
-    bit: bool,
-    level: Level,
-    bytes: &[u8],
-    at: usize,
-    segment: &mut Segment,
-) -> Result<(Option<u32>, usize), FieldFault>
-    requires place { at ≤ length bytes.now }
-    requires bit { part_needs_bit_of part.now ≡ false → bit ≡ true }
-    requires served { IsTrue (E.serves entries.now part.now.key) }
-    requires told { IsTold Length UInt32 part.now }
-    requires kept { KeepScalars (E.contents entries.now) }
-    ensures relays { RelaysCount level part.now (E.contents entries.old) (E.contents entries.new) bit
-        bytes.now at (level_of segment.old) (level_of segment.new) result }
-    ensures same_keys { E.serves entries.new ≡ E.serves entries.old }
-{
-    if reads_as_usual(level, part, bytes, at)
-        && let Some(count) = read_short_length(part, bytes, at)
-    {
-        return match segment.bytes.out.push(bytes[at]) {
-            Err(_) => Err(FieldFault::Memory),
-            Ok(()) => Ok((count, at + 1)),
-        };
-    }
-    relay_count(alloc, entries, part, bit, level, bytes, at, segment)
 }
