@@ -1,5 +1,5 @@
 -- From the masks of bytes that are looked at in one step to the bytes that stand as they are.
-use Rattle.fast_lines.proofs.Common.{◌≡◌, ℕ, ◌+◌, ◌%◌, ◌^◌, ◌<◌, ◌≤◌, suc, [], ◌∷◌, leb, eqb, cond, Bool, true, false, List, map, length, get_or, replicate, refl, sym, ap, ◌∙◌, arith, slice_index, inl, inr, ◌⊎◌, nat_tests, zip2_splat, zip2_splat_left, bitmask_splat, length-chunk, none_from_empty_mask, list_all, is_plain, ltb, chunk, zip2, mask_l, top, w8}
+use Rattle.fast_lines.proofs.Common.{◌≡◌, ℕ, ◌+◌, ◌%◌, ◌^◌, ◌<◌, ◌≤◌, suc, [], ◌∷◌, cases_lt, eqb, cond, Bool, true, false, List, map, length, get_or, replicate, refl, sym, ap, ◌∙◌, arith, slice_index, inl, inr, ◌⊎◌, nat_tests, zip2_splat, zip2_splat_left, bitmask_splat, length-chunk, none_from_empty_mask, list_all, is_plain, ltb, chunk, zip2, mask_l, top, w8}
 
 abbrev mark : (ℕ → ℕ → Bool) → ℕ → ℕ → ℕ
 mark t a b = cond (t a b) 255 0
@@ -37,10 +37,6 @@ pub all_plain : (xs : List ℕ) → ((k : ℕ) → k < length xs → is_plain (s
 all_plain [] each = refl
 all_plain (c ∷ rest) each = rw (each 0 (omega arith)) (all_plain rest (λ k less. each (suc k) (omega (arith, less))))
 
-place : (m k : ℕ) (t : Bool) → leb m k ≡ t → (m ≤ k) ⊎ (k < m)
-place m k true e = inl (grind (arith, nat_tests))
-place m k false e = inr (grind (arith, nat_tests))
-
 -- bytes that are plain in front of one place and from another on, which is not behind it
 pub both_plain : (xs : List ℕ) (m n : ℕ) → ((k : ℕ) → k < m → is_plain (slice_index xs k) ≡ true) → ((k : ℕ) → n ≤ k → k < length xs → is_plain (slice_index xs k) ≡ true) → n ≤ m → list_all is_plain xs ≡ true
-both_plain xs m n front back meet = all_plain xs (λ k less. elim (place m k (leb m k) refl) [ inl behind ↦ back k (omega (arith, behind, meet)) less | inr before ↦ front k before ])
+both_plain xs m n front back meet = all_plain xs (λ k less. elim (cases_lt k m) [ inl before ↦ front k before | inr behind ↦ back k (omega (arith, behind, meet)) less ])

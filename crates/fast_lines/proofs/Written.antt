@@ -20,12 +20,6 @@ extends_more a b c x y = record {
 pub appended_more : (a b c s t : List ℕ) → b ≡ a ++ s → c ≡ b ++ t → c ≡ a ++ (s ++ t)
 appended_more a b c s t e f = f ∙ ap (λ l. l ++ t) e ∙ append_assoc a s t
 
--- ---- texts that are always there
-
-pub writes_stop : (t s a b c : List ℕ) (r : Result Unit AllocError) → IsErr r → b ≡ a ++ s → Extends b c → Writes t r a c
-writes_stop t s a b c (Ok u) e was more = absurd (true≢false (sym e))
-writes_stop t s a b c (Err f) e was more = extends_more a b c (extends_by a b s was) more
-
 -- ---- a string
 
 plain_unit : (form : Form) (c : ℕ) → is_plain c ≡ true → unit_text form c ≡ c ∷ []
@@ -69,13 +63,9 @@ encode_pair b = refl
 
 -- ---- texts that may not be there
 
--- what is made of a text that is not there is not there
-none_of : (g : List ℕ → List ℕ) (t : Option (List ℕ)) → t ≡ None → option_map g t ≡ None
-none_of g t e = ap (option_map g) e
-
 pub shows_err : (g : List ℕ → List ℕ) (t : Option (List ℕ)) (a b c : List ℕ) (f : ShowFault) → Extends a b → Shows t (Err f) b c → Shows (option_map g t) (Err f) a c
 shows_err g t a b c Memory x w = extends_more a b c x w
-shows_err g t a b c Mismatch x w = (none_of g t w.0, extends_more a b c x w.1)
+shows_err g t a b c Mismatch x w = (ap (option_map g) w.0, extends_more a b c x w.1)
 
 -- a text in front
 pub shows_behind : (s : List ℕ) (t : Option (List ℕ)) (a b c : List ℕ) (r : Result Unit ShowFault) → b ≡ a ++ s → Shows t r b c → Shows (option_map (λ x. s ++ x) t) r a c

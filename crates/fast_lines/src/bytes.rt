@@ -50,20 +50,12 @@ pub(crate) fn hex_pair(byte: u8) -> [u8; 2]
     ]
 }
 
-/// Appends two hex digits.
-#[inline(always)]
-pub(crate) fn push_hex_pair(byte: u8, out: &mut Vec<u8>) -> Result<(), AllocError>
-    ensures { Writes (encode_lower (byte ∷ [])) result out.old.items out.new.items }
-{
-    push(&hex_pair(byte), out)
-}
-
 /// Appends two hex digits of each byte.
 pub(crate) fn push_hex(bytes: &[u8], out: &mut Vec<u8>) -> Result<(), AllocError>
     ensures { Writes (encode_lower bytes.now) result out.old.items out.new.items }
 {
     for byte in bytes {
-        push_hex_pair(*byte, out)?;
+        push(&hex_pair(*byte), out)?;
     }
     Ok(())
 }

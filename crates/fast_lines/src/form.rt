@@ -4,7 +4,7 @@ ghost use Rattle.std.specs.Prelude.{◌≡◌, ◌++◌, ◌∷◌, [], codes};
 ghost use Rattle.hex.specs.Hex.{encode_lower};
 ghost use Rattle.fast_lines.specs.declared.form.Form.TheVariants.{Text, Json};
 
-use crate::bytes::{hex_pair, push, push_byte, push_hex, push_hex_pair, push_unsigned};
+use crate::bytes::{push, push_byte, push_hex, push_unsigned};
 use crate::piece::Piece;
 use crate::signs::{Escape, Signs};
 use crate::strings::{lay_quoted, push_quoted, stands};
@@ -27,24 +27,8 @@ pub struct TextSigns;
 #[derive(Clone, Copy)]
 pub struct JsonSigns;
 
-/// A byte as `\x` and two hex digits.
-#[inline(always)]
-fn escaped(byte: u8) -> [u8; 4]
-    ensures { result ≡ codes "\\x" ++ encode_lower (byte ∷ []) }
-{
-    let [high, low] = hex_pair(byte);
-    [b'\\', b'x', high, low]
-}
-
 impl Escape for TextSigns {
     ghost form = { Text };
-
-    fn push_unit(self, byte: u8, out: &mut Vec<u8>) -> Result<(), AllocError> {
-        if stands(byte) {
-            return push_byte(byte, out);
-        }
-        push(&escaped(byte), out)
-    }
 
     #[inline(always)]
     fn lay_unit(self, byte: u8, piece: &mut Piece, start: usize) -> usize {
@@ -123,17 +107,6 @@ impl Signs for TextSigns {
 
 impl Escape for JsonSigns {
     ghost form = { Json };
-
-    fn push_unit(self, byte: u8, out: &mut Vec<u8>) -> Result<(), AllocError> {
-        if byte < 0x20 || byte == 0x7F {
-            push(b"\\u00", out)?;
-            return push_hex_pair(byte, out);
-        }
-        if byte == b'"' || byte == b'\\' {
-            push_byte(b'\\', out)?;
-        }
-        push_byte(byte, out)
-    }
 
     #[inline(always)]
     fn lay_unit(self, byte: u8, piece: &mut Piece, start: usize) -> usize {

@@ -19,4 +19,4 @@ pub use lines::{ShowFault, lay_scalar, push_line, push_ok_line, push_scalar};
 pub use page::Page;
 pub use piece::Piece;
 pub use signs::{Escape, Signs};
-pub use strings::{all_stand, push_quoted};
+pub use strings::{UNITS, all_stand, lay_units, push_quoted};

@@ -47,6 +47,15 @@ impl Piece {
         Piece { bytes: [0; 96] }
     }
 
+    /// What is laid out, of a piece that begins here.
+    #[inline(always)]
+    pub(crate) fn as_slice(&self, start: usize) -> &[u8]
+        requires { start ≤ 64 }
+        ensures { result.now ≡ laid self.now.bytes start }
+    {
+        &self.bytes[start..Piece::END]
+    }
+
     /// Lays a byte in front; answers where the piece begins then.
     #[inline(always)]
     pub fn lay_byte(&mut self, start: usize, byte: u8) -> usize
@@ -138,6 +147,7 @@ impl Piece {
     }
 
     /// Lays two hex digits of each byte in front; none where there are many, or too little room for them and a byte more.
+    #[tactic(auto, using(crate::proofs::Written::hex_more))]
     #[inline(always)]
     pub(crate) fn lay_hex(&mut self, start: usize, bytes: &[u8]) -> Option<usize>
         requires { start ≤ 64 }

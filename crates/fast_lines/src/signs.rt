@@ -14,15 +14,7 @@ pub trait Escape: Copy {
     // Which form it is.
     ghost form: { FormOf };
 
-    /// Appends a byte of a string, as it is or escaped.
-    ///
-    /// # Errors
-    ///
-    /// An allocation was refused.
-    fn push_unit(self, byte: u8, out: &mut Vec<u8>) -> Result<(), AllocError>
-        ensures { Writes (unit_text form byte) result out.old.items out.new.items };
-
-    /// Lays the same in front of a piece that begins here, and answers where it begins then.
+    /// Lays a byte of a string, as it is or escaped, in front of a piece that begins here, and answers where it begins then.
     fn lay_unit(self, byte: u8, piece: &mut Piece, start: usize) -> usize
         requires { (6 ≤ start) × (start ≤ 64) }
         ensures place { (result ≤ start) × (start ≤ result + 6) }

@@ -12,21 +12,14 @@ use crate::signs::Escape;
 use std::alloc::AllocError;
 use std::simd::prelude::*;
 
+/// As many bytes of a string are laid out at once, each of which takes six bytes at most.
+pub const UNITS: usize = 10;
+
 /// Whether a byte stands as it is in a string of each form.
 pub(crate) fn stands(byte: u8) -> bool
     ensures { result ≡ is_plain byte }
 {
     0x20 <= byte && byte <= 0x7E && byte != b'"' && byte != b'\\'
-}
-
-#[tactic(auto, using(crate::proofs::Written::writes_stop))]
-fn push_units<S: Escape>(escape: S, text: &[u8], out: &mut Vec<u8>) -> Result<(), AllocError>
-    ensures { Writes (flat_map (unit_text S.form) text.now) result out.old.items out.new.items }
-{
-    for byte in text {
-        escape.push_unit(*byte, out)?;
-    }
-    Ok(())
 }
 
 /// Whether so many bytes from `at` on stand as they are.
@@ -90,29 +83,36 @@ pub fn all_stand(text: &[u8]) -> bool
     each_stands(text)
 }
 
-/// Appends 8 bytes of a string.
-#[tactic(auto, using(crate::proofs::Lanes::all_plain, crate::proofs::Written::plain_text))]
+/// Lays a string of few bytes without its quotes at the end of a piece, and answers where it begins then.
 #[inline(always)]
-fn push_eight<S: Escape>(escape: S, text: &[u8], out: &mut Vec<u8>) -> Result<(), AllocError>
-    requires { length text.now ≡ 8 }
-    ensures { Writes (flat_map (unit_text S.form) text.now) result out.old.items out.new.items }
+pub fn lay_units<S: Escape>(escape: S, text: &[u8], piece: &mut Piece) -> usize
+    requires { length text.now ≤ 10 }
+    ensures place { result ≤ 64 }
+    ensures laid { laid piece.new.bytes result ≡ flat_map (unit_text S.form) text.now }
 {
-    if lanes_stand::<8>(text, 0) {
-        return push(text, out);
+    let mut start = Piece::END;
+    let mut left = text.len();
+    while left > 0 {
+        left -= 1;
+        start = escape.lay_unit(text[left], piece, start);
     }
-    push_units(escape, text, out)
+    start
 }
 
-/// Appends a string without its quotes, 8 bytes in one step.
-fn push_pieces<S: Escape>(escape: S, text: &[u8], out: &mut Vec<u8>) -> Result<(), AllocError>
+/// Appends a string without its quotes, piece by piece.
+#[tactic(auto, using(crate::proofs::Written::appended_more, crate::proofs::Written::flat_map_piece))]
+fn push_units<S: Escape>(escape: S, text: &[u8], out: &mut Vec<u8>) -> Result<(), AllocError>
     ensures { Writes (flat_map (unit_text S.form) text.now) result out.old.items out.new.items }
 {
+    let mut piece = Piece::new();
     let mut at = 0;
-    while text.len() - at >= 8 {
-        push_eight(escape, &text[at..at + 8], out)?;
-        at += 8;
+    while text.len() - at >= UNITS {
+        let start = lay_units(escape, &text[at..at + UNITS], &mut piece);
+        push(piece.as_slice(start), out)?;
+        at += UNITS;
     }
-    push_units(escape, &text[at..], out)
+    let start = lay_units(escape, &text[at..], &mut piece);
+    push(piece.as_slice(start), out)
 }
 
 /// Appends a string without its quotes; mostly it stands as it is, and goes there at once.
@@ -123,7 +123,7 @@ fn push_text<S: Escape>(escape: S, text: &[u8], out: &mut Vec<u8>) -> Result<(),
     if all_stand(text) {
         return push(text, out);
     }
-    push_pieces(escape, text, out)
+    push_units(escape, text, out)
 }
 
 /// Appends a string in its quotes.

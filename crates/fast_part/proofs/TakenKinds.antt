@@ -1,5 +1,5 @@
 -- What is taken of a part is of its type, and of a mandatory one it is there.
-use Rattle.fast_part.proofs.Common.{◌≡◌, ◌<◌, ℕ, Bool, true, List, Option, Some, None, Result, Ok, Err, ap, drop, get_or, subst, ◌∙◌, IfSome, IsTrue, Level, is_of, Kind, Part, Mandatory, Scalar, FieldPart, Dictionary, entry_at, set_entry, set_entry-there, Entry, ReadsAsUsual, IsBitOf, IsKindOfPart, Takes as TakesAtOnce, Took, TookFrom, IsTold, took_of, FieldFault, told_kind, told_there}
+use Rattle.fast_part.proofs.Common.{◌≡◌, ℕ, Bool, true, List, Option, Some, None, Result, Ok, Err, ap, arith, drop, get_or, Fits, w8, ◌∙◌, IfSome, IsTrue, Level, is_of, Kind, Part, Mandatory, Scalar, FieldPart, Dictionary, entry_at, set_entry, set_entry-there, Entry, ReadsAsUsual, IsBitOf, IsKindOfPart, Takes as TakesAtOnce, Took, TookFrom, IsTold, took_of, FieldFault, told_kind, told_there}
 use Rattle.fast_part.specs.Taking.{Takes, TakesFrom}
 
 -- what is taken at once where it is read as at the usual level
@@ -12,11 +12,11 @@ pub under_key : {A : Type 0} (value : A → Option Scalar) (level : Level) (p : 
 under_key value level p bit bytes at old new d e (Ok x) is put taken = (taken.0, took_of is put taken.1.entry taken.1.value)
 under_key value level p bit bytes at old new d e (Err f) is put stops = λ other. (rw is at (stops other).0, put ∙ ap (set_entry d p.key) ((stops other).1 ∙ is) ∙ set_entry-there d p.key)
 
-module _ (level : Level) (p : FieldPart) (bit : Bool) (d e : Dictionary) (bytes : List ℕ) (at next : ℕ) (fits : (k : ℕ) → get_or bytes k 0 < 256) (asked : IsBitOf p bit) (part : Part) (kind : Kind) (k : IsKindOfPart part kind) (told : IsTold part kind p) where
-  pub kind_taken : (v : Option Scalar) → Took level p bit d e v (drop at bytes) (drop next bytes) → IfSome v (λ x. IsTrue (is_of kind x))
-  kind_taken None took = tt
-  kind_taken (Some v) took = told_kind level p bit d e bytes at next fits asked part kind v k told took
+module _ {level : Level} {p : FieldPart} {bit : Bool} {d e : Dictionary} (bytes : List ℕ) (at next : ℕ) (fits : (k : ℕ) → Fits w8 (get_or bytes k 0)) (asked : IsBitOf p bit)
+    {part : Part} {kind : Kind} (told : IsTold part kind p) (k : IsKindOfPart part kind) where
+  pub kind_taken : {v : Option Scalar} → Took level p bit d e v (drop at bytes) (drop next bytes) → IfSome v (λ x. IsTrue (is_of kind x))
+  kind_taken {v = None} took = tt
+  kind_taken {v = Some v} took = told_kind level p bit d e bytes at next (λ k. omega (arith, fits k)) asked part kind v k told took
 
-  pub there_taken : (v : Option Scalar) → p.presence ≡ Mandatory → Took level p bit d e v (drop at bytes) (drop next bytes) → v ≡ None → ⊥
-  there_taken v mandatory took none =
-      told_there level p bit d e bytes at next fits asked part kind k told mandatory (subst (λ (v : Option Scalar). Took level p bit d e v (drop at bytes) (drop next bytes)) none took)
+  pub there_taken : {v : Option Scalar} → p.presence ≡ Mandatory → Took level p bit d e v (drop at bytes) (drop next bytes) → v ≡ None → ⊥
+  there_taken mandatory took none = told_there level p bit d e bytes at next (λ k. omega (arith, fits k)) asked part kind k told mandatory (rw none at took)

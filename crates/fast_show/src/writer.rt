@@ -169,18 +169,9 @@ impl<S: Signs> Receiver for LineWriter<'_, S> {
         bytes: &[u8],
         at: usize,
     ) -> Result<usize, FieldFault> {
+        let line = &mut self.line;
         tell(
-            self.signs,
-            alloc,
-            name,
-            presence,
-            entries,
-            part,
-            bit,
-            level,
-            bytes,
-            at,
-            &mut self.line,
+            self.signs, alloc, name, presence, entries, part, bit, level, bytes, at, line,
         )
     }
 
@@ -198,18 +189,12 @@ impl<S: Signs> Receiver for LineWriter<'_, S> {
     ) -> Result<Fields<'a>, AllocError> {
         // decimals in parts, groups and sequences begin no call of the loop
         match rest.first() {
-            Some(Flat::Field { .. }) => tell_fields(
-                self.signs,
-                alloc,
-                entries,
-                rest,
-                bits,
-                spare,
-                level,
-                bytes,
-                at,
-                &mut self.line,
-            ),
+            Some(Flat::Field { .. }) => {
+                let line = &mut self.line;
+                tell_fields(
+                    self.signs, alloc, entries, rest, bits, spare, level, bytes, at, line,
+                )
+            }
             _ => Ok(Fields {
                 mantissa: None,
                 rest,
@@ -286,7 +271,6 @@ impl<S: Signs> Receiver for LineWriter<'_, S> {
         }
     }
 
-    #[tactic(auto, using(fast_told::proofs::Writing::has_left_out))]
     #[inline(always)]
     fn left_out(&mut self, name: &Name) -> Result<(), AllocError> {
         self.line.tell_absent(self.signs, name)?;

@@ -27,4 +27,4 @@ pub tells_one : {form : Form} {level : Level} {d e : Dictionary} {bits later : L
 tells_one {name} {number} {presence} {p} {is} {v} bytes l k f g next first rest spare place took map said out own z o at left here =
     let begins = left ∙ first in
     let less : f.spare - 1 ≡ g.spare = omega (arith, spare) in
-    rw (sym less, place, rest) (passes_field o name number presence is at begins (omega (arith, spare)) took map (here.0, has_said z o (whole_field name number presence p) is (single v) (is_instruction o.next at) begins refl said here.1))
+    rw (sym less, place, rest) (passes_field o name number presence is at begins (omega (arith, spare)) took map (has_said (whole_field name number presence p) (single v) (is_instruction o.next at) begins refl said here))

@@ -129,8 +129,9 @@ abbrev pub HasLines : Form → List ℕ → TemplateList → List Resolved → L
 HasLines form out own set ms = IsTold form out set ms × (set ≡ templates_in own)
 
 -- the same of the messages before, and what is written of the one that is open
-abbrev pub HasTold : Form → List ℕ → TemplateList → ℤ → Line → Received → Type 0
-HasTold form out own exponent l o = HasLines form out own o.set o.before × IsOpened form exponent l o
+pub record HasTold (form : Form) (out : List ℕ) (own : TemplateList) (exponent : ℤ) (l : Line) (o : Received) : Type 0 where
+  pub before : HasLines form out own o.set o.before
+  pub inside : IsOpened form exponent l o
 
 -- ---- what is appended
 

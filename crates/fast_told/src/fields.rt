@@ -66,18 +66,9 @@ fn tell_field<'a, S: Signs, E: Entries>(
 {
     let needs = part_needs_bit(whole);
     let bit = first_for(bits, needs);
+    let at = fields.place;
     match tell(
-        signs,
-        alloc,
-        name,
-        presence,
-        entries,
-        whole,
-        bit,
-        level,
-        bytes,
-        fields.place,
-        line,
+        signs, alloc, name, presence, entries, whole, bit, level, bytes, at, line,
     ) {
         Err(fault) => match fault {
             FieldFault::Memory => Err(AllocError),

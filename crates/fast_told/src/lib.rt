@@ -7,7 +7,6 @@
 mod fields;
 mod line;
 mod told;
-mod units;
 
 pub use fields::tell_fields;
 pub use line::Line;

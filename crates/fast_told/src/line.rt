@@ -2,9 +2,8 @@
 
 ghost use Rattle.std.specs.Prelude.{◌≤◌, length};
 
-use crate::units::{UNITS, lay_units};
 use fast_gaps::{Gaps, Rest};
-use fast_lines::{Page, Piece, Signs, all_stand, lay_scalar, push_scalar};
+use fast_lines::{Page, Piece, Signs, UNITS, all_stand, lay_scalar, lay_units, push_scalar};
 use fast_template::{ByteString, FieldPart, Name, Scalar};
 use std::alloc::{AllocError, Global};
 use std::mem;
@@ -113,6 +112,7 @@ impl Line {
     }
 
     // Appends a text.
+    #[tactic(auto, using(fast_gaps::proofs::Filled::filled_behind))]
     #[inline(always)]
     fn put(&mut self, text: &[u8]) -> Result<(), AllocError>
         ensures text { OnOk result ((form : Form) → Appends form self.old text.now self.new) }
@@ -123,6 +123,7 @@ impl Line {
     }
 
     // Appends what is no short piece.
+    #[tactic(auto, using(fast_gaps::proofs::Filled::filled_behind))]
     fn put_long(&mut self) -> Result<(), AllocError>
         ensures text { OnOk result ((form : Form) → Appends form self.old self.old.long.items self.new) }
         ensures led { self.new.led ≡ self.old.led }
@@ -159,6 +160,7 @@ impl Line {
     }
 
     // Appends the piece, which begins here.
+    #[tactic(auto, using(fast_gaps::proofs::Filled::filled_behind))]
     #[inline(always)]
     fn put_piece(&mut self, start: usize) -> Result<(), AllocError>
         requires { start ≤ 64 }
@@ -287,6 +289,7 @@ impl Line {
     }
 
     // Appends a string in its quotes.
+    #[tactic(auto, using(fast_lines::proofs::Written::appended_more))]
     fn put_quoted<S: Signs>(&mut self, signs: S, text: &[u8]) -> Result<(), AllocError>
         ensures text { OnOk result (Appends S.form self.old (quoted S.form text.now) self.new) }
         ensures led { self.new.led ≡ self.old.led }
@@ -298,6 +301,7 @@ impl Line {
     }
 
     // Appends a string without its quotes; where it stands as it is, at once.
+    #[tactic(auto, using(fast_lines::proofs::Written::plain_text))]
     #[inline(always)]
     fn put_text<S: Signs>(&mut self, signs: S, text: &[u8]) -> Result<(), AllocError>
         ensures text { OnOk result (Appends S.form self.old (flat_map (unit_text S.form) text.now) self.new) }

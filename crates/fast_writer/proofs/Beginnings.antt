@@ -29,20 +29,6 @@ integer u p b c cs short = judging u FieldFault.R6 b c cs (integer_usually_at u 
 mantissa_entity : (b c : ℕ) (cs : List ℕ) → overlong_number false (b ∷ c ∷ []) ≡ false → mantissa_entity_at Strict (b ∷ c ∷ cs) ≡ mantissa_entity_at Usual (b ∷ c ∷ cs)
 mantissa_entity b c cs short = judging false FieldFault.R6 b c cs (in_field (signed_at (b ∷ c ∷ cs))) short (mantissa_starts (b ∷ c ∷ cs))
 
--- ---- one reading and then another
-
-first : {A B : Type 0} (r s : Result A FieldFault) (k : A → Result B FieldFault) → r ≡ s → (r >>= k) ≡ (s >>= k)
-first r s k same = rw same refl
-
-after : {A B : Type 0} (r : Result A FieldFault) (k l : A → Result B FieldFault) → ((x : A) → k x ≡ l x) → (r >>= k) ≡ (r >>= l)
-after (Ok x) k l h = h x
-after (Err f) k l h = refl
-
-behind : {A : Type 0} (s u : Result (Nullable A × List ℕ) FieldFault) (z : Nullable A) (rest : List ℕ) (f g : A → List ℕ → Result (Option Scalar × List ℕ) FieldFault) → s ≡ u → u ≡ Ok (z, rest)
-    → ((a : A) → f a rest ≡ g a rest) → (s >>= λ x. unless_null x f) ≡ (u >>= λ x. unless_null x g)
-behind s u Null rest f g same is h = rw same (rw is refl)
-behind s u (Value a) rest f g same is h = rw same (rw is (h a))
-
 -- ---- the exponent of one byte
 
 exponent_ends : (p : Presence) (b : ℕ) (bs : List ℕ) → 128 ≤ b → (z : Nullable ℤ) × (integer_at Usual false p (b ∷ bs) ≡ Ok (z, bs))
@@ -57,8 +43,12 @@ exponent p b bs h = integer_as_usual false p b bs (λ is. absurd (omega (arith, 
 
 in_front : {A : Type 0} (u : Bool) (p : Presence) (bytes more : List ℕ) (k : Nullable ℤ × List ℕ → Result A FieldFault) → BeginsShort u bytes
     → (integer_at Strict u p (bytes ++ more) >>= k) ≡ (integer_at Usual u p (bytes ++ more) >>= k)
-in_front u p (b ∷ c ∷ cs) more k short = first (integer_at Strict u p (b ∷ c ∷ (cs ++ more))) (integer_at Usual u p (b ∷ c ∷ (cs ++ more))) k (integer u p b c (cs ++ more) short)
+in_front u p (b ∷ c ∷ cs) more k short = rw (integer u p b c (cs ++ more) short) refl
 in_front u p bytes more k short = absurd short
+
+by_null : {A : Type 0} (z : Nullable A) (rest : List ℕ) (f g : A → List ℕ → Result (Option Scalar × List ℕ) FieldFault) → ((a : A) → f a rest ≡ g a rest) → unless_null (z, rest) f ≡ unless_null (z, rest) g
+by_null Null rest f g h = refl
+by_null (Value a) rest f g h = h a
 
 in_pair : (p : Presence) (bytes more : List ℕ) (f g : ℤ → List ℕ → Result (Option Scalar × List ℕ) FieldFault) → BeginsShortBehind bytes
     → ((e : ℤ) (b c : ℕ) (cs : List ℕ) → overlong_number false (b ∷ c ∷ []) ≡ false → f e (b ∷ c ∷ cs) ≡ g e (b ∷ c ∷ cs))
@@ -66,17 +56,13 @@ in_pair : (p : Presence) (bytes more : List ℕ) (f g : ℤ → List ℕ → Res
 in_pair p (a ∷ b ∷ c ∷ cs) more f g h same =
     let rest = b ∷ c ∷ (cs ++ more) in
     let z = exponent_ends p a rest h.0 in
-    behind (integer_at Strict false p (a ∷ rest)) (integer_at Usual false p (a ∷ rest)) z.0 rest f g (exponent p a rest h.0) z.1 (λ e. same e b c (cs ++ more) h.1)
+    rw (exponent p a rest h.0, z.1) (by_null z.0 rest f g (λ e. same e b c (cs ++ more) h.1))
 in_pair p (a ∷ bytes) more f g h same = absurd h.1
 in_pair p [] more f g h same = absurd h
 
-mantissa : {A : Type 0} (e : ℤ) (b c : ℕ) (cs : List ℕ) (k : ℤ × List ℕ → Result A FieldFault) → overlong_number false (b ∷ c ∷ []) ≡ false
-    → (check (exponent_in_range e) FieldFault.R1 >>= λ (ok : Unit {0}). mantissa_entity_at Strict (b ∷ c ∷ cs) >>= k) ≡ (check (exponent_in_range e) FieldFault.R1 >>= λ (ok : Unit {0}). mantissa_entity_at Usual (b ∷ c ∷ cs) >>= k)
-mantissa e b c cs k short = after (check (exponent_in_range e) FieldFault.R1) _ _ (λ ok. first (mantissa_entity_at Strict (b ∷ c ∷ cs)) (mantissa_entity_at Usual (b ∷ c ∷ cs)) k (mantissa_entity b c cs short))
-
 spelled : (pt : Part) (k : Kind) (p : Presence) (bytes more : List ℕ) → BeginsNumber k (is_unsigned k) bytes → spelled_at Strict pt k p (bytes ++ more) ≡ spelled_at Usual pt k p (bytes ++ more)
 unfolding spelled_at decimal_spelled_at integer_spelled_at mantissa_behind
-spelled pt Kind.Decimal p bytes more h = in_pair p bytes more (mantissa_behind Strict) (mantissa_behind Usual) h (λ e b c cs. mantissa e b c cs _)
+spelled pt Kind.Decimal p bytes more h = in_pair p bytes more (mantissa_behind Strict) (mantissa_behind Usual) h (λ e b c cs short. rw (mantissa_entity b c cs short) refl)
 spelled pt Kind.Ascii p bytes more h = absurd h
 spelled pt Kind.Unicode p bytes more h = absurd h
 spelled pt Kind.Bytes p bytes more h = absurd h
@@ -84,7 +70,7 @@ spelled pt k p bytes more h = in_front (is_unsigned k) p bytes more _ h
 
 delta : (k : Kind) (i : FieldPart) (e : Entry) (bytes more : List ℕ) → BeginsNumber k false bytes → delta_at Strict k i e (bytes ++ more) ≡ delta_at Usual k i e (bytes ++ more)
 unfolding delta_at decimal_delta_at integer_delta_at mantissa_delta_behind
-delta Kind.Decimal i e bytes more h = in_pair i.presence bytes more _ _ h (λ d b c cs short. after (delta_base i e) _ _ (λ base. mantissa (exponent_of base +ℤ d) b c cs _ short))
+delta Kind.Decimal i e bytes more h = in_pair i.presence bytes more _ _ h (λ d b c cs short. rw (mantissa_entity b c cs short) refl)
 delta Kind.Ascii i e bytes more h = absurd h
 delta Kind.Unicode i e bytes more h = absurd h
 delta Kind.Bytes i e bytes more h = absurd h
@@ -102,7 +88,7 @@ row o i e bytes more h = spelled i.part i.kind i.presence bytes more h
 -- what is sent is a number, or what is added to one, or nothing
 pub as_usual : (i : FieldPart) (bytes : List ℕ) → BeginsField i.operator i.kind bytes → ReadsAsUsual Strict i bytes
 unfolding field_at
-as_usual i bytes h = λ e more. first (row_at Strict i.operator i e true (bytes ++ more)) (row_at Usual i.operator i e true (bytes ++ more)) _ (row i.operator i e bytes more h)
+as_usual i bytes h = λ e more. rw (row i.operator i e bytes more h) refl
 
 pub whole_begins : (o : Operator) (k : Kind) (bytes : List ℕ) → (o ≡ Operator.Plain) ⊎ ((o ≡ Operator.Default) ⊎ ((o ≡ Operator.Copy) ⊎ (o ≡ Operator.Increment))) → BeginsNumber k (is_unsigned k) bytes → BeginsField o k bytes
 whole_begins o k bytes (inl is) h = rw is h

@@ -47,18 +47,15 @@ passes_relayed {level = level} {bytes = bytes} {before = before} needs p = recor
   form = record { form = []; appended = sym (append-nil before); best = p.best; needs = λ none. absurd (let both = sym needs ∙ none in cc) };
 }
 
--- what bit 0 repeats under a key, or that it was left as it is
-pub repeated_put : (p : FieldPart) (d e : Dictionary) (old new : Entry) (r : Option (Option ℕ)) → old ≡ entry_at d p.key → e ≡ set_entry d p.key new
-    → MatchOption r (new ≡ old) (λ count. FieldPasses p old new (length_of count))
-    → MatchOption r (e ≡ d) (λ count. (x : Entry) × FieldPasses p (entry_at d p.key) x (length_of count) × (e ≡ set_entry d p.key x))
-repeated_put p d e old new None is put same = put ∙ ap (set_entry d p.key) (same ∙ is) ∙ set_entry-there d p.key
-repeated_put p d e old new (Some count) is put passes = (new, rw (is) at passes, put)
-
 -- where nothing is noted yet
 pub begun : (bytes : List ℕ) (r s : Run) (at : ℕ) → s.out.items ≡ r.out.items → s.from ≡ at → s.place ≡ at → written bytes s ≡ r.out.items
 begun bytes r s at out from place = rw (out, from, place) (settled bytes r.out.items at)
 
 -- ---- under a key
+
+-- where the entry stayed
+pub still : (p : FieldPart) {d e : Dictionary} {old new : Entry} → old ≡ entry_at d p.key → e ≡ set_entry d p.key new → new ≡ old → e ≡ d
+still p {d} is put same = put ∙ ap (set_entry d p.key) (same ∙ is) ∙ set_entry-there d p.key
 
 -- what was relayed into the entry that is put, and its bit asked for
 pub relays_under : {level : Level} {p : FieldPart} {d e : Dictionary} {old new : Entry} {bit best needed : Bool} {v : Option Scalar} {bytes : List ℕ} {at next : ℕ} {l k : Segment} {after : List ℕ}
@@ -71,10 +68,9 @@ relays_under {p = p} {bit = bit} {best = best} {v = v} {l = l} {k = k} is put ne
   room = λ around left is room. asked_room (part_needs_bit p) bit best l k left around is r.lower (rw (needs) at asked.bits) asked.own room;
 }
 
-pub stops_under : (level : Level) (p : FieldPart) (d e : Dictionary) (old new : Entry) (bit : Bool) (bytes : List ℕ) (l : Segment) (after : List ℕ) (f : FieldFault)
+pub stops_under : {level : Level} {p : FieldPart} {d e : Dictionary} {old new : Entry} {bit : Bool} {bytes : List ℕ} {l : Segment} {after : List ℕ} {f : FieldFault}
     → old ≡ entry_at d p.key → e ≡ set_entry d p.key new → StopsEntry level p old new bit bytes l.bytes after f → StopsPart level p d e bit bytes l (record { bits = l.bits; own = l.own; bytes = after }) f
-stops_under level p d e old new bit bytes l after f is put s other =
-    (rw (is) at (s.fault other), put ∙ ap (set_entry d p.key) (s.entry ∙ is) ∙ set_entry-there d p.key, rw (s.out) refl)
+stops_under {p = p} is put s other = (rw (is) at (s.fault other), still p is put s.entry, rw (s.out) refl)
 
 -- a length in one byte, whose entry stays
 pub byte_relayed : (level : Level) (i : FieldPart) (count : Option ℕ) (bytes : List ℕ) (at : ℕ) → ReadsAsUsual level i (drop at bytes) → RelaysByte i count bytes at → (e : Entry) (out : List ℕ)

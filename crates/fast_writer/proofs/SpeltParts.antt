@@ -3,18 +3,14 @@ use Rattle.fast_writer.proofs.Common.{◌≡◌, ℕ, Bool, true, false, List, [
 
 -- ---- values
 
-pub appended_kinds : (p : FieldPart) (e : Entry) (v : Option Scalar) (bit : Bool) (old new : List ℕ) → IsTyped p → AppendsForm p e v bit old new → IfSome v (λ w. IsTrue (is_of p.kind w))
-appended_kinds p e None bit old new typed a = tt
-appended_kinds p e (Some v) bit old new typed a = value_kind p typed e bit a.form v (a.best.cut, a.best.form)
+pub appended_kinds : {p : FieldPart} {e : Entry} {v : Option Scalar} {bit : Bool} {old new : List ℕ} → IsTyped p → AppendsForm p e v bit old new → IfSome v (λ w. IsTrue (is_of p.kind w))
+appended_kinds {v = None} typed a = tt
+appended_kinds {p} {e} {v = Some w} {bit} typed a = value_kind p typed e bit a.form w (a.best.cut, a.best.form)
 
 -- whether there is a value
-pub still_some : (o : Option (Bor Scalar)) → is_some o ≡ is_some (option_copied o)
-still_some None = refl
-still_some (Some v) = refl
-
-pub is_there : (k : Kind) (v : Option Scalar) (b : Bool) → b ≡ is_some v → IfSome v (λ w. IsTrue (is_of k w)) → IsThere k b v
-is_there k None b is h = rw (is) refl
-is_there k (Some v) b is h = rw (is) (v, refl, h)
+pub is_there : (k : Kind) {v : Option Scalar} (o : Option (Bor Scalar)) (b : Bool) → b ≡ is_some o → option_copied o ≡ v → IfSome v (λ w. IsTrue (is_of k w)) → IsThere k b v
+is_there k None b is same h = rw (is) (sym same)
+is_there k (Some w) b is same h = rw (is) (w.now, sym same, rw (sym same) at h)
 
 -- what an exponent and a mantissa are
 is_int32 : (w : Scalar) → IsTrue (is_of Kind.Int32 w) → (z : ℤ) × (w ≡ I32 z)
@@ -33,13 +29,13 @@ exponent_there k true v is h =
 exponent_there k false v is h = (None, h, refl)
 
 -- a mantissa has a value, which is an integer of 64 bits
-pub mantissa_taken : (p : FieldPart) (e : Entry) (there : Bool) (v : Option Scalar) (l k : Segment) → IsTold Part.Mantissa Kind.Int64 p → p.presence ≡ Mandatory
+pub mantissa_taken : {p : FieldPart} {e : Entry} {v : Option Scalar} {l k : Segment} (there : Bool) → IsTold Part.Mantissa Kind.Int64 p → p.presence ≡ Mandatory
     → IsThere p.kind there v → Spelt p e v l k → (m : ℤ) × (v ≡ Some (I64 m))
-mantissa_taken p e true v l k told mandatory is s =
+mantissa_taken true told mandatory is s =
     let w = is_int64 is.0 (rw (told.kind_is) at is.2) in
     (w.0, is.1 ∙ ap (λ (x : Scalar). Some x) w.1)
-mantissa_taken p e false v l k told mandatory is s =
-    let none = subst (λ (v : Option Scalar). Spelt p e v l k) is s in
+mantissa_taken {p} {e} false told mandatory is s =
+    let none = rw is at s in
     absurd (value_there p (told_part Part.Mantissa Kind.Int64 p refl told).typed mandatory e none.bit none.form (none.best.cut, none.best.form))
 
 -- ---- entries

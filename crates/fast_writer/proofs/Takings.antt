@@ -3,7 +3,7 @@ use Rattle.fast_writer.proofs.Common.{◌≡◌, ◌≤◌, ◌<◌, ◌-◌, �
 use Rattle.fast_writer.specs.declared.segment.Segment.{Segment as LevelNow}
 use Rattle.fast_writer.specs.declared.fields.Taken.TheVariants.{Part, Elsewhere, Refused}
 use Rattle.fast_writer.specs.Runs.{IsRun, written}
-use Rattle.fast_writer.proofs.Relays.{relays_under}
+use Rattle.fast_writer.proofs.Relays.{relays_under, still}
 use Rattle.fast_writer.proofs.SpeltParts.{exponent_there, mantissa_taken, spelt_keeps}
 use Rattle.fast_writer.proofs.Writers.{has_field, has_exponent, has_mantissa}
 
@@ -87,7 +87,7 @@ taken_under level p d e old new bits later bytes at l k (Part there) part kept i
     let r : RelaysPart level p d e (bit_for (part_needs_bit p) bits) t.value bytes at k.bytes.place (level_in bytes l) (level_in bytes k) = relays_under is put refl t.relayed t.asked in
     record { run = t.run; value = t.value; is_there = t.is_there; relayed = r; left = t.left; kept = spelt_keeps p d e t.value (level_in bytes l) (level_in bytes k) part kept r.took.entry r.spelt }
 taken_under level p d e old new bits later bytes at l k Elsewhere part kept is put s =
-    record { same = put ∙ ap (set_entry d p.key) (s.same ∙ is) ∙ set_entry-there d p.key; segment = s.segment; left = s.left; run = s.run }
+    record { same = still p is put s.same; segment = s.segment; left = s.left; run = s.run }
 taken_under level p d e old new bits later bytes at l k Refused part kept is put t = tt
 
 -- ---- fields
@@ -106,7 +106,7 @@ module _ {level : Level} {bytes : List ℕ} where
       → Took level p (bit_for (part_needs_bit p) bits) d e v (drop place bytes) (drop next bytes) → Spelt p (entry_at d p.key) v l k → later ≡ after_bit (part_needs_bit p) bits
       → Takes level bytes l d bits (record { mantissa = None; rest = then_instruction (whole_field name number presence p) is; spare = spare; place = place }) k e later (record { mantissa = None; rest = is; spare = spare - 1; place = next })
   takes_field {l} {k} {d} {e} {p = p} {v} name number presence is spare place next some took spelt map = record {
-    passes = λ out outer o at left opened. passes_field o name number presence is at left some took map (has_field out outer l k o name number presence p is d e v (is_instruction o.next at) left took.entry spelt opened);
+    passes = λ out outer o at left opened. passes_field o name number presence is at left some took map (has_field (is_instruction o.next at) left took.entry spelt opened);
   }
 
   -- the exponent of a decimal in parts
@@ -117,7 +117,7 @@ module _ {level : Level} {bytes : List ℕ} where
   takes_exponent {l} {k} {d} {e} {bits} {later} {p} None name number presence q is spare place next some took spelt map = record {
     passes = λ out outer o at left opened.
         let here = is_instruction o.next at in
-        passes_one o at_instruction (record { rest = is; done = o.body.done ++ single None ∷ [] }) refl refl (has_exponent None out outer l k o name number presence p q.now is d e here left took.entry spelt opened) (λ more. rw (map, took.entry)
+        passes_one o at_instruction (record { rest = is; done = o.body.done ++ single None ∷ [] }) refl refl (has_exponent None here left took.entry spelt opened) (λ more. rw (map, took.entry)
         (no_exponent_on level [] o.next o.body name number presence p q.now is (cursor d bits spare (drop place bytes ++ more)) (cursor d bits (spare - 1) (drop place bytes ++ more)) _ None here left refl
         (count_goes number spare d bits (drop place bytes ++ more) some)
         (part_goes level p d bits (spare - 1) (drop place bytes ++ more) (drop next bytes ++ more) None (took.value more))));
@@ -125,7 +125,7 @@ module _ {level : Level} {bytes : List ℕ} where
   takes_exponent {l} {k} {d} {e} {bits} {later} {p} (Some z) name number presence q is spare place next some took spelt map = record {
     passes = λ out outer o at left opened.
         let here = is_instruction o.next at in
-        passes_one o (at_mantissa z q.now) (record { rest = is; done = o.body.done }) refl refl (has_exponent (Some z) out outer l k o name number presence p q.now is d e here left took.entry spelt opened) (λ more. rw (map, took.entry)
+        passes_one o (at_mantissa z q.now) (record { rest = is; done = o.body.done }) refl refl (has_exponent (Some z) here left took.entry spelt opened) (λ more. rw (map, took.entry)
         (exponent_on level [] o.next o.body name number presence p q.now is (cursor d bits spare (drop place bytes ++ more)) (cursor d bits (spare - 1) (drop place bytes ++ more)) _ (exponent_of (Some z)) z here left refl
         (count_goes number spare d bits (drop place bytes ++ more) some)
         (part_goes level p d bits (spare - 1) (drop place bytes ++ more) (drop next bytes ++ more) (exponent_of (Some z)) (took.value more))));
@@ -138,7 +138,7 @@ module _ {level : Level} {bytes : List ℕ} where
   takes_mantissa {l} {k} {d} {e} {bits} {later} q m is spare place next took spelt map = record {
     passes = λ out outer o at left opened.
         let here = is_mantissa o.next (pos 0) q.now at in
-        passes_one o at_instruction (with_item o.body (single (Some (Decimal here.exponent m)))) refl left (has_mantissa out outer l k o here.exponent m q.now d e here.is took.entry spelt opened) (λ more. rw (map, took.entry)
+        passes_one o at_instruction (with_item o.body (single (Some (Decimal here.exponent m)))) refl left (has_mantissa here.is took.entry spelt opened) (λ more. rw (map, took.entry)
         (mantissa_on_goes level [] o.next here.exponent m q.now o.body (cursor d bits spare (drop place bytes ++ more)) _ here.is
         (part_goes level q.now d bits spare (drop place bytes ++ more) (drop next bytes ++ more) (Some (I64 m)) (took.value more))));
   }
@@ -201,7 +201,7 @@ module _ {level : Level} {bytes : List ℕ} where
       → TookFields level serves rest bytes l d bits at count None (level_in bytes j) c last j.bytes.place
   took_mantissa {rest = rest} {e = e} {count = count} {there = there} {q = q} {k = k} {j = j} t so_far =
       let told = so_far.next_served in
-      let x = mantissa_taken q.now (entry_at e q.now.key) there t.value (level_in bytes k) (level_in bytes j) told.0.1 told.1 t.is_there t.relayed.spelt in
+      let x = mantissa_taken there told.0.1 told.1 t.is_there t.relayed.spelt in
       record {
         place = omega (arith, so_far.place, t.relayed.place.0);
         within = so_far.within;

@@ -99,9 +99,9 @@ Chain g (w ∷ ws) (l ∷ ls) Inner = (members : Instructions) × (d : Dictionar
 Chain g ws ls Inner = ⊥
 
 -- All that is written: of the messages before, and of the one that is open, in segments, the innermost apart.
-abbrev pub IsOpened : List ℕ → List Segment → Segment → Received → Dictionary → Type 0
-IsOpened out outer now o d =
-    IsFinished out o.set o.before o.start × Chain (of_message o.template o.members o.start) o.around outer (IsTop o.next now o.body d)
+pub record IsOpened (out : List ℕ) (outer : List Segment) (now : Segment) (o : Received) (d : Dictionary) : Type 0 where
+  pub before : IsFinished out o.set o.before o.start
+  pub inside : Chain (of_message o.template o.members o.start) o.around outer (IsTop o.next now o.body d)
 
 -- nothing is written of a segment, which has a map of its own or not
 pub record IsEmpty (own : Bool) (l : Segment) : Type 0 where

@@ -1,29 +1,24 @@
 //! The identifier of a template or the length of a sequence, read and written at once: a part whose number is wanted.
 
-ghost use Rattle.std.specs.Prelude.{◌≡◌, ◌≤◌, IfOk, IfSome, MatchOption, MatchResult, IsTrue, length, drop, false, true};
+ghost use Rattle.std.specs.Prelude.{◌≡◌, ◌≤◌, IfSome, MatchOption, IsTrue, length, false, true};
 ghost use Rattle.fast_template.specs.Resolved.{part_needs_bit as part_needs_bit_of};
-ghost use Rattle.fast_dictionary.specs.Dictionary.{entry_at, set_entry};
-ghost use Rattle.fast_dictionary.specs.declared.entry.Entry.{Entry as EntryOf};
 ghost use Rattle.std.specs.Option.{option_copied};
 ghost use Rattle.fast_value.specs.Scalar.{is_of};
 ghost use Rattle.fast_value.specs.declared.kind.Kind.TheVariants.{UInt32};
 ghost use Rattle.fast_field.specs.Parts.{IsFieldPart};
-ghost use Rattle.fast_field.specs.Within.{HoldsScalar};
 ghost use Rattle.fast_field.specs.Passed.{Passes};
 ghost use Rattle.fast_walk.specs.Received.{length_of};
-ghost use Rattle.fast_value.specs.declared.kind.Part.TheVariants.{Length};
-ghost use Rattle.fast_walk.specs.Told.{IsTold, KeepScalars};
+ghost use Rattle.fast_walk.specs.Told.{KeepScalars};
 ghost use Rattle.fast_writer.specs.Levels.{level_of};
-ghost use Rattle.fast_writer.specs.Quick.{RelaysCount, RelaysEntry, StopsEntry};
+ghost use Rattle.fast_writer.specs.Quick.{RelaysCount};
 
 use crate::relay::relay_entry;
 use crate::segment::Segment;
 use fast_dictionary::{Entries, Entry};
-use fast_field::{FieldFault, Passed, pass_left_out, reads_as_usual};
-use fast_relay::read_short_length;
+use fast_field::{FieldFault, Passed, pass_left_out};
 use fast_template::{FieldPart, Kind, Operator, Scalar, part_needs_bit};
 use fast_wire::Level;
-use std::alloc::{AllocError, Global};
+use std::alloc::Global;
 
 // Takes the number of the entry that bit 0 repeats, or that there is none. None: nothing has changed, and the part goes
 // the general way.
@@ -57,34 +52,6 @@ fn number_in(value: Option<&Scalar>) -> Option<u32>
     }
 }
 
-// Reads a part, and appends the best form of the number that it is; answers the number, the bit of its best form and the
-// place behind what was read.
-#[inline(never)]
-fn count_generally(
-    alloc: Global,
-    part: &FieldPart,
-    entry: &mut Entry,
-    bit: bool,
-    level: Level,
-    bytes: &[u8],
-    at: usize,
-    out: &mut Vec<u8>,
-) -> Result<(Option<u32>, bool, usize), FieldFault>
-    requires place { at ≤ length bytes.now }
-    requires bit { part_needs_bit_of part.now ≡ false → bit ≡ true }
-    requires part { IsFieldPart part.now }
-    requires entry { HoldsScalar entry.old }
-    requires kind { part.now.kind ≡ UInt32 }
-    ensures { MatchResult result
-        (λ x. RelaysEntry level part.now entry.old entry.new bit x.1 (length_of x.0) bytes.now at x.2
-        out.old.items out.new.items)
-        (StopsEntry level part.now entry.old entry.new bit (drop at bytes.now) out.old.items out.new.items) }
-{
-    let (found, best, next) = relay_entry(alloc, part, entry, bit, level, bytes, at, out)?;
-    let number = number_in(found.value(part, entry.view()));
-    Ok((number, best, next))
-}
-
 /// Reads a part that is a number without sign of 32 bits, and appends the best form of its value to a segment; answers
 /// the number, none where it is absent, and the place behind what was read.
 #[inline(never)]
@@ -111,27 +78,10 @@ pub(crate) fn relay_count<E: Entries>(
 {
     let entry = entries.entry_mut(&part.key)?;
     let out = &mut segment.bytes.out;
-    let (count, best, next) = count_generally(alloc, part, entry, bit, level, bytes, at, out)?;
+    let (found, best, next) = relay_entry(alloc, part, entry, bit, level, bytes, at, out)?;
+    let count = number_in(found.value(part, entry.view()));
     segment.ask(part_needs_bit(part), best)?;
     Ok((count, next))
-}
-
-// Takes the number that bit 0 repeats under a key, or that there is none. None: nothing has changed, and the part goes another
-// way.
-#[inline(always)]
-fn repeat_kept<E: Entries>(
-    entries: &mut E,
-    part: &FieldPart,
-) -> Result<Option<Option<u32>>, AllocError>
-    requires served { IsTrue (E.serves entries.now part.now.key) }
-    ensures repeats { IfOk result (λ repeated. MatchOption repeated (E.contents entries.new ≡ E.contents entries.old)
-        (λ count. (new : EntryOf)
-        × Passes part.now (entry_at (E.contents entries.old) part.now.key) new (length_of count)
-        × (E.contents entries.new ≡ set_entry (E.contents entries.old) part.now.key new))) }
-    ensures same_keys { E.serves entries.new ≡ E.serves entries.old }
-{
-    let entry = entries.entry_mut(&part.key)?;
-    Ok(repeat_count(part, entry))
 }
 
 /// The same of the identifier of a template. Most are the one before, so that no byte is read.
@@ -156,41 +106,15 @@ pub(crate) fn relay_identifier<E: Entries>(
         bytes.now at (level_of segment.old) (level_of segment.new) result }
     ensures same_keys { E.serves entries.new ≡ E.serves entries.old }
 {
-    if !bit && let Some(count) = repeat_kept(entries, part)? {
-        segment.ask(part_needs_bit(part), false)?;
-        return Ok((count, at));
+    if bit {
+        return relay_count(alloc, entries, part, bit, level, bytes, at, segment);
     }
-    relay_count(alloc, entries, part, bit, level, bytes, at, segment)
-}
-
-/// The same of the length of a sequence. Most stand in one byte and are kept nowhere, so that no entry is asked for.
-#[inline(always)]
-pub(crate) fn relay_length<E: Entries>(
-    alloc: Global,
-    entries: &mut E,
-    part: &FieldPart,
-    bit: bool,
-    level: Level,
-    bytes: &[u8],
-    at: usize,
-    segment: &mut Segment,
-) -> Result<(Option<u32>, usize), FieldFault>
-    requires place { at ≤ length bytes.now }
-    requires bit { part_needs_bit_of part.now ≡ false → bit ≡ true }
-    requires served { IsTrue (E.serves entries.now part.now.key) }
-    requires told { IsTold Length UInt32 part.now }
-    requires kept { KeepScalars (E.contents entries.now) }
-    ensures relays { RelaysCount level part.now (E.contents entries.old) (E.contents entries.new) bit
-        bytes.now at (level_of segment.old) (level_of segment.new) result }
-    ensures same_keys { E.serves entries.new ≡ E.serves entries.old }
-{
-    if reads_as_usual(level, part, bytes, at)
-        && let Some(count) = read_short_length(part, bytes, at)
-    {
-        return match segment.bytes.out.push(bytes[at]) {
-            Err(_) => Err(FieldFault::Memory),
-            Ok(()) => Ok((count, at + 1)),
-        };
+    let entry = entries.entry_mut(&part.key)?;
+    match repeat_count(part, entry) {
+        None => relay_count(alloc, entries, part, bit, level, bytes, at, segment),
+        Some(count) => {
+            segment.ask(part_needs_bit(part), false)?;
+            Ok((count, at))
+        }
     }
-    relay_count(alloc, entries, part, bit, level, bytes, at, segment)
 }

@@ -1,12 +1,13 @@
 //! Writes the canonical bytes of messages as they are read.
 
 use crate::around::Around;
-use crate::count::{relay_identifier, relay_length};
+use crate::count::{relay_count, relay_identifier};
 use crate::fields::take_fields;
 use crate::relay::relay_part;
 use crate::segment::Segment;
 use fast_dictionary::Entries;
-use fast_field::FieldFault;
+use fast_field::{FieldFault, reads_as_usual};
+use fast_relay::read_short_length;
 use fast_template::{FieldPart, Flat, Name, Presence};
 use fast_walk::{Fields, Output, Receiver, Strictly, Usually};
 use fast_wire::{Bits, Level};
@@ -118,15 +119,9 @@ impl Receiver for Writer {
     ) -> Result<(u32, usize), FieldFault> {
         self.outer.clear();
         self.inner.begin(true);
+        let inner = &mut self.inner;
         let (id, next) = relay_identifier(
-            alloc,
-            entries,
-            identifier,
-            bit,
-            level,
-            bytes,
-            at,
-            &mut self.inner,
+            alloc, entries, identifier, bit, level, bytes, at, inner,
         )?;
         match id {
             Some(id) => Ok((id, next)),
@@ -160,16 +155,8 @@ impl Receiver for Writer {
         bytes: &[u8],
         at: usize,
     ) -> Result<usize, FieldFault> {
-        let (_there, next) = relay_part(
-            alloc,
-            entries,
-            part,
-            bit,
-            level,
-            bytes,
-            at,
-            &mut self.inner,
-        )?;
+        let inner = &mut self.inner;
+        let (_there, next) = relay_part(alloc, entries, part, bit, level, bytes, at, inner)?;
         Ok(next)
     }
 
@@ -223,16 +210,8 @@ impl Receiver for Writer {
         bytes: &[u8],
         at: usize,
     ) -> Result<usize, FieldFault> {
-        let (_there, next) = relay_part(
-            alloc,
-            entries,
-            part,
-            bit,
-            level,
-            bytes,
-            at,
-            &mut self.inner,
-        )?;
+        let inner = &mut self.inner;
+        let (_there, next) = relay_part(alloc, entries, part, bit, level, bytes, at, inner)?;
         Ok(next)
     }
 
@@ -249,7 +228,17 @@ impl Receiver for Writer {
         bytes: &[u8],
         at: usize,
     ) -> Result<(Option<u32>, usize), FieldFault> {
-        relay_length(alloc, entries, part, bit, level, bytes, at, &mut self.inner)
+        let inner = &mut self.inner;
+        // most stand in one byte and are kept nowhere, so that no entry is asked for
+        if reads_as_usual(level, part, bytes, at)
+            && let Some(count) = read_short_length(part, bytes, at)
+        {
+            match inner.bytes.out.push(bytes[at]) {
+                Err(_) => return Err(FieldFault::Memory),
+                Ok(()) => return Ok((count, at + 1)),
+            }
+        }
+        relay_count(alloc, entries, part, bit, level, bytes, at, inner)
     }
 
     #[inline(always)]

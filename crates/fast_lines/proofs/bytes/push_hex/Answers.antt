@@ -1,6 +1,6 @@
-use Rattle.fast_lines.proofs.Common.{◌++◌, ◌∷◌, [], sym, ap, ◌∙◌, get_or, take, encode_lower}
-use Rattle.std.proofs.lemmas.List.{append-nil, append_assoc}
-use Rattle.fast_lines.proofs.Written.{encode_none, encode_one}
+use Rattle.fast_lines.proofs.Common.{◌++◌, sym, ap, ◌∙◌}
+use Rattle.std.proofs.lemmas.List.{append-nil}
+use Rattle.fast_lines.proofs.Written.{appended_more, encode_none, encode_one}
 use Rattle.fast_lines.proofs.bytes.push_hex.Goals as goal
 
 pub loop-byte-init : goal.loop-byte-init
@@ -8,9 +8,5 @@ loop-byte-init c = sym (ap (λ l. c.args.out.now.items ++ l) encode_none ∙ app
 
 pub loop-byte-preserved : goal.loop-byte-preserved
 loop-byte-preserved c =
-    let before = encode_lower (take c.loop-byte.byte-index c.args.bytes.now) in
-    let one = encode_lower (get_or c.args.bytes.now c.loop-byte.byte-index 0 ∷ []) in
-    c.in_ok-push_hex_pair.ensures
-    ∙ ap (λ l. l ++ one) c.loop-byte.invariant
-    ∙ append_assoc c.args.out.now.items before one
-    ∙ ap (λ l. c.args.out.now.items ++ l) (sym (encode_one c.args.bytes.now c.loop-byte.byte-index 0 c.loop-byte-test.true))
+    rw (encode_one c.args.bytes.now c.loop-byte.byte-index 0 c.loop-byte-test.true)
+    (appended_more _ _ _ _ _ c.loop-byte.invariant (rw (c.hex_pair.ensures) at c.in_ok-push.ensures))

@@ -1,6 +1,6 @@
-use Rattle.fast_lines.proofs.Common.{arith, ◌≡◌, [], ◌++◌, Err, map, sym, ap, ◌∙◌, codes, err_from_is_err_and, instruction_of, list_of, item_of, items_in, elements_of, sequence_elements, label, members_text, node_text, sequence_text, Memory}
+use Rattle.fast_lines.proofs.Common.{arith, ◌≡◌, [], ◌++◌, Ok, Err, drop_all, map, sym, ap, ◌∙◌, codes, err_from_is_err_and, instruction_of, list_of, item_of, items_in, elements_of, sequence_elements, label, members_text, node_text, sequence_text, Memory}
 use Rattle.fast_lines.proofs.Written.{adds_between, extends_same, shows_behind}
-use Rattle.fast_lines.proofs.Nested.{elements_end, elements_next, elements_stop, item_of-sequence, lengths_differ, members_end, members_next, members_stop, next_of, node_text-sequence, shows_bracketed_err}
+use Rattle.fast_lines.proofs.Nested.{item_of-sequence, left_end, left_next, left_stop, lengths_differ, next_of, node_text-sequence, shows_bracketed_err}
 use Rattle.fast_lines.proofs.lines.+showing.Goals as goal
 
 pub show_members-returns-then-nodes-members : goal.show_members-returns-then-nodes-members
@@ -13,14 +13,14 @@ pub show_members-loop-index-preserved : goal.show_members-loop-index-preserved
 show_members-loop-index-preserved g t c =
     let flat = next_of c.args.members.now c.loop-index.index c.index-members-index.result (omega arith) c.index-members-index.is in
     let node = next_of c.args.nodes.now c.loop-index.index c.index-nodes-index.result (omega arith) c.index-nodes-index.is in
-    rw (c.between-lead.ensures) (members_next c.loop-index.invariant flat node c.in_ok-show_member.ensures)
+    rw (c.between-lead.ensures) (left_next (rw (flat, node) at c.loop-index.invariant) c.in_ok-show_member.ensures)
 
 pub show_members-returns-in_err-show_member : goal.show_members-returns-in_err-show_member
 show_members-returns-in_err-show_member g t c =
     let flat = next_of c.args.members.now c.loop-index.index c.index-members-index.result (omega arith) c.index-members-index.is in
     let node = next_of c.args.nodes.now c.loop-index.index c.index-nodes-index.result (omega arith) c.index-nodes-index.is in
     let p = err_from_is_err_and c.from_residual.result c.from_residual.ensures.1 in
-    rw (p.1 ∙ ap Err p.2) (members_stop c.loop-index.invariant flat node c.show_member.new.out.items c.in_err-show_member.field-0.0 c.in_err-show_member.ensures)
+    rw (p.1 ∙ ap Err p.2) (left_stop _ _ c.show_member.new.out.items c.in_err-show_member.field-0.0 (rw (flat, node) at c.loop-index.invariant) c.in_err-show_member.ensures)
 
 pub show_elements-returns-in_err-push : goal.show_elements-returns-in_err-push
 show_elements-returns-in_err-push g t c =
@@ -30,19 +30,21 @@ show_elements-returns-in_err-push g t c =
 pub show_elements-loop-nodes-preserved : goal.show_elements-loop-nodes-preserved
 show_elements-loop-nodes-preserved g t c =
     let here = next_of c.args.elements.now c.loop-nodes.nodes-index c.nodes-item.result (omega arith) c.nodes-item.is in
-    rw (c.between-lead.ensures) (elements_next c.loop-nodes.invariant here c.deref.ensures.value c.in_ok-push.ensures c.in_ok-show_braced.ensures)
+    rw (c.between-lead.ensures) (left_next (rw (here, ← c.deref.ensures.value) at c.loop-nodes.invariant) (shows_behind _ _ _ _ _ (Ok tt) c.in_ok-push.ensures c.in_ok-show_braced.ensures))
 
 pub show_elements-returns-in_err-show_braced : goal.show_elements-returns-in_err-show_braced
 show_elements-returns-in_err-show_braced g t c =
     let here = next_of c.args.elements.now c.loop-nodes.nodes-index c.nodes-item.result (omega arith) c.nodes-item.is in
     let p = err_from_is_err_and c.from_residual-in_err-show_braced.result c.from_residual-in_err-show_braced.ensures.1 in
-    rw (p.1 ∙ ap Err p.2) (elements_stop c.loop-nodes.invariant here c.deref.ensures.value c.in_ok-push.ensures c.show_braced.new.out.items c.in_err-show_braced.field-0.0 c.in_err-show_braced.ensures)
+    rw (p.1 ∙ ap Err p.2)
+    (left_stop _ _ c.show_braced.new.out.items c.in_err-show_braced.field-0.0 (rw (here, ← c.deref.ensures.value) at c.loop-nodes.invariant)
+    (shows_behind _ _ _ _ _ (Err _) c.in_ok-push.ensures c.in_err-show_braced.ensures))
 
 pub show_members-returns : goal.show_members-returns
-show_members-returns g t c = members_end c.loop-index.invariant (omega arith) (omega arith)
+show_members-returns g t c = left_end (rw (drop_all c.loop-index.index c.args.members.now (omega arith), drop_all c.loop-index.index c.args.nodes.now (omega arith)) at c.loop-index.invariant)
 
 pub show_elements-returns : goal.show_elements-returns
-show_elements-returns g t c = elements_end c.loop-nodes.invariant (omega arith)
+show_elements-returns g t c = left_end (rw (drop_all c.loop-nodes.nodes-index c.args.elements.now (omega arith)) at c.loop-nodes.invariant)
 
 pub show_member-returns-in-Sequence : goal.show_member-returns-in-Sequence
 show_member-returns-in-Sequence g t c =

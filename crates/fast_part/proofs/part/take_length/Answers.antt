@@ -1,8 +1,7 @@
-use Rattle.fast_part.proofs.Common.{arith, refl, Kind, Part}
+use Rattle.fast_part.proofs.Common.{refl}
 use Rattle.fast_part.proofs.TakenKinds.{kind_taken}
 use Rattle.fast_part.proofs.part.take_length.Goals as goal
 
 pub unsigned_in-requires : goal.unsigned_in-requires
 unsigned_in-requires g c =
-    kind_taken c.args.level c.args.part.now c.args.bit (g.E.Entries.contents c.args.entries.now) (g.E.Entries.contents c.take_part.new.entries) c.args.bytes.now c.args.at c.in_ok-value.next
-    (λ k. omega (arith, c.type_inv.bytes k)) c.requires.bit Part.Length Kind.UInt32 refl c.requires.told c.in_ok-value.value c.in_ok-value.ensures.takes.1
+    kind_taken c.args.bytes.now c.args.at c.in_ok-value.next c.type_inv.bytes c.requires.bit c.requires.told refl c.in_ok-value.ensures.takes.1

@@ -1,10 +1,18 @@
-use Rattle.fast_writer.proofs.Common.{◌≡◌, false, refl, rules, arith, sym, ◌∙◌, true≢false, true_from_ne_false}
-use Rattle.fast_writer.proofs.Relays.{passes_relayed, relays_under}
+use Rattle.fast_writer.proofs.Common.{ap, arith, is_ok, refl, sym, ◌∙◌, true≢false, true_from_ne_false}
+use Rattle.fast_writer.proofs.Relays.{passes_relayed, relays_under, still}
 use Rattle.fast_writer.proofs.count.relay_identifier.Goals as goal
 
-pub returns-clause-relays : goal.returns-clause-relays
-returns-clause-relays g c =
-    let r = rw (c.in-Some.is) at c.in_ok-count.ensures.repeats in
-    let zero : c.args.bit ≡ false = search rules in
-    let relayed = passes_relayed (true_from_ne_false _ (λ none. true≢false (sym (c.requires.bit none) ∙ zero))) r.1 in
-    rw (zero) (relays_under refl r.2 c.part_needs_bit.ensures (record { place = (omega arith, c.requires.place); relayed = relayed; lower = λ none. refl }) c.in_ok-ask.ensures.asked)
+pub relay_count-requires-in-None-clause-kept : goal.relay_count-requires-in-None-clause-kept
+relay_count-requires-in-None-clause-kept g c =
+    rw (still c.args.part.now c.in_ok-entry.ensures.value (c.entry_mut.follows.holds c.repeat_count.new.entry (ap is_ok c.in_ok-entry.was)).0 c.in-None.ensures) c.requires.kept
+
+pub returns-in-None-clause-relays : goal.returns-in-None-clause-relays
+returns-in-None-clause-relays g c =
+    rw (still c.args.part.now c.in_ok-entry.ensures.value (c.entry_mut.follows.holds c.repeat_count.new.entry (ap is_ok c.in_ok-entry.was)).0 c.in-None.ensures) at c.relay_count-in-None.ensures.relays
+
+pub returns-in_ok-ask-in-Some-clause-relays : goal.returns-in_ok-ask-in-Some-clause-relays
+returns-in_ok-ask-in-Some-clause-relays g c =
+    let relayed = passes_relayed (true_from_ne_false _ (λ none. true≢false (sym (c.requires.bit none) ∙ c.if-bit.false))) c.in-Some.ensures in
+    rw (c.if-bit.false)
+    (relays_under c.in_ok-entry.ensures.value (c.entry_mut.follows.holds c.repeat_count.new.entry (ap is_ok c.in_ok-entry.was)).0 c.part_needs_bit.ensures
+    (record { place = (omega arith, c.requires.place); relayed = relayed; lower = λ none. refl }) c.in_ok-ask-in-Some.ensures.asked)

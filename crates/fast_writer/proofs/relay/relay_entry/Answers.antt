@@ -1,4 +1,5 @@
 use Rattle.fast_writer.proofs.Common.{◌≡◌, ℕ, List, Option, Ok, drop, true, false, [], sym, ◌∙◌, append-nil, arith, true≢false, IsBytes, FieldPart, Scalar, Entry, Level, Usual, Cut, FormBy, IsBest, HasDefault, field_at, field_forms, read_usually, bit_zero_is_best, bit_zero_row, true_from_ne_false, part_needs_bit, value_found, bytes_from}
+use Rattle.fast_writer.proofs.SpeltParts.{only_memory}
 use Rattle.fast_writer.proofs.relay.relay_entry.Goals as goal
 
 repeated_best : (level : Level) (i : FieldPart) (e : Entry) (bytes rest : List ℕ) (v : Option Scalar) → HasDefault i → IsBytes bytes → part_needs_bit i ≡ true
@@ -10,12 +11,12 @@ repeated_best level i e bytes rest v default fits needs is =
     best : (b : List ℕ) (cut : Cut) → FormBy Usual i e false cut b v → IsBest i e false [] v
     best b cut h = let z = bit_zero_row i.operator i e cut b v h.row in bit_zero_is_best i e v (rw (z.0, z.1) at h)
 
-pub returns : goal.returns
-returns c =
+pub returns-then-not-bit : goal.returns-then-not-bit
+returns-then-not-bit c =
     let p = c.args.part.now in
     let bytes = c.args.bytes.now in
     let f = c.in_ok-found in
-    let zero = c.if-bit.false in
+    let zero = c.if-not-bit.true in
     let needs : part_needs_bit p ≡ true = true_from_ne_false (part_needs_bit p) (λ none. true≢false (sym (c.requires.bit none) ∙ zero)) in
     let best = repeated_best c.args.level p c.args.entry.now (drop c.args.at bytes) (drop f.next bytes) (value_found p c.read_in_place.new.entry f.found)
     c.requires.part.typed.default_has_value (bytes_from bytes c.args.at (λ k. omega (arith, c.type_inv.bytes k))) needs f.ensures.gives in
@@ -28,3 +29,11 @@ returns c =
       };
       lower = λ low. low;
     })
+
+pub unreachable-requires : goal.unreachable-requires
+unreachable-requires c =
+    let p = c.args.part.now in
+    let bytes = c.args.bytes.now in
+    let f = c.in_ok-found-2 in
+    c.in_default.not-Memory (only_memory c.args.level p c.args.entry.now (value_found p c.args.entry.now f.found) (drop c.args.at bytes) (drop f.next bytes) c.in-Err.refusal
+    (bytes_from bytes c.args.at (λ k. omega (arith, c.type_inv.bytes k))) c.requires.part c.requires.entry (rw (c.view.ensures) at f.ensures.goes) c.in-Err.ensures.refused)

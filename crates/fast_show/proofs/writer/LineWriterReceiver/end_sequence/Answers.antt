@@ -2,4 +2,4 @@ use Rattle.fast_told.proofs.Writing.{has_elements}
 use Rattle.fast_show.proofs.writer.LineWriterReceiver.end_sequence.Goals as goal
 
 pub returns-clause-has : goal.returns-clause-has
-returns-clause-has g c = λ o d s next none has. (has.0, has_elements g.S.Escape.form c.args.self.now.exponent o s next (c.in_ok-close.ensures g.S.Escape.form) has.1)
+returns-clause-has g c = λ o d s next none. has_elements next (c.in_ok-close.ensures g.S.Escape.form)

@@ -2,8 +2,5 @@ use Rattle.fast_show.proofs.Common.{refl, IfOk-weaker, whole_field, single, has_
 use Rattle.fast_show.proofs.writer.LineWriterReceiver.field.Goals as goal
 
 pub returns-clause-goes : goal.returns-clause-goes
-returns-clause-goes g c = IfOk-weaker c.tell.result _ _ (λ n r. (
-  r.0,
-  r.1,
-  λ number is o next first has. (has.0, has_said c.args.self.now.exponent o (whole_field c.args.name.now number c.args.presence c.args.part.now) is (single r.0) next first refl r.2 has.1),
-)) c.tell.ensures.told
+returns-clause-goes g c = IfOk-weaker c.tell.result _ _
+    (λ n r. (r.0, r.1, λ number is o next first. has_said (whole_field c.args.name.now number c.args.presence c.args.part.now) (single r.0) next first refl r.2)) c.tell.ensures.told

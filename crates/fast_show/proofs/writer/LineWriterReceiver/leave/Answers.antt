@@ -2,4 +2,4 @@ use Rattle.fast_show.proofs.Common.{in_group, has_ended}
 use Rattle.fast_show.proofs.writer.LineWriterReceiver.leave.Goals as goal
 
 pub returns-clause-has : goal.returns-clause-has
-returns-clause-has g c = λ o d ws w next rest is inside has. (has.0, has_ended g.S.Escape.form in_group c.args.self.now.exponent o ws w next rest is inside (c.in_ok-close.ensures g.S.Escape.form) has.1)
+returns-clause-has g c = λ o d ws w next rest is inside. has_ended {inside = in_group} ws w next rest is inside (c.in_ok-close.ensures g.S.Escape.form)

@@ -2,4 +2,4 @@ use Rattle.fast_show.proofs.Common.{in_sequence, has_ended}
 use Rattle.fast_show.proofs.writer.LineWriterReceiver.leave_element.Goals as goal
 
 pub returns-clause-has : goal.returns-clause-has
-returns-clause-has g c = λ o d ws w s next rest is inside has. (has.0, has_ended g.S.Escape.form (in_sequence s) c.args.self.now.exponent o ws w next rest is inside (c.in_ok-close.ensures g.S.Escape.form) has.1)
+returns-clause-has g c = λ o d ws w s next rest is inside. has_ended {inside = in_sequence s} ws w next rest is inside (c.in_ok-close.ensures g.S.Escape.form)

@@ -1,4 +1,4 @@
-use Rattle.fast_show.proofs.Common.{written_of, line_now, ◌≡◌, ◌++◌, rules, decimal_text, has_mantissa}
+use Rattle.fast_show.proofs.Common.{written_of, ◌≡◌, ◌++◌, rules, decimal_text, has_mantissa}
 use Rattle.fast_show.proofs.writer.LineWriterReceiver.mantissa.Goals as goal
 
 pub returns-clause-goes : goal.returns-clause-goes
@@ -7,11 +7,5 @@ returns-clause-goes g c =
     let m = c.in_ok-mantissa.mantissa in
     let form = g.S.Escape.form in
     let here = c.in_ok-push_decimal.ensures.text form in
-    let told : written_of form c.push_decimal.new.self ≡ written_of form old.line ++ decimal_text m old.exponent = search rules in (
-      m,
-      c.in_ok-mantissa.ensures.takes.1,
-      λ e o next has. (
-        has.0,
-        has_mantissa g.S.Escape.form old.exponent e m (line_now g.S.Escape.form old.line) (line_now g.S.Escape.form c.push_decimal.new.self) o c.args.part.now next told c.push_decimal.ensures.led has.1,
-      ),
-    )
+    let told : written_of form c.push_decimal.new.self ≡ written_of form old.line ++ decimal_text m old.exponent = search rules in
+    (m, c.in_ok-mantissa.ensures.takes.1, λ e o next. has_mantissa m next told c.push_decimal.ensures.led)

@@ -9,10 +9,7 @@ close-requires c =
     record { some = λ none. r.0 (ap (map level_of) none); room = r.1 }
 
 pub returns-clause-ended : goal.returns-clause-ended
-returns-clause-ended c = λ inside o d ws w next rest is inside_is.
-    let old = c.args.self.now in
-    let new = c.close.new.self in
-    has_ended inside old.out.items (map level_of old.outer) (map level_of new) (level_of old.inner) (level_of c.close.new.inner) o ws w d next rest is inside_is c.in_ok-close.ensures.closed
+returns-clause-ended c = λ inside o d ws w next rest is inside_is. has_ended ws w next rest is inside_is c.in_ok-close.ensures.closed
 
 pub returns-clause-room : goal.returns-clause-room
 returns-clause-room c = closed_room c.in_ok-close.ensures.closed

@@ -5,13 +5,10 @@ use Rattle.fast_writer.proofs.writer.WriterReceiver.begin.Goals as goal
 
 pub returns-clause-goes : goal.returns-clause-goes
 returns-clause-goes g c =
-    let old = c.args.self.now in
-    let d = g.E.Entries.contents c.args.entries.now in
     let named : c.args.identifier.now ≡ identifier = search rules in
     let relays = rw (c.in-Some.is) at c.in_ok-id.ensures.relays in (
       relays.took,
-      λ set ms members stands. has_opened old.out.items (map level_of c.clear.new.self) (level_of c.begin.new.self) (level_of c.relay_identifier.new.segment) set ms c.in-Some.id members d _
-          (ap (map level_of) c.clear.ensures) c.begin.ensures (rw (named) at relays.took.entry) (rw (named) at relays.spelt) stands,
+      λ set ms members. has_opened (ap (map level_of) c.clear.ensures) c.begin.ensures (rw (named) at relays.took.entry) (rw (named) at relays.spelt),
     )
 
 pub returns-clause-room : goal.returns-clause-room

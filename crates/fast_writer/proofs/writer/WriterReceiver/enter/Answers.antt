@@ -5,10 +5,7 @@ use Rattle.fast_writer.proofs.writer.WriterReceiver.enter.Goals as goal
 
 pub returns-clause-has : goal.returns-clause-has
 returns-clause-has c = λ number presence members is bits o d next first optional own.
-    let old = c.args.self.now in
-    let new = c.open.new.self in
-    rw (c.open.ensures.out) (has_entered old.out.items (map level_of old.outer) (map level_of new.outer) (level_of old.inner) (level_of c.ask.new.self) (level_of new.inner) o c.args._name.now number presence members is bits d c.args.optional
-    next first optional c.in_ok-ask.ensures.asked c.in_ok-open.ensures.outer (rw (own) at c.in_ok-open.ensures.begun))
+    rw (c.open.ensures.out) (has_entered bits next first optional c.in_ok-ask.ensures.asked c.in_ok-open.ensures.outer (rw (own) at c.in_ok-open.ensures.begun))
 
 pub returns-clause-room : goal.returns-clause-room
 returns-clause-room c = λ around left bits bit few room.

@@ -1,16 +1,12 @@
-use Rattle.fast_writer.proofs.Common.{map, refl, items_of, in_sequence, with_element, ended_in, level_of}
+use Rattle.fast_writer.proofs.Common.{map, refl, items_of, in_sequence, with_element, level_of}
 use Rattle.fast_writer.proofs.Writers.{has_element, has_ended}
 use Rattle.fast_writer.proofs.MapRoom.{closed_room, opened_room}
 use Rattle.fast_writer.proofs.writer.WriterReceiver.next_element.Goals as goal
 
 pub returns-clause-has : goal.returns-clause-has
 returns-clause-has c = λ o d ws w s bits next rest is inside own some has.
-    let old = c.args.self.now in
-    let new = c.close_and_open.new.self in
     let closed = c.in_ok-close_and_open.ensures.closed in
-    rw (c.close_and_open.ensures.out) (has_element old.out.items closed.fore (map level_of new.outer) closed.next (level_of new.inner) (ended_in o ws w.body (in_sequence s)) (with_element s (items_of o.body.done)) bits d c.args.own_map
-    refl own some closed.later_is c.in_ok-close_and_open.ensures.begun
-    (has_ended (in_sequence s) old.out.items (map level_of old.outer) closed.fore (level_of old.inner) closed.next o ws w d next rest is inside closed.closes has))
+    rw (c.close_and_open.ensures.out) (has_element {s = with_element s (items_of o.body.done)} bits refl own some closed.later_is c.in_ok-close_and_open.ensures.begun (has_ended {inside = in_sequence s} ws w next rest is inside closed.closes has))
 
 pub returns-clause-room : goal.returns-clause-room
 returns-clause-room c = λ around left bits later few room.

@@ -1,5 +1,5 @@
-use Rattle.fast_told.proofs.Common.{◌≡◌, ◌≤◌, ◌+◌, ◌*◌, ◌-◌, length, drop, flat_map, laid, unit_text}
-use Rattle.fast_told.proofs.units.lay_units.Given as goal
+use Rattle.fast_lines.proofs.Common.{◌≡◌, ◌≤◌, ◌+◌, ◌*◌, ◌-◌, length, drop, flat_map, laid, unit_text}
+use Rattle.fast_lines.proofs.strings.lay_units.Given as goal
 
 abbrev pub invariant-loop-left : goal.invariant-loop-left
 invariant-loop-left g l =
