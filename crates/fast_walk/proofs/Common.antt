@@ -79,7 +79,7 @@ pub use Rattle.fast_walk.specs.Messages.{CanRead, IsStep, LeftOf, MapRead, Messa
 pub use Rattle.fast_walk.specs.OpenSegments.{Body, Inside, Next, Reading, Sequel, Waiting, all_around, around_on, at_element, at_instruction, at_mantissa, behind_inside, body_on, cursor, elements_before, elements_on, ended_on, fewer, in_group, in_sequence, items_before, mantissa_on, message_of, named_on, top_on, under_bits, with_element, with_item}
 pub use Rattle.fast_walk.specs.Passing.{Passes}
 pub use Rattle.fast_walk.specs.Pieces.{CanWalk, Holds, Reaches, Stops}
-pub use Rattle.fast_walk.specs.Received.{Carries, CarriesOpen, Completes, Faults, Goes, Having, Received, Same, Took, TookFrom, after_sequence, behind_last, closed_in, ended_in, entered, in_element, moved, opened, passed}
+pub use Rattle.fast_walk.specs.Received.{Carries, CarriesOpen, Completes, Faults, Goes, Having, Received, Same, Took, TookFrom, after_sequence, behind_last, closed_in, ended_in, entered, in_element, left_of, moved, opened, passed}
 pub use Rattle.fast_walk.specs.Room.{CarriesRoom, HasRoomBehind, left_around}
 pub use Rattle.fast_walk.specs.ShortMaps.{BeginsShortMap}
 pub use Rattle.fast_walk.specs.Told.{HoldScalars, IsKeptScalar, IsTold, KeepScalars, KeepsInitial, KeepsScalar}
