@@ -1,5 +1,6 @@
 -- How a stream of messages follows its reader.
-use Rattle.fast_decoder.proofs.Common.{◌≡◌, ◌≢◌, ◌≤◌, ℕ, ◌+◌, List, [], ◌∷◌, ◌++◌, length, take, map, reverse, Option, None, Some, Result, refl, sym, ap, subst, ◌∙◌, arith, append_assoc, length-append, length-take, reverse-reverse, reverse-append, Consumes, Keeps, IsAtEnd, counted, Resolved, Reached, Cause, Fault, Mode, Place, Decoder, Message, templates_in, Ghosts, Content, content_of, IsCutAt, Refused, mode_of, Stand, at_start, CarriesFrom, FirstFault, Carried, Causes, Follows, HasReached, IsCaused, IsFaultOf, OnFault, Reader, Reads, RefusedBy, Refuses, Repeats, Stands, waiting_in, carried_of, all_carried, IsOfBytes, of_mode}
+use Rattle.fast_decoder.proofs.Common.{◌≡◌, ◌≢◌, ◌≤◌, ℕ, ◌+◌, List, [], ◌∷◌, ◌++◌, length, take, map, reverse, Option, Result, refl, sym, ap, subst, ◌∙◌, arith, append_assoc, length-append, length-take, reverse-reverse, reverse-append, Consumes, Keeps, IsAtEnd, counted, Resolved, Reached, Cause, Fault, Mode, Place, Decoder, Message, templates_in, Ghosts, Content, content_of, IsCutAt, Refused, mode_of, Stand, at_start, CarriesFrom, FirstFault, Carried, Causes, Follows, HasReached, IsCaused, IsFaultOf, OnFault, Reader, Reads, RefusedBy, Refuses, Repeats, Stands, waiting_in, carried_of, all_carried, IsOfBytes, of_mode}
+use Rattle.std.proofs.KnownBytes.{Consumes-kept, Consumes-nil, Consumes-trans}
 
 by_bytes : (c : Cause) (mode : Mode) (set : List Resolved) (turns : ℕ) (left : Option (List ℕ)) (bytes : List ℕ) (place : Place) → (c ≡ Cause.Truncated → IsAtEnd left) → (c ≢ Cause.Memory → FirstFault mode set bytes place c)
     → (c ≡ Cause.Memory → (place.offset ≡ 0) × (place.template ≡ 0) × (place.instruction ≡ 0)) → RefusedBy c mode set turns left bytes place
@@ -27,21 +28,6 @@ of_bytes f mode set bytes first more =
 
 -- ---- one read
 
-Consumes-nil : (a : Option (List ℕ)) → Consumes a a []
-Consumes-nil None = tt
-Consumes-nil (Some x) = refl
-
-Consumes-trans : (a b c : Option (List ℕ)) (bs cs : List ℕ) → Consumes a b bs → Consumes b c cs → Consumes a c (bs ++ cs)
-Consumes-trans None b c bs cs p q = tt
-Consumes-trans (Some x) None c bs cs p q = absurd p
-Consumes-trans (Some x) (Some y) None bs cs p q = absurd q
-Consumes-trans (Some x) (Some y) (Some z) bs cs p q = p ∙ ap (λ l. bs ++ l) q ∙ sym (append_assoc bs cs z)
-
-Consumes-kept : (a b : Option (List ℕ)) → Keeps a b → Consumes a b []
-Consumes-kept None b p = tt
-Consumes-kept (Some x) None p = absurd p
-Consumes-kept (Some x) (Some y) p = sym p
-
 pub none_read : (a : Reader) → Reads a a 0 []
 none_read a = record { consumed = Consumes-nil a.left; called = omega arith; few = omega arith }
 
@@ -49,7 +35,7 @@ pub one_read : (a b : Reader) (n : ℕ) (buf : List ℕ) → b.calls ≡ counted
 one_read a b n buf call gave room = record { consumed = gave; called = call; few = let size = length-take n buf in omega (arith, size, room) }
 
 pub failed_read : (a b : Reader) → b.calls ≡ counted a.calls → Keeps a.left b.left → Reads a b 1 []
-failed_read a b call kept = record { consumed = Consumes-kept a.left b.left kept; called = call; few = omega arith }
+failed_read a b call kept = record { consumed = Consumes-kept a.left a.left b.left [] (Consumes-nil a.left) kept; called = call; few = omega arith }
 
 pub empty_read : (a b : Reader) (n : ℕ) (buf : List ℕ) → b.calls ≡ counted a.calls → Consumes a.left b.left (take n buf) → n ≡ 0 → Reads a b 1 []
 empty_read a b n buf call gave none = record { consumed = rw none at gave; called = call; few = omega arith }
@@ -162,7 +148,3 @@ causes_end before now next P a b h p used same = subst (λ (r : Reached). Causes
 pub repeats_kept : (before now : Reached) (r : Result (Option Message) Fault) → (before ≢ Reached.Open → now ≡ before) → Repeats now r → Repeats before r
 repeats_kept Reached.Open now r same h = tt
 repeats_kept before now r same h = subst (λ (at : Reached). Repeats at r) (same (λ e. absurd cc)) h
-
-pub repeats_open : (before : Reached) (r : Result (Option Message) Fault) → (before ≢ Reached.Open → ⊥) → Repeats before r
-repeats_open Reached.Open r never = tt
-repeats_open before r never = absurd (never (λ e. absurd cc))

@@ -74,7 +74,7 @@ pub use Rattle.fast_stream.specs.Streams.{identifier, members_of}
 pub use Rattle.fast_stream.specs.declared.fault.Cause.{Cause}
 pub use Rattle.fast_stream.specs.declared.fault.Cause.TheVariants.{D9, Memory, R7, R8, Truncated}
 pub use Rattle.fast_stream.specs.declared.message.Node.{Node, fold_out-Node}
-pub use Rattle.fast_walk.specs.Lacks.{AreUnstopped, EntityLacks, FieldLacks, HasSecond, IsCount, IsFirst, IsLacking, IsNextPart, IsVectorKind, Lacks, SecondLacks, SecondWaits, StopsShort, VectorLacks, WalkLacks, Wants, WantsByte, first_limit, sends, takes_two, whole_limit}
+pub use Rattle.fast_walk.specs.Lacks.{AreUnstopped, EntityLacks, FieldLacks, HasSecond, IsCount, IsFirst, IsLacking, IsNextPart, IsVectorKind, Lacks, StopsShort, VectorLacks, WalkLacks, Wants, WantsByte, WholeLacks, WholeWaits, first_limit, sends, takes_two, whole_limit}
 pub use Rattle.fast_walk.specs.Messages.{CanRead, IsStep, LeftOf, MapRead, MessageRead, MessageStops, ReadsMessage}
 pub use Rattle.fast_walk.specs.OpenSegments.{Body, Inside, Next, Reading, Sequel, Waiting, all_around, around_on, at_element, at_instruction, at_mantissa, behind_inside, body_on, cursor, elements_before, elements_on, ended_on, fewer, in_group, in_sequence, items_before, mantissa_on, message_of, named_on, top_on, under_bits, with_element, with_item}
 pub use Rattle.fast_walk.specs.Passing.{Passes}

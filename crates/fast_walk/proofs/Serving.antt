@@ -1,5 +1,5 @@
 -- Each part of a set's template is told as such, and its key is a key of the set.
-use Rattle.fast_walk.proofs.Common.{◌≡◌, ℕ, Bool, true, false, List, [], ◌∷◌, map, Option, Some, refl, subst, arith, Contains, IsTrue, find, option_map, if◌then◌else◌, Contains-append_left, Contains-append_right, AllByRecursion, Key, Kind, Part, Presence, FieldPart, Mandatory, FlatTemplate, Instruction, Instructions, whole_field, field_in_parts, group_of, sequence_of, no_instructions, then_instruction, keys_of_one, keys_of, Resolved, resolved_of, list_of, TemplateList, IsPartOf, IsSound, HasTypedParts, HaveTypedParts, templates_in, keys_of_all, identifier_key, has_id, template_of, members_of, IsServed, IsServedWith, AreServed, ServesAll}
+use Rattle.fast_walk.proofs.Common.{◌≡◌, ℕ, Bool, true, false, List, [], ◌∷◌, map, Option, Some, refl, arith, Contains, IsTrue, find, option_map, if◌then◌else◌, Contains-append_left, Contains-append_right, AllByRecursion, Key, Kind, Part, Presence, FieldPart, Mandatory, FlatTemplate, Instruction, Instructions, whole_field, field_in_parts, group_of, sequence_of, no_instructions, then_instruction, keys_of_one, keys_of, Resolved, resolved_of, list_of, TemplateList, IsPartOf, IsSound, HasTypedParts, HaveTypedParts, templates_in, keys_of_all, identifier_key, has_id, template_of, members_of, IsServed, IsServedWith, AreServed, ServesAll}
 use Rattle.fast_stream.proofs.FoundMembers.{members_have}
 use Rattle.fast_walk.proofs.Telling.{part_told}
 

@@ -1,6 +1,6 @@
+use Rattle.std.proofs.Math.Seq.{take-add}
 use Rattle.fast_machine.proofs.Common.{◌≡◌, ◌++◌, ◌+◌, ◌-◌, ◌∙◌, [], ℕ, List, length, length-drop, take, drop, take-append-drop, refl, arith, ap, subst, append-nil, take_all, take_rest, FollowsAll}
 use Rattle.fast_machine.proofs.Calls.{all_on, same_on}
-use Rattle.fast_machine.proofs.MessageEnds.{take_again}
 use Rattle.fast_machine.proofs.machine.Machine.feed_on.Goals as goal
 
 pub messages-init : goal.messages-init
@@ -27,7 +27,7 @@ messages-preserved g c =
     let o = c.in_ok-at in
     let rest = take_rest chunk l.at in
     let fed = v.fed in
-    let same : take l.at chunk ++ take o.field-0 (take (length chunk - l.at) (drop l.at chunk)) ≡ take (l.at + o.field-0) chunk = ap (λ (xs : List ℕ). take l.at chunk ++ take o.field-0 xs) rest ∙ take_again l.at o.field-0 chunk in
+    let same : take l.at chunk ++ take o.field-0 (take (length chunk - l.at) (drop l.at chunk)) ≡ take (l.at + o.field-0) chunk = ap (λ (xs : List ℕ). take l.at chunk ++ take o.field-0 xs) rest ∙ sym (take-add l.at o.field-0 chunk) in
     record {
       place = omega (arith, o.ensures.taken.1, v.place, ap (λ (xs : List ℕ). length xs) rest ∙ length-drop l.at chunk);
       fault = o.ensures.open;

@@ -18,9 +18,3 @@ returns-in-Err-clause-reads g c =
     let h = c.in-Err.ensures in
     read_behind _ _ _ (Err _) (walk_step c.args.self.now.identifier_is c.requires.stage (o.0.from, o.0.within) c.run.ensures.keeps o.0.goes)
     (end_refused c.requires.stage o.1 o.0.within refl refl (λ set ms d k. k) (λ other. (h.refused.0, h.refused.1, h.message o.1.1, h.refused.2)))
-
-pub returns-in-Err-finish-clause-reads : goal.returns-in-Err-finish-clause-reads
-returns-in-Err-finish-clause-reads g c =
-    let o = c.in_ok-next.ensures.runs in
-    read_behind _ _ _ (Err _) (walk_step c.args.self.now.identifier_is c.requires.stage (o.0.from, o.0.within) c.run.ensures.keeps o.0.goes)
-    (end_refused c.requires.stage o.1 o.0.within refl refl c.in-Err-finish.ensures.keeps (λ other. absurd (other c.from.ensures)))
