@@ -1,5 +1,5 @@
 use Rattle.std.proofs.Math.Seq.{take-add}
-use Rattle.fast_machine.proofs.Common.{◌≡◌, ◌++◌, ◌+◌, ◌-◌, ◌∙◌, [], ℕ, List, length, length-drop, take, drop, take-append-drop, refl, arith, ap, subst, append-nil, take_all, take_rest, FollowsAll}
+use Rattle.fast_machine.proofs.Common.{◌≡◌, ◌++◌, ◌+◌, ◌-◌, ◌∙◌, [], ℕ, List, length, length-drop, take, drop, take-append-drop, refl, sym, arith, ap, subst, append-nil, take_all, take_rest, FollowsAll}
 use Rattle.fast_machine.proofs.Calls.{all_on, same_on}
 use Rattle.fast_machine.proofs.machine.Machine.feed_on.Goals as goal
 
