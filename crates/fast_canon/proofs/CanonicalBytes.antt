@@ -24,13 +24,10 @@ canonicalised mode set turns left a b input (Ok summary) sound exact p =
       no_longer = less;
     }
 canonicalised mode set turns left a b input (Err (CanonFault.Stream f)) sound exact p = p
-canonicalised mode set turns left a b input (Err CanonFault.Write) sound exact p = p
-canonicalised mode set turns left a b input (Err CanonFault.Memory) sound exact p = p
+canonicalised mode set turns left a b input r sound exact p = p
 
 -- Where nothing is written no write fails.
 pub checked : (mode : Mode) (set : List Resolved) (turns : ℕ) (left : Option (List ℕ)) (input : List ℕ) (r : Result Summary CanonFault) → 0 ≡ errors_after r 0
     → Canonicalises mode set turns left None None input r → Checks mode set turns left input r
-checked mode set turns left input (Ok summary) none p = p
-checked mode set turns left input (Err (CanonFault.Stream f)) none p = p
 checked mode set turns left input (Err CanonFault.Write) none p = absurd (omega (arith, none))
-checked mode set turns left input (Err CanonFault.Memory) none p = p
+checked mode set turns left input r none p = p

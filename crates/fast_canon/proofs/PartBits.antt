@@ -28,11 +28,8 @@ row_bit : (o : Operator) (i : FieldPart) (e : Entry) (bit : Bool) (cut : Cut) (b
 row_bit o i e true cut b v h none = refl
 row_bit Operator.Plain i e false cut b v h none = absurd h
 row_bit Operator.Constant i e false cut b v h none = let asks : operator_needs_bit Operator.Constant i.presence ≡ true = ap (operator_needs_bit Operator.Constant) h.2 in absurd cc
-row_bit Operator.Default i e false cut b v h none = absurd cc
-row_bit Operator.Copy i e false cut b v h none = absurd cc
-row_bit Operator.Increment i e false cut b v h none = absurd cc
 row_bit Operator.Delta i e false cut b v h none = absurd h
-row_bit Operator.Tail i e false cut b v h none = absurd cc
+row_bit o i e false cut b v h none = absurd cc
 
 pub form_bit : (i : FieldPart) (e : Entry) (bit : Bool) (cut : Cut) (b : List ℕ) (v : Option Scalar) → FormBy Usual i e bit cut b v → IsBitOf i bit
 form_bit i e bit cut b v h = row_bit i.operator i e bit cut b v h.row

@@ -1,5 +1,6 @@
 -- How a stream of messages follows its reader.
-use Rattle.fast_decoder.proofs.Common.{◌≡◌, ◌≢◌, ◌≤◌, ℕ, ◌+◌, List, [], ◌∷◌, ◌++◌, length, take, map, reverse, Option, None, Some, Result, refl, sym, ap, subst, ◌∙◌, arith, append_assoc, length-append, length-take, reverse-reverse, reverse-append, Consumes, Keeps, IsAtEnd, counted, Resolved, Reached, Cause, Fault, Mode, Place, Decoder, Message, templates_in, Ghosts, Content, content_of, IsCutAt, Refused, mode_of, Stand, at_start, CarriesFrom, FirstFault, Carried, Causes, Follows, HasReached, IsCaused, IsFaultOf, OnFault, Reader, Reads, RefusedBy, Refuses, Repeats, Stands, waiting_in, carried_of, all_carried, IsOfBytes, of_mode}
+use Rattle.fast_decoder.proofs.Common.{◌≡◌, ◌≢◌, ◌≤◌, ℕ, ◌+◌, List, [], ◌∷◌, ◌++◌, length, take, map, reverse, Option, Result, refl, sym, ap, subst, ◌∙◌, arith, append_assoc, length-append, length-take, reverse-reverse, reverse-append, Consumes, Keeps, IsAtEnd, counted, Resolved, Reached, Cause, Fault, Mode, Place, Decoder, Message, templates_in, Ghosts, Content, content_of, IsCutAt, Refused, mode_of, Stand, at_start, CarriesFrom, FirstFault, Carried, Causes, Follows, HasReached, IsCaused, IsFaultOf, OnFault, Reader, Reads, RefusedBy, Refuses, Repeats, Stands, waiting_in, carried_of, all_carried, IsOfBytes, of_mode}
+use Rattle.std.proofs.KnownBytes.{Consumes-kept, Consumes-nil, Consumes-trans}
 
 by_bytes : (c : Cause) (mode : Mode) (set : List Resolved) (turns : ℕ) (left : Option (List ℕ)) (bytes : List ℕ) (place : Place) → (c ≡ Cause.Truncated → IsAtEnd left) → (c ≢ Cause.Memory → FirstFault mode set bytes place c)
     → (c ≡ Cause.Memory → (place.offset ≡ 0) × (place.template ≡ 0) × (place.instruction ≡ 0)) → RefusedBy c mode set turns left bytes place
@@ -27,21 +28,6 @@ of_bytes f mode set bytes first more =
 
 -- ---- one read
 
-Consumes-nil : (a : Option (List ℕ)) → Consumes a a []
-Consumes-nil None = tt
-Consumes-nil (Some x) = refl
-
-Consumes-trans : (a b c : Option (List ℕ)) (bs cs : List ℕ) → Consumes a b bs → Consumes b c cs → Consumes a c (bs ++ cs)
-Consumes-trans None b c bs cs p q = tt
-Consumes-trans (Some x) None c bs cs p q = absurd p
-Consumes-trans (Some x) (Some y) None bs cs p q = absurd q
-Consumes-trans (Some x) (Some y) (Some z) bs cs p q = p ∙ ap (λ l. bs ++ l) q ∙ sym (append_assoc bs cs z)
-
-Consumes-kept : (a b : Option (List ℕ)) → Keeps a b → Consumes a b []
-Consumes-kept None b p = tt
-Consumes-kept (Some x) None p = absurd p
-Consumes-kept (Some x) (Some y) p = sym p
-
 pub none_read : (a : Reader) → Reads a a 0 []
 none_read a = record { consumed = Consumes-nil a.left; called = omega arith; few = omega arith }
 
@@ -49,7 +35,7 @@ pub one_read : (a b : Reader) (n : ℕ) (buf : List ℕ) → b.calls ≡ counted
 one_read a b n buf call gave room = record { consumed = gave; called = call; few = let size = length-take n buf in omega (arith, size, room) }
 
 pub failed_read : (a b : Reader) → b.calls ≡ counted a.calls → Keeps a.left b.left → Reads a b 1 []
-failed_read a b call kept = record { consumed = Consumes-kept a.left b.left kept; called = call; few = omega arith }
+failed_read a b call kept = record { consumed = Consumes-kept a.left a.left b.left [] (Consumes-nil a.left) kept; called = call; few = omega arith }
 
 pub empty_read : (a b : Reader) (n : ℕ) (buf : List ℕ) → b.calls ≡ counted a.calls → Consumes a.left b.left (take n buf) → n ≡ 0 → Reads a b 1 []
 empty_read a b n buf call gave none = record { consumed = rw none at gave; called = call; few = omega arith }
@@ -107,13 +93,11 @@ front_carried mode set bytes xs ys c =
     let f = front_carries mode set xs ys at_start c.front c.start c.carried in
     record { front = f.0; rest = f.1 ++ c.rest; start = f.2; parts = c.parts ∙ ap (λ (zs : List ℕ). zs ++ c.rest) f.3 ∙ append_assoc f.0 f.1 c.rest; carried = f.4; ends = tt }
 
-reached_carried : {E : Type 0} {ghosts : Ghosts E} (at : Reached) (d : Decoder E ghosts) (reads turns : ℕ) (left : Option (List ℕ)) (bytes : List ℕ) (messages : List Content)
-    → HasReached at (Follows d bytes messages × (reads ≤ length bytes)) (mode_of d.machine) (templates_in d.machine.traversal.set.now) turns left bytes messages → Carried (mode_of d.machine) (templates_in d.machine.traversal.set.now) bytes messages
-reached_carried Reached.Open d reads turns left bytes messages h =
-    let at = rw (h.0.goes_on) at h.0.follows.at in
-    carried_of at.0
-reached_carried Reached.End d reads turns left bytes messages h = all_carried (mode_of d.machine) (templates_in d.machine.traversal.set.now) bytes messages h.carried
-reached_carried (Reached.Fault f) d reads turns left bytes messages h = h.carried
+pub reached_carried : (at : Reached) (P : Type 0) (mode : Mode) (set : List Resolved) (turns : ℕ) (left : Option (List ℕ)) (bytes : List ℕ) (messages : List Content) → (P → Carried mode set bytes messages) → HasReached at P mode set turns left bytes messages
+    → Carried mode set bytes messages
+reached_carried Reached.Open P mode set turns left bytes messages f h = f h
+reached_carried Reached.End P mode set turns left bytes messages f h = all_carried mode set bytes messages h.carried
+reached_carried (Reached.Fault fault) P mode set turns left bytes messages f h = h.carried
 
 -- the message that waited last in the list is answered
 popped : (answered : List Content) (old rest : List Message) (m : Message) → old ≡ rest ++ m ∷ [] → answered ++ waiting_in old ≡ (answered ++ content_of m ∷ []) ++ waiting_in rest
@@ -125,8 +109,9 @@ pub stands_popped : {E : Type 0} {ghosts : Ghosts E} (at : Reached) (d : Decoder
     → Stands at d old turns reads left bytes answered
     → Stands at d rest turns reads left bytes (answered ++ content_of m ∷ []) × Carried (mode_of d.machine) (templates_in d.machine.traversal.set.now) bytes (answered ++ content_of m ∷ [])
 stands_popped at d old rest m turns reads left bytes answered is stands =
-    let now = subst (λ (ms : List Content). HasReached at (Follows d bytes ms × (reads ≤ length bytes)) (mode_of d.machine) (templates_in d.machine.traversal.set.now) turns left bytes ms) (popped answered old rest m is) stands in
-    (now, front_carried (mode_of d.machine) (templates_in d.machine.traversal.set.now) bytes (answered ++ content_of m ∷ []) (waiting_in rest) (reached_carried at d reads turns left bytes ((answered ++ content_of m ∷ []) ++ waiting_in rest) now))
+    let now = rw (popped answered old rest m is) at stands in
+    let carried = reached_carried at _ (mode_of d.machine) (templates_in d.machine.traversal.set.now) turns left bytes _ (λ (f : Follows d bytes ((answered ++ content_of m ∷ []) ++ waiting_in rest) × (reads ≤ length bytes)). let at = rw (f.0.goes_on) at f.0.follows.at in carried_of at.0) now in
+    (now, front_carried (mode_of d.machine) (templates_in d.machine.traversal.set.now) bytes (answered ++ content_of m ∷ []) (waiting_in rest) carried)
 
 -- ---- causes
 
@@ -162,7 +147,3 @@ causes_end before now next P a b h p used same = subst (λ (r : Reached). Causes
 pub repeats_kept : (before now : Reached) (r : Result (Option Message) Fault) → (before ≢ Reached.Open → now ≡ before) → Repeats now r → Repeats before r
 repeats_kept Reached.Open now r same h = tt
 repeats_kept before now r same h = subst (λ (at : Reached). Repeats at r) (same (λ e. absurd cc)) h
-
-pub repeats_open : (before : Reached) (r : Result (Option Message) Fault) → (before ≢ Reached.Open → ⊥) → Repeats before r
-repeats_open Reached.Open r never = tt
-repeats_open before r never = absurd (never (λ e. absurd cc))

@@ -4,7 +4,7 @@ use Rattle.fast_stream.proofs.Common.{◌≡◌, ◌≢◌, ℕ, zero, suc, ◌+
 use Rattle.fast_stream.specs.Modes.{NextForm, Carries, CarriesFrom, NextStops, GoesOn, FirstFault, StreamReading, and_then, may_end, next_at, messages_at, stream_at, fault_in}
 use Rattle.fast_stream.proofs.ModeReaders.{next_some}
 
-abbrev reading : List Content → Option MessageStop → StreamReading
+abbrev pub reading : List Content → Option MessageStop → StreamReading
 reading messages fault = record { messages = messages; fault = fault }
 
 -- ---- where a stream may end
@@ -89,10 +89,10 @@ module _ (mode : Mode) (set : List Resolved) (is : IsNextReader mode set) where
 
   -- ---- the messages of a front are read, and then reading goes on behind them
 
-  record Continues (n : ℕ) (s after : Stand) (front rest : List ℕ) (messages : List Content) : Type 0 where
-    left : ℕ
-    enough : length rest < left
-    reads : messages_at mode n set s (front ++ rest) ≡ reading (messages ++ (messages_at mode left set after rest).messages) (messages_at mode left set after rest).fault
+  pub record Continues (n : ℕ) (s after : Stand) (front rest : List ℕ) (messages : List Content) : Type 0 where
+    pub left : ℕ
+    pub enough : length rest < left
+    pub reads : messages_at mode n set s (front ++ rest) ≡ reading (messages ++ (messages_at mode left set after rest).messages) (messages_at mode left set after rest).fault
 
   continues_one : (n : ℕ) (s : Stand) (front back rest : List ℕ) (m : Content) (t after : Stand) (messages : List Content) → NextForm mode set s front m t
       → length (front ++ (back ++ rest)) < n → ((k : ℕ) → length (back ++ rest) < k → Continues k t after back rest messages) → Continues n s after (front ++ back) rest (m ∷ messages)
@@ -109,7 +109,7 @@ module _ (mode : Mode) (set : List Resolved) (is : IsNextReader mode set) where
         reads = rw (regrouped, read, g.reads) refl;
       }
 
-  continues : (messages : List Content) (n : ℕ) (s after : Stand) (front rest : List ℕ) → CarriesFrom mode set s front messages after → length (front ++ rest) < n → Continues n s after front rest messages
+  pub continues : (messages : List Content) (n : ℕ) (s after : Stand) (front rest : List ℕ) → CarriesFrom mode set s front messages after → length (front ++ rest) < n → Continues n s after front rest messages
   continues [] n s after front rest h enough = rw (h.0, h.1) (record { left = n; enough = let e = rw h.0 at enough in e; reads = refl })
   continues (m ∷ messages) n s after front rest h enough =
       let regrouped : h.front ++ h.back ++ rest ≡ h.front ++ (h.back ++ rest) = append_assoc h.front h.back rest in
@@ -143,7 +143,7 @@ module _ (mode : Mode) (set : List Resolved) (is : IsNextReader mode set) where
 
   -- ---- and a stop is the first fault
 
-  stops_reading : (k : ℕ) (after : Stand) (rest : List ℕ) (m : MessageStop) → length rest < k → GoesOn after rest → NextStops mode set after rest m → messages_at mode k set after rest ≡ reading [] (Some m)
+  pub stops_reading : (k : ℕ) (after : Stand) (rest : List ℕ) (m : MessageStop) → length rest < k → GoesOn after rest → NextStops mode set after rest m → messages_at mode k set after rest ≡ reading [] (Some m)
   stops_reading zero after rest m enough some h = absurd (omega arith)
   stops_reading (suc k) after rest m enough some h = rw (not_at_end after rest some, is.stopped after rest m h) refl
 

@@ -1,5 +1,5 @@
 -- What is too short to be read stays so until what it lacks has come.
-use Rattle.fast_walk.proofs.Common.{◌≡◌, ℕ, zero, suc, ◌<◌, ◌≤◌, Bool, true, false, List, [], ◌∷◌, ◌++◌, length, Option, Some, None, Ok, Err, refl, sym, ap, subst, ◌∙◌, arith, length-append, inl, inr, ◌-◌, append-nil, nat_le, IfSome, pos, Instruction, Resolved, Instructions, then_instruction, list_of, part_needs_bit, group_of, no_instructions, entry_at, bit_for, Content, Items, Stop, Dictionary, Cursor, Reads, field_part_at, node_at, piece_at, stopped, Truncated, Reading, at_mantissa, cursor, message_of, Received, Continues, ContinuesAt, IsOpen, stop_of, HaltedBy, Stage, Traversal, next_of, reads_on, Walk, HasNoStop, judge, overlong_unsigned, entity_at, unsigned_at, signed_at, unsigned_nullable_at, signed_nullable_at, ascii_at, ascii_nullable_at, vector_at, behind_length, vector_nullable_at, Level, Usual, Strict, WireFault, Value, entity_goes, unsigned_goes, unsigned_nullable_goes, bytes_wait, Kind, Operator, Presence, Mandatory, Optional, FieldPart, Entry, FieldFault, field_fault, part_at, units_at, integer_at, integer_spelled_at, decimal_spelled_at, units_spelled_at, spelled_at, integer_delta_at, decimal_delta_at, unit_delta_at, delta_at, tail_at, whole_at, row_at, field_at, Lack, AreUnstopped, EntityLacks, FieldLacks, IsFirst, IsLacking, IsNextPart, IsVectorKind, Lacks, StopsShort, VectorLacks, WalkLacks, Wants, WantsByte, IsCount, first_limit, sends, whole_limit, is_unsigned, Part}
+use Rattle.fast_walk.proofs.Common.{◌≡◌, ℕ, zero, suc, ◌<◌, ◌≤◌, Bool, true, false, List, [], ◌∷◌, ◌++◌, length, Option, Some, None, Ok, Err, refl, sym, ap, subst, ◌∙◌, arith, length-append, inl, inr, ◌-◌, append-nil, nat_le, IfSome, pos, Instruction, Resolved, Instructions, then_instruction, list_of, part_needs_bit, group_of, no_instructions, entry_at, bit_for, Content, Items, Stop, Dictionary, Cursor, Reads, field_part_at, node_at, piece_at, stopped, Truncated, Reading, at_mantissa, cursor, message_of, Received, Continues, ContinuesAt, IsOpen, stop_of, HaltedBy, Stage, Traversal, next_of, reads_on, Walk, HasNoStop, judge, overlong_unsigned, entity_at, unsigned_at, signed_at, unsigned_nullable_at, signed_nullable_at, ascii_at, ascii_nullable_at, vector_at, behind_length, vector_nullable_at, Level, Usual, Strict, WireFault, Value, entity_goes, unsigned_goes, unsigned_nullable_goes, bytes_wait, Kind, Operator, Presence, Mandatory, Optional, FieldPart, Entry, FieldFault, field_fault, part_at, units_at, integer_at, integer_spelled_at, decimal_spelled_at, units_spelled_at, spelled_at, integer_delta_at, decimal_delta_at, unit_delta_at, delta_at, tail_at, whole_at, row_at, field_at, Lack, AreUnstopped, EntityLacks, FieldLacks, IsFirst, IsLacking, IsNextPart, IsVectorKind, Lacks, StopsShort, VectorLacks, WalkLacks, Wants, WantsByte, WholeLacks, WholeWaits, IsCount, first_limit, sends, whole_limit, is_unsigned, Part}
 use Rattle.fast_walk.proofs.Heads.{content_fails}
 use Rattle.fast_walk.specs.declared.walk.Next.TheVariants as next
 use Rattle.fast_walk.proofs.Pieces.{number_in}
@@ -43,6 +43,9 @@ units_wait Usual k Mandatory bytes h = rw h refl
 units_wait Strict Kind.Ascii p bytes h = rw h refl
 units_wait level k p bytes h = rw h refl
 
+whole_waits : (level : Level) (k : Kind) (p : Presence) (bytes : List ℕ) → entity_at (whole_limit k) bytes ≡ Err WireFault.NeedMore → WholeWaits level k p bytes
+whole_waits level k p bytes h = record { units = units_wait level k p bytes h; entity = λ _ _. h }
+
 -- ---- vectors
 
 -- a length that is not overlong is none whatever follows
@@ -59,13 +62,13 @@ counted_waits level k Optional bytes more rest n (inr is) fit few short h = rw (
 
 -- ---- fields
 
-whole_begins : (level : Level) (pt : Part) (k : Kind) (p : Presence) (bytes : List ℕ) → entity_at (whole_limit k) bytes ≡ Err WireFault.NeedMore → spelled_at level pt k p bytes ≡ Err FieldFault.NeedMore
+spelled_waits : (level : Level) (pt : Part) (k : Kind) (p : Presence) (bytes : List ℕ) → WholeWaits level k p bytes → spelled_at level pt k p bytes ≡ Err FieldFault.NeedMore
 unfolding spelled_at units_spelled_at decimal_spelled_at integer_spelled_at
-whole_begins level pt Kind.Ascii p bytes h = rw (units_wait level Kind.Ascii p bytes h) refl
-whole_begins level pt Kind.Unicode p bytes h = rw (units_wait level Kind.Unicode p bytes h) refl
-whole_begins level pt Kind.Bytes p bytes h = rw (units_wait level Kind.Bytes p bytes h) refl
-whole_begins level pt Kind.Decimal p bytes h = rw (integer_waits level false p bytes h) refl
-whole_begins level pt k p bytes h = rw (integer_waits level (is_unsigned k) p bytes h) refl
+spelled_waits level pt Kind.Ascii p bytes w = rw (w.units) refl
+spelled_waits level pt Kind.Unicode p bytes w = rw (w.units) refl
+spelled_waits level pt Kind.Bytes p bytes w = rw (w.units) refl
+spelled_waits level pt Kind.Decimal p bytes w = rw (integer_waits level false p bytes (w.entity (λ e. absurd cc) (λ e. absurd cc))) refl
+spelled_waits level pt k p bytes w = rw (integer_waits level (is_unsigned k) p bytes (w.entity (λ e. absurd cc) (λ e. absurd cc))) refl
 
 delta_begins : (level : Level) (k : Kind) (i : FieldPart) (e : Entry) (bytes : List ℕ) → entity_at 10 bytes ≡ Err WireFault.NeedMore → delta_at level k i e bytes ≡ Err FieldFault.NeedMore
 unfolding delta_at decimal_delta_at unit_delta_at integer_delta_at
@@ -76,14 +79,19 @@ tail_waits : (level : Level) (i : FieldPart) (e : Entry) (bytes : List ℕ) → 
 unfolding tail_at
 tail_waits level i e bytes h = rw h refl
 
-row_begins : (level : Level) (o : Operator) (i : FieldPart) (e : Entry) (bit : Bool) (bytes : List ℕ) → sends o bit ≡ true → entity_at (first_limit o i.kind) bytes ≡ Err WireFault.NeedMore → row_at level o i e bit bytes ≡ Err FieldFault.NeedMore
+row_waits : (level : Level) (o : Operator) (i : FieldPart) (e : Entry) (bit : Bool) (bytes : List ℕ) → sends o bit ≡ true → (o ≡ Operator.Delta → ⊥) → WholeWaits level i.kind i.presence bytes → row_at level o i e bit bytes ≡ Err FieldFault.NeedMore
 unfolding row_at whole_at
-row_begins level Operator.Plain i e bit bytes s h = whole_begins level i.part i.kind i.presence bytes h
+row_waits level Operator.Delta i e bit bytes s d w = absurd (d refl)
+row_waits level Operator.Constant i e bit bytes s d w = absurd cc
+row_waits level Operator.Plain i e bit bytes s d w = spelled_waits level i.part i.kind i.presence bytes w
+row_waits level Operator.Tail i e true bytes s d w = tail_waits level i e bytes w.units
+row_waits level o i e true bytes s d w = spelled_waits level i.part i.kind i.presence bytes w
+row_waits level o i e false bytes s d w = absurd cc
+
+row_begins : (level : Level) (o : Operator) (i : FieldPart) (e : Entry) (bit : Bool) (bytes : List ℕ) → sends o bit ≡ true → entity_at (first_limit o i.kind) bytes ≡ Err WireFault.NeedMore → row_at level o i e bit bytes ≡ Err FieldFault.NeedMore
+unfolding row_at
 row_begins level Operator.Delta i e bit bytes s h = delta_begins level i.kind i e bytes h
-row_begins level Operator.Tail i e true bytes s h = tail_waits level i e bytes (units_wait level i.kind i.presence bytes h)
-row_begins level Operator.Constant i e bit bytes s h = absurd cc
-row_begins level o i e true bytes s h = whole_begins level i.part i.kind i.presence bytes h
-row_begins level o i e false bytes s h = absurd cc
+row_begins level o i e bit bytes s h = row_waits level o i e bit bytes s (λ d. absurd cc) (whole_waits level i.kind i.presence bytes h)
 
 field_begins : (level : Level) (i : FieldPart) (e : Entry) (bit : Bool) (bytes : List ℕ) → sends i.operator bit ≡ true → entity_at (first_limit i.operator i.kind) bytes ≡ Err WireFault.NeedMore → field_at level i e bit bytes ≡ Err FieldFault.NeedMore
 unfolding field_at
@@ -94,28 +102,21 @@ pub entity_wants : {of limit : ℕ} {bytes : List ℕ} {l : Lack} → EntityLack
 entity_wants {limit = limit} {bytes = bytes} lacks more lacking =
     entity_waits limit (bytes ++ more) (both_unstopped bytes more lacks.begun (lacking.unstopped lacks.until)) (omega (arith, length-append {A = ℕ}, lacks.few, lacking.few))
 
+pub entity_whole : {level : Level} {k : Kind} {p : Presence} {of : ℕ} {bytes : List ℕ} {l : Lack} → EntityLacks of (whole_limit k) bytes l → WholeLacks level k p of bytes l
+entity_whole {level} {k} {p} lacks = record { lacks = λ more lacking. whole_waits level k p _ (entity_wants lacks more lacking); number = lacks.number }
+
+-- a vector whose length has come
+pub vector_whole : {level : Level} {k : Kind} {p : Presence} {of : ℕ} {bytes : List ℕ} {l : Lack} → VectorLacks level k p of bytes l → WholeLacks level k p of bytes l
+vector_whole h = record { lacks = λ more lacking. record { units = h.lacks more lacking; entity = λ u b. absurd (elim h.vector [ inl is ↦ u is | inr is ↦ b is ]) }; number = h.number }
+
 -- a field whose first entity has not ended
 pub entity_lacks : {level : Level} {i : FieldPart} {e : Entry} {bit : Bool} {bytes : List ℕ} {l : Lack} → sends i.operator bit ≡ true → EntityLacks i.number (first_limit i.operator i.kind) bytes l → FieldLacks level i e bit bytes l
 entity_lacks {level} {i} {e} {bit} s lacks = record { lacks = λ more lacking. field_begins level i e bit _ s (entity_wants lacks more lacking); number = lacks.number }
 
-spelled_waits : (level : Level) (i : FieldPart) (k : Kind) (bytes : List ℕ) → IsVectorKind k → units_at level k i.presence bytes ≡ Err FieldFault.NeedMore → spelled_at level i.part k i.presence bytes ≡ Err FieldFault.NeedMore
-unfolding spelled_at units_spelled_at
-spelled_waits level i k bytes (inl is) h = rw (is, rw is at h) refl
-spelled_waits level i k bytes (inr is) h = rw (is, rw is at h) refl
-
-vector_row : (level : Level) (o : Operator) (i : FieldPart) (e : Entry) (bit : Bool) (bytes : List ℕ) → sends o bit ≡ true → (o ≡ Operator.Delta → ⊥) → IsVectorKind i.kind → units_at level i.kind i.presence bytes ≡ Err FieldFault.NeedMore → row_at level o i e bit bytes ≡ Err FieldFault.NeedMore
-unfolding row_at whole_at
-vector_row level Operator.Delta i e bit bytes s d v h = absurd (d refl)
-vector_row level Operator.Constant i e bit bytes s d v h = absurd cc
-vector_row level Operator.Plain i e bit bytes s d v h = spelled_waits level i i.kind bytes v h
-vector_row level Operator.Tail i e true bytes s d v h = tail_waits level i e bytes h
-vector_row level o i e true bytes s d v h = spelled_waits level i i.kind bytes v h
-vector_row level o i e false bytes s d v h = absurd cc
-
--- a vector whose length has come
-pub vector_lacks : {level : Level} {i : FieldPart} {e : Entry} {bit : Bool} {bytes : List ℕ} {l : Lack} → sends i.operator bit ≡ true → (i.operator ≡ Operator.Delta → ⊥) → VectorLacks level i.kind i.presence i.number bytes l → FieldLacks level i e bit bytes l
+-- a field that is no delta
+pub whole_lacks : {level : Level} {i : FieldPart} {e : Entry} {bit : Bool} {bytes : List ℕ} {l : Lack} → sends i.operator bit ≡ true → (i.operator ≡ Operator.Delta → ⊥) → WholeLacks level i.kind i.presence i.number bytes l → FieldLacks level i e bit bytes l
 unfolding field_at
-vector_lacks {level} {i} {e} {bit} s d h = record { lacks = λ more lacking. rw (vector_row level i.operator i e bit _ s d h.vector (h.lacks more lacking)) refl; number = h.number }
+whole_lacks {level} {i} {e} {bit} s d h = record { lacks = λ more lacking. rw (row_waits level i.operator i e bit _ s d (h.lacks more lacking)) refl; number = h.number }
 
 -- ---- walks
 

@@ -37,45 +37,39 @@ module _ {R E : Type 0} (receiver : Receiving R) (entries : Ghosts E) (t : Trave
 
 module _ {R E : Type 0} {receiver : Receiving R} {entries : Ghosts E} {t : TraversalNow} {r : R} {d : E} {bytes : List ℕ} {at : ℕ} where
   -- what is read behind a step is read from before it
-  module _ {m : ℕ} {u v : TraversalNow} {s q : R} {e f : E} where
-    pub ends_behind : {n : ℕ} → IsStep receiver entries t r d bytes at m u s e → MessageRead receiver entries u s e bytes m n v q f → MessageRead receiver entries t r d bytes at n v q f
-    ends_behind step read = record {
-      place = (let p = step.place.0 in let q = read.place.0 in omega (arith, p, q), read.place.1);
-      took = λ map. let p = step.took map in let q = read.place.0 in omega (arith, p, q);
-      finishes = λ before start now was.
-          let l = step.leaves before start now was in
-          let f = read.finishes before start l.0 l.1 in
-          (f.0, λ more. l.2 more ∙ f.1 more, f.2);
-      between = read.between;
-      template = read.template;
-      kept = read.kept;
-    }
-
-    pub stops_behind : {x : ℕ × Halt} → IsStep receiver entries t r d bytes at m u s e → MessageStops receiver entries u s e bytes m x v q f → MessageStops receiver entries t r d bytes at x v q f
-    stops_behind step read = record {
-      place = (let p = step.place.0 in let q = read.place.0 in omega (arith, p, q), read.place.1);
-      keeps = λ before start now was. let l = step.leaves before start now was in read.keeps before start l.0 l.1;
-      stops = λ other before start now was. let l = step.leaves before start now was in with_none now l.0 (drop at bytes) (drop m bytes) l.2 ∙ read.stops other before start l.0 l.1;
-      waits = λ wanted. let w = read.waits wanted in record {
-        leaves = λ before start now was.
-            let l = step.leaves before start now was in
-            let k = w.leaves before start l.0 l.1 in
-            (k.0, k.1, λ more. l.2 more ∙ k.2 more);
-        between = λ map. absurd (step.inside (w.between map).0);
-        begun = λ map other. let p = step.took map in let q = read.place.0 in omega (arith, p, q);
-        few = w.few;
-        can = w.can;
-      };
-    }
-
   pub read_behind : {m : ℕ} {u : TraversalNow} {s : R} {e : E} (v : TraversalNow) (q : R) (f : E) (result : Result ℕ (ℕ × Halt)) → IsStep receiver entries t r d bytes at m u s e → ReadsMessage receiver entries u s e bytes m result v q f
       → ReadsMessage receiver entries t r d bytes at result v q f
-  read_behind v q f (Ok n) step read = ends_behind step read
-  read_behind v q f (Err x) step read = stops_behind step read
+  read_behind v q f (Ok n) step read = record {
+    place = (let p = step.place.0 in let q = read.place.0 in omega (arith, p, q), read.place.1);
+    took = λ map. let p = step.took map in let q = read.place.0 in omega (arith, p, q);
+    finishes = λ before start now was.
+        let l = step.leaves before start now was in
+        let f = read.finishes before start l.0 l.1 in
+        (f.0, λ more. l.2 more ∙ f.1 more, f.2);
+    between = read.between;
+    template = read.template;
+    kept = read.kept;
+  }
+  read_behind {m = m} v q f (Err x) step read = record {
+    place = (let p = step.place.0 in let q = read.place.0 in omega (arith, p, q), read.place.1);
+    keeps = λ before start now was. let l = step.leaves before start now was in read.keeps before start l.0 l.1;
+    stops = λ other before start now was. let l = step.leaves before start now was in with_none now l.0 (drop at bytes) (drop m bytes) l.2 ∙ read.stops other before start l.0 l.1;
+    waits = λ wanted. let w = read.waits wanted in record {
+      leaves = λ before start now was.
+          let l = step.leaves before start now was in
+          let k = w.leaves before start l.0 l.1 in
+          (k.0, k.1, λ more. l.2 more ∙ k.2 more);
+      between = λ map. absurd (step.inside (w.between map).0);
+      begun = λ map other. let p = step.took map in let q = read.place.0 in omega (arith, p, q);
+      few = w.few;
+      can = w.can;
+    };
+  }
 
   -- a message's map is the first step
-  map_read : {m : ℕ} {u : TraversalNow} → t.stage ≡ Stage.Map → MapRead t bytes at m u → IsStep receiver entries t r d bytes at m u r d
-  map_read {m = m} {u = u} map read = record {
+  pub read_behind_map : {m : ℕ} {u : TraversalNow} (v : TraversalNow) (q : R) (f : E) (result : Result ℕ (ℕ × Halt)) → CanRead receiver entries t r d → t.stage ≡ Stage.Map → MapRead t bytes at m u → ReadsMessage receiver entries u r d bytes m result v q f
+      → ReadsMessage receiver entries t r d bytes at result v q f
+  read_behind_map {m = m} {u = u} v q f result can map read behind = read_behind {m = m} {u = u} {s = r} {e = d} v q f result (record {
     place = (let p = read.place.0 in omega (arith, p), read.place.1);
     took = λ other. read.place.0;
     inside = λ other. let k : Stage.Identifier ≡ Stage.Map = sym read.stage ∙ other in absurd cc;
@@ -83,11 +77,7 @@ module _ {R E : Type 0} {receiver : Receiving R} {entries : Ghosts E} {t : Trave
         let s = rw map at was in
         let later = identifier_on t.level (templates_in t.set.now) (entries.contents d) u.walk.bits in
         (later, rw (read.stage, read.level, read.set) (record { stands = s.stands; start_is = s.start_is; reads = λ bytes. refl }), λ more. s.reads (drop at bytes ++ more) ∙ read.goes (entries.contents d) more);
-  }
-
-  pub read_behind_map : {m : ℕ} {u : TraversalNow} (v : TraversalNow) (q : R) (f : E) (result : Result ℕ (ℕ × Halt)) → CanRead receiver entries t r d → t.stage ≡ Stage.Map → MapRead t bytes at m u → ReadsMessage receiver entries u r d bytes m result v q f
-      → ReadsMessage receiver entries t r d bytes at result v q f
-  read_behind_map v q f result can map read behind = read_behind v q f result (map_read map read) behind
+  }) behind
 
   pub map_can : {m : ℕ} {u : TraversalNow} → t.stage ≡ Stage.Map → MapRead t bytes at m u → CanRead receiver entries t r d → CanRead receiver entries u r d
   map_can map read can = record { ready = rw (read.stage) (read.template ∙ rw map at can.ready, read.spare); kept = can.kept; room = rw (read.stage) read.room }

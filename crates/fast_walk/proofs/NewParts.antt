@@ -1,6 +1,5 @@
 -- What stands behind the first number of a delta: where that has come, and the field waits, it waits until what is lacking of the rest has come.
-use Rattle.fast_walk.proofs.Common.{inl, inr, ap, ◌≡◌, ℕ, ℤ, Bool, true, false, List, ◌++◌, length, Option, Result, Ok, Err, refl, sym, ◌∙◌, ◌-◌, take, drop, take_rest, ◌+ℤ◌, nat_le, ◌>>=◌, entity_at, signed_at, signed_nullable_at, received_signed, signed_of, WireFault, Level, Usual, Strict, Nullable, Null, Value, judge, field_fault, entity_goes, in_range, exponent_in_range, Kind, Operator, Presence, Mandatory, Optional, Scalar, FieldPart, Entry, FieldFault, delta_base, removed_of, overlong_units, units_of, exponent_of, Part, entity_limit, overlong_fault, part_usually_at, units_at, check, decimal_delta_at, decimal_spelled_at, delta_at, field_at, integer_at, mantissa_behind, mantissa_delta_behind, mantissa_entity_at, new_part_behind, part_at, part_checked, row_at, spelled_at, unit_delta_at, unless_null, whole_at, Lack, EntityLacks, FieldLacks, HasSecond, SecondLacks, SecondWaits, VectorLacks, takes_two, whole_limit, never, never_then, part_allowed}
-use Rattle.fast_walk.proofs.Lacking.{entity_wants, units_wait}
+use Rattle.fast_walk.proofs.Common.{inl, inr, ap, ◌≡◌, ℕ, ℤ, Bool, true, false, List, ◌++◌, length, Option, Result, Ok, Err, refl, ◌-◌, take, drop, take_rest, ◌+ℤ◌, nat_le, ◌>>=◌, entity_at, signed_at, signed_nullable_at, received_signed, signed_of, WireFault, Level, Usual, Strict, Nullable, Null, Value, judge, field_fault, entity_goes, in_range, exponent_in_range, Kind, Operator, Presence, Mandatory, Optional, Scalar, FieldPart, Entry, FieldFault, delta_base, removed_of, overlong_units, units_of, exponent_of, Part, entity_limit, overlong_fault, part_usually_at, units_at, check, decimal_delta_at, decimal_spelled_at, delta_at, field_at, integer_at, mantissa_behind, mantissa_delta_behind, mantissa_entity_at, new_part_behind, part_at, part_checked, row_at, spelled_at, unit_delta_at, unless_null, whole_at, Lack, FieldLacks, HasSecond, WholeLacks, WholeWaits, takes_two, never, never_then, part_allowed}
 
 -- ---- steps
 
@@ -49,29 +48,29 @@ unfolding signed_at
 mantissa_waits Usual bytes h = rw h refl
 mantissa_waits Strict bytes h = rw h refl
 
-unit_waits : (level : Level) (i : FieldPart) (e : Entry) (bytes more entity rest : List ℕ) → entity_at 10 bytes ≡ Ok (entity, rest) → part_at level i.kind (rest ++ more) ≡ Err FieldFault.NeedMore
+unit_waits : (level : Level) (i : FieldPart) (e : Entry) (bytes more entity rest : List ℕ) → entity_at 10 bytes ≡ Ok (entity, rest) → units_at level i.kind Mandatory (rest ++ more) ≡ Err FieldFault.NeedMore
     → unit_delta_at level i e bytes ≡ Err FieldFault.NeedMore → unit_delta_at level i e (bytes ++ more) ≡ Err FieldFault.NeedMore
 unfolding unit_delta_at new_part_behind
 unit_waits level i e bytes more entity rest h lacks = number_waits i.presence bytes more entity rest _ h (λ z.
-    waits_after (check (in_range Kind.Int32 z) FieldFault.D7) _ _ (λ fits. waits_after (delta_base i e) _ _ (λ base. waits_after (check (nat_le (removed_of z) (length (units_of base))) FieldFault.D7) _ _ (λ ok w. rw lacks refl)))) level
+    waits_after (check (in_range Kind.Int32 z) FieldFault.D7) _ _ (λ fits. waits_after (delta_base i e) _ _ (λ base. waits_after (check (nat_le (removed_of z) (length (units_of base))) FieldFault.D7) _ _ (λ ok w. rw (new_part_waits level i.kind _ lacks) refl)))) level
 
-delta_waits : (level : Level) (k : Kind) (i : FieldPart) (e : Entry) (bytes more entity rest : List ℕ) → takes_two k ≡ true → i.kind ≡ k → entity_at 10 bytes ≡ Ok (entity, rest) → SecondWaits level i.kind (rest ++ more)
+delta_waits : (level : Level) (k : Kind) (i : FieldPart) (e : Entry) (bytes more entity rest : List ℕ) → takes_two k ≡ true → i.kind ≡ k → entity_at 10 bytes ≡ Ok (entity, rest) → WholeWaits level i.kind Mandatory (rest ++ more)
     → delta_at level k i e bytes ≡ Err FieldFault.NeedMore → delta_at level k i e (bytes ++ more) ≡ Err FieldFault.NeedMore
 unfolding delta_at decimal_delta_at mantissa_delta_behind
 delta_waits level Kind.Decimal i e bytes more entity rest two same h lacks = number_waits i.presence bytes more entity rest _ h (λ z.
-    waits_after (delta_base i e) _ _ (λ base. waits_after (check (exponent_in_range (exponent_of base +ℤ z)) FieldFault.R1) _ _ (λ ok w. rw (lacks.mantissa same) refl))) level
+    waits_after (delta_base i e) _ _ (λ base. waits_after (check (exponent_in_range (exponent_of base +ℤ z)) FieldFault.R1) _ _ (λ ok w. rw (mantissa_waits level _ ((rw same at lacks.entity) (λ e. absurd cc) (λ e. absurd cc))) refl))) level
 delta_waits level Kind.Ascii i e bytes more entity rest two same h lacks = unit_waits level i e bytes more entity rest h lacks.units
 delta_waits level Kind.Unicode i e bytes more entity rest two same h lacks = unit_waits level i e bytes more entity rest h lacks.units
 delta_waits level Kind.Bytes i e bytes more entity rest two same h lacks = unit_waits level i e bytes more entity rest h lacks.units
 delta_waits level k i e bytes more entity rest two same h lacks = absurd cc
 
-whole_waits : (level : Level) (i : FieldPart) (bytes more entity rest : List ℕ) → i.kind ≡ Kind.Decimal → entity_at 10 bytes ≡ Ok (entity, rest) → SecondWaits level i.kind (rest ++ more)
+whole_waits : (level : Level) (i : FieldPart) (bytes more entity rest : List ℕ) → i.kind ≡ Kind.Decimal → entity_at 10 bytes ≡ Ok (entity, rest) → WholeWaits level i.kind Mandatory (rest ++ more)
     → whole_at level i bytes ≡ Err FieldFault.NeedMore → whole_at level i (bytes ++ more) ≡ Err FieldFault.NeedMore
 unfolding whole_at spelled_at decimal_spelled_at mantissa_behind
 whole_waits level i bytes more entity rest of h lacks w =
-    rw of (number_waits i.presence bytes more entity rest (mantissa_behind level) h (λ z. waits_after (check (exponent_in_range z) FieldFault.R1) _ _ (λ ok w. rw (lacks.mantissa of) refl)) level (rw of at w))
+    rw of (number_waits i.presence bytes more entity rest (mantissa_behind level) h (λ z. waits_after (check (exponent_in_range z) FieldFault.R1) _ _ (λ ok w. rw (mantissa_waits level _ ((rw of at lacks.entity) (λ e. absurd cc) (λ e. absurd cc))) refl)) level (rw of at w))
 
-row_waits : (level : Level) (o : Operator) (i : FieldPart) (e : Entry) (bit : Bool) (bytes more entity rest : List ℕ) → HasSecond o i.kind bit → entity_at 10 bytes ≡ Ok (entity, rest) → SecondWaits level i.kind (rest ++ more)
+row_waits : (level : Level) (o : Operator) (i : FieldPart) (e : Entry) (bit : Bool) (bytes more entity rest : List ℕ) → HasSecond o i.kind bit → entity_at 10 bytes ≡ Ok (entity, rest) → WholeWaits level i.kind Mandatory (rest ++ more)
     → row_at level o i e bit bytes ≡ Err FieldFault.NeedMore → row_at level o i e bit (bytes ++ more) ≡ Err FieldFault.NeedMore
 unfolding row_at
 row_waits level o i e bit bytes more entity rest (inr two) h lacks w = let is = two.1 in rw is (delta_waits level i.kind i e bytes more entity rest two.0 refl h lacks (rw is at w))
@@ -90,21 +89,8 @@ checked_waits : (p : Part) (r : Result (Option Scalar × List ℕ) FieldFault) �
 checked_waits p (Ok x) h = absurd (never_then (part_checked p x.0) _ (never (part_checked p x.0) (part_allowed p x.0)) (λ v. tt) h)
 checked_waits p (Err f) h = h
 
--- the entity behind the first, or the vector there
-pub entity_behind : (level : Level) (p : FieldPart) {bytes : List ℕ} {l : Lack} → EntityLacks p.number (whole_limit p.kind) bytes l → SecondLacks level p bytes l
-entity_behind level p lacks = record {
-  lacks = λ more lacking. let h = entity_wants lacks more lacking in record { units = new_part_waits level p.kind _ (units_wait level p.kind Mandatory _ h); mantissa = λ is. mantissa_waits level _ (rw is at h) };
-  number = lacks.number;
-}
-
-pub vector_behind : (level : Level) (p : FieldPart) (bytes : List ℕ) (l : Lack) → VectorLacks level p.kind Mandatory p.number bytes l → SecondLacks level p bytes l
-vector_behind level p bytes l h = record {
-  lacks = λ more lacking. record { units = new_part_waits level p.kind (bytes ++ more) (h.lacks more lacking); mantissa = λ is. absurd (elim h.vector [ inl of ↦ (let k : Kind.Decimal ≡ Kind.Unicode = sym is ∙ of in cc) | inr of ↦ (let k : Kind.Decimal ≡ Kind.Bytes = sym is ∙ of in cc) ]) };
-  number = h.number;
-}
-
 -- the field waits on
-pub second_lacks : {level : Level} {p : FieldPart} {e : Entry} {bit : Bool} {bytes : List ℕ} {l : Lack} (entity : List ℕ) (n : ℕ) → HasSecond p.operator p.kind bit → entity_at 10 bytes ≡ Ok (entity, drop n bytes) → SecondLacks level p (take (length bytes - n) (drop n bytes)) l
+pub second_lacks : {level : Level} {p : FieldPart} {e : Entry} {bit : Bool} {bytes : List ℕ} {l : Lack} (entity : List ℕ) (n : ℕ) → HasSecond p.operator p.kind bit → entity_at 10 bytes ≡ Ok (entity, drop n bytes) → WholeLacks level p.kind Mandatory p.number (take (length bytes - n) (drop n bytes)) l
     → field_at level p e bit bytes ≡ Err FieldFault.NeedMore → FieldLacks level p e bit bytes l
 unfolding field_at
 second_lacks {level} {p} {e} {bit} {bytes} entity n two h behind w = record {

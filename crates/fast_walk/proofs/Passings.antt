@@ -2,7 +2,7 @@
 use Rattle.fast_walk.proofs.Common.{◌≡◌, ◌<◌, ◌-◌, ℕ, Bool, List, [], ◌∷◌, ◌++◌, Option, Ok, refl, ap, ◌∙◌, Presence, Scalar, FieldPart, Instructions, whole_field, then_instruction, part_needs_bit, Dictionary, entry_at, set_entry, Entry, next, field_at, Level, bit_for, after_bit, single, Body, Next, at_instruction, cursor, top_on, Passes, Received, Took, moved, passed, bare_next}
 use Rattle.fast_walk.proofs.Putting.{set_written}
 use Rattle.fast_walk.proofs.Steps.{count_goes, part_goes}
-use Rattle.fast_walk.proofs.Walking.{field_on, is_instruction}
+use Rattle.fast_walk.proofs.Walking.{field_on, is_instruction, same_on}
 
 -- what was read into the entry that is put under its key
 pub took_of : {level : Level} {p : FieldPart} {bit : Bool} {d e : Dictionary} {old new : Entry} {v : Option Scalar} {bytes rest : List ℕ} → old ≡ entry_at d p.key → e ≡ set_entry d p.key new → new ≡ next p old v
@@ -33,13 +33,7 @@ module _ {level : Level} {Has : Received → Type 0} {d e : Dictionary} {bits la
   passes_on p q = record {
     received = q.received;
     has = q.has;
-    same = record {
-      set = q.same.set ∙ p.same.set;
-      before = q.same.before ∙ p.same.before;
-      template = q.same.template ∙ p.same.template;
-      members = q.same.members ∙ p.same.members;
-      start = q.same.start ∙ p.same.start;
-    };
+    same = same_on p.same q.same;
     around = q.around ∙ p.around;
     next_is = q.next_is;
     left_is = q.left_is;

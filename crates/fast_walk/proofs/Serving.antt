@@ -1,5 +1,6 @@
 -- Each part of a set's template is told as such, and its key is a key of the set.
-use Rattle.fast_walk.proofs.Common.{◌≡◌, ℕ, Bool, true, false, List, [], ◌∷◌, map, Option, Some, refl, subst, arith, Contains, IsTrue, find, option_map, if◌then◌else◌, Contains-append_left, Contains-append_right, AllByRecursion, Key, Kind, Part, Presence, FieldPart, Mandatory, FlatTemplate, Instruction, Instructions, whole_field, field_in_parts, group_of, sequence_of, no_instructions, then_instruction, keys_of_one, keys_of, Resolved, resolved_of, list_of, TemplateList, IsPartOf, IsSound, HasTypedParts, HaveTypedParts, templates_in, keys_of_all, identifier_key, has_id, template_of, members_of, IsServed, IsServedWith, AreServed, ServesAll}
+use Rattle.fast_walk.proofs.Common.{◌≡◌, ℕ, Bool, true, false, List, [], ◌∷◌, map, Option, Some, refl, arith, Contains, IsTrue, find, option_map, if◌then◌else◌, Contains-append_left, Contains-append_right, AllByRecursion, Key, Kind, Part, Presence, FieldPart, Mandatory, FlatTemplate, Instruction, Instructions, whole_field, field_in_parts, group_of, sequence_of, no_instructions, then_instruction, keys_of_one, keys_of, Resolved, resolved_of, list_of, TemplateList, IsPartOf, IsSound, HasTypedParts, HaveTypedParts, templates_in, keys_of_all, identifier_key, has_id, template_of, members_of, IsServed, IsServedWith, AreServed, ServesAll}
+use Rattle.fast_stream.proofs.FoundMembers.{members_have}
 use Rattle.fast_walk.proofs.Telling.{part_told}
 
 abbrev Serves : (Key → Bool) → List Key → Type 0
@@ -22,19 +23,14 @@ mutual
   served_list serves (then_instruction i is) typed h =
       (served_one serves i typed.0 (λ k there. h k (Contains-append_left (keys_of_one i) (keys_of is) k there)), served_list serves is typed.1 (λ k there. h k (Contains-append_right (keys_of_one i) (keys_of is) k there)))
 
-chosen : (serves : Key → Bool) (t : Resolved) (ts : List Resolved) (id : ℕ) (members : Instructions) (b : Bool) → AreServed serves t.members → (members_of ts id ≡ Some members → AreServed serves members)
-    → option_map (λ (r : Resolved). r.members) (if b then Some t else find (λ r. has_id id r.id) ts) ≡ Some members → AreServed serves members
-chosen serves t ts id members true own others h = let same : t.members ≡ members = cc in subst (λ (m : Instructions). AreServed serves m) same own
-chosen serves t ts id members false own others h = others h
-
-members_in : (serves : Key → Bool) (ts : List Resolved) (id : ℕ) (members : Instructions) → AllByRecursion (λ t. HaveTypedParts t.members) ts → Serves serves (keys_of_all ts) → members_of ts id ≡ Some members → AreServed serves members
-members_in serves [] id members typed h e = absurd cc
-members_in serves (t ∷ ts) id members typed h e =
-    chosen serves t ts id members (has_id id t.id) (served_list serves t.members typed.0 (λ k there. h k (Contains-append_left (keys_of t.members) (keys_of_all ts) k there)))
-    (members_in serves ts id members typed.1 (λ k there. h k (Contains-append_right (keys_of t.members) (keys_of_all ts) k there))) e
+served_all : (serves : Key → Bool) (ts : List Resolved) → AllByRecursion (λ t. HaveTypedParts t.members) ts → Serves serves (keys_of_all ts) → AllByRecursion (λ t. AreServed serves t.members) ts
+served_all serves [] typed h = tt
+served_all serves (t ∷ ts) typed h =
+    (served_list serves t.members typed.0 (λ k there. h k (Contains-append_left (keys_of t.members) (keys_of_all ts) k there)), served_all serves ts typed.1 (λ k there. h k (Contains-append_right (keys_of t.members) (keys_of_all ts) k there)))
 
 pub members_served : (serves : Key → Bool) (set : TemplateList) (id : ℕ) (members : Instructions) → IsSound set → ServesAll serves set → members_of (templates_in set) id ≡ Some members → AreServed serves members
-members_served serves set id members sound h e = members_in serves (templates_in set) id members sound.typed (λ k there. h k (Contains-append_right (identifier_key ∷ []) (keys_of_all (templates_in set)) k there)) e
+members_served serves set id members sound h e =
+    members_have (AreServed serves) (templates_in set) (served_all serves (templates_in set) sound.typed (λ k there. h k (Contains-append_right (identifier_key ∷ []) (keys_of_all (templates_in set)) k there))) id members e
 
 -- ---- the template of an identifier
 

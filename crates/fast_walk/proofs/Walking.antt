@@ -1,5 +1,6 @@
 -- How reading goes on, whatever was received.
-use Rattle.fast_walk.proofs.Common.{◌≡◌, ◌<◌, ◌-◌, ℕ, zero, suc, ℤ, Bool, true, List, [], ◌∷◌, ◌++◌, length, map, slice_index_or, slice_set, Option, Some, None, Ok, Err, refl, sym, ap, ◌∙◌, arith, map_push, Key, Scalar, I32, I64, Decimal, Presence, FieldPart, Instruction, Instructions, whole_field, field_in_parts, no_instructions, then_instruction, list_of, IsLeftClear, some_set, Level, Strict, R8, Dictionary, single, Elements, Items, items_of, sequence_elements, elements_of, Stop, Cursor, Reads, node_at, field_part_at, own_map_at, piece_at, stopped, Body, Sequel, Waiting, Inside, in_group, in_sequence, Next, at_instruction, at_mantissa, at_element, with_item, with_element, cursor, fewer, under_bits, body_on, mantissa_on, top_on, behind_inside, all_around, Having, Received, Same, Goes, after_sequence, in_element, behind_last, closed_in, ended_in, left_around, At, IsAt, IsOpened, bare_inside, bare, bare_next, bare_sequel, frame_of, inside_of, next_of, reads_on, sequel_of, AreAllServed, IsLast, IsWaitingServed, Frame as FrameNow, Walk as WalkNow, get_or-append_seam, set-append_seam, length-append}
+use Rattle.fast_walk.proofs.Common.{◌≡◌, ◌<◌, ◌-◌, ℕ, zero, suc, ℤ, Bool, true, List, [], ◌∷◌, ◌++◌, length, map, slice_index_or, slice_set, Option, Some, None, Ok, Err, refl, sym, ap, ◌∙◌, arith, map_push, Key, Scalar, I32, I64, Decimal, Presence, FieldPart, Instruction, Instructions, whole_field, field_in_parts, no_instructions, then_instruction, list_of, IsLeftClear, some_set, Level, Strict, R8, Dictionary, single, Elements, Items, items_of, sequence_elements, elements_of, Stop, Cursor, Reads, node_at, field_part_at, own_map_at, piece_at, stopped, Body, Sequel, Waiting, Inside, in_group, in_sequence, Next, at_instruction, at_mantissa, at_element, with_item, with_element, cursor, fewer, under_bits, body_on, mantissa_on, top_on, behind_inside, all_around, Having, Received, left_of, Same, Goes, after_sequence, in_element, behind_last, closed_in, ended_in, left_around, At, IsAt, IsOpened, bare_inside, bare, bare_next, bare_sequel, frame_of, inside_of, next_of, reads_on, sequel_of, AreAllServed, IsLast, IsWaitingServed, Frame as FrameNow, Walk as WalkNow, get_or-append_seam, set-append_seam, length-append}
+use Rattle.std.proofs.lemmas.List.{same_from_push}
 use Rattle.fast_walk.specs.declared.walk.Next.TheVariants as next
 use Rattle.fast_walk.specs.declared.walk.Sequel.{Sequel as SequelNow}
 use Rattle.fast_walk.proofs.Steps.{after_piece, all_around-more, elements_before-end, all_around-stops, count_goes, end_goes, end_stops, items_on, set_stops, some_left, whole_goes}
@@ -51,6 +52,14 @@ around_element q {is = is} {fs = fs} bits a =
 
 -- ---- the end of a segment
 
+-- the last of those that wait, where any does
+has_last : (us : List Waiting) → (us ≡ [] → ⊥) → (before : List Waiting) × (last : Waiting) × (us ≡ before ++ last ∷ [])
+has_last [] some = absurd (some refl)
+has_last (u ∷ []) some = ([], u, refl)
+has_last (u ∷ v ∷ us) some =
+    let l = has_last (v ∷ us) (λ e. absurd cc) in
+    (u ∷ l.0, l.1, ap (λ (ws : List Waiting). u ∷ ws) l.2)
+
 -- what was received last of the bodies around
 pub record Last (us : List Waiting) (fs : List Waiting) (f : Waiting) : Type 0 where
   pub before : List Waiting
@@ -60,14 +69,10 @@ pub record Last (us : List Waiting) (fs : List Waiting) (f : Waiting) : Type 0 w
   pub same : bare last ≡ f
 
 pub last_of : (us fs : List Waiting) (f : Waiting) → map bare us ≡ fs ++ f ∷ [] → Last us fs f
-last_of [] [] f h = absurd cc
-last_of [] (g ∷ fs) f h = absurd cc
-last_of (u ∷ []) [] f h = record { before = []; last = u; is = refl; rests = refl; same = cc }
-last_of (u ∷ v ∷ us) [] f h = absurd cc
-last_of (u ∷ us) (g ∷ fs) f h =
-    let one : bare u ≡ g = cc in
-    let l = last_of us fs f cc in
-    record { before = u ∷ l.before; last = l.last; is = ap (λ (vs : List Waiting). u ∷ vs) l.is; rests = rw (one, l.rests) refl; same = l.same }
+last_of us fs f h =
+    let l = has_last us (λ none. absurd (omega (arith, length-append fs (f ∷ []), ap (λ (ws : List Waiting). length ws) (sym h ∙ ap (map bare) none)))) in
+    let same = same_from_push (map bare l.0) fs (bare l.1) f (sym (ap (map bare) l.2 ∙ map_push bare l.0 l.1) ∙ h) in
+    record { before = l.0; last = l.1; is = l.2; rests = same.0; same = same.1 }
 
 -- where its sequence has ended with it
 last_same : (k : ℕ) (o : Received) (s : Sequel) → ((behind_last k o s).around ≡ o.around) × ((behind_last k o s).body.rest ≡ o.body.rest) × Same o (behind_last k o s)
@@ -103,25 +108,20 @@ served_pop serves (v ∷ ws) w h = let r = served_pop serves ws w h.1 in ((h.0, 
 
 -- ---- one piece behind the other
 
+pub same_on : {o p q : Received} → Same o p → Same p q → Same o q
+same_on h k = record { set = k.set ∙ h.set; before = k.before ∙ h.before; template = k.template ∙ h.template; members = k.members ∙ h.members; start = k.start ∙ h.start }
+
 pub goes_on : (Has Had Later : Received → Type 0) (read reads later : Received → List ℕ → Reads Items) (a b c : List ℕ) → Goes Has read Had reads a b → Goes Had reads Later later b c → Goes Has read Later later a c
 goes_on Has Had Later read reads later a b c g h o has =
     let p = g o has in
     let q = h p.0 p.1 in
-    (q.0, q.1, record { set = q.2.set ∙ p.2.set; before = q.2.before ∙ p.2.before; template = q.2.template ∙ p.2.template; members = q.2.members ∙ p.2.members; start = q.2.start ∙ p.2.start }, λ more. p.3 more ∙ q.3 more)
+    (q.0, q.1, same_on p.2 q.2, λ more. p.3 more ∙ q.3 more)
 
 pub none_mapped : {A B : Type 0} (f : A → B) (xs : List A) → map f xs ≡ [] → xs ≡ []
 none_mapped f [] h = refl
 none_mapped f (x ∷ xs) h = absurd cc
 
 -- ---- at a level
-
--- the last of those that wait, where any does
-has_last : (us : List Waiting) → (us ≡ [] → ⊥) → (before : List Waiting) × (last : Waiting) × (us ≡ before ++ last ∷ [])
-has_last [] some = absurd (some refl)
-has_last (u ∷ []) some = ([], u, refl)
-has_last (u ∷ v ∷ us) some =
-    let l = has_last (v ∷ us) (λ e. absurd cc) in
-    (u ∷ l.0, l.1, ap (λ (ws : List Waiting). u ∷ ws) l.2)
 
 pub last_frames : {w : WalkNow} {s : SequelNow} (l : IsLast w s) → map frame_of w.around.items ≡ map frame_of l.fore ++ frame_of l.frame ∷ []
 last_frames l = ap (map frame_of) l.frames ∙ map_push frame_of l.fore l.frame
@@ -190,24 +190,23 @@ module _ (level : Level) where
   piece_stops_on ws n b i is c s next first h = piece_on ws n b i is c next first ∙ rw h (all_around-stops level ws s)
 
   element_on : (q : Received) {t : Sequel} {is : Instructions} {fs : List Waiting} (a : IsAtElement q t is fs) (c d e : Cursor) → 0 < t.left → node_at t.number c ≡ Ok d → own_map_at level t.number t.own_map d ≡ Ok e
-      → all_around level q.around (top_on level q.next q.body c) ≡ all_around level (in_element q d.bits a.sequel).around (body_on level (record { rest = a.sequel.members; done = [] }) e)
+      → left_of level q c ≡ left_of level (in_element q d.bits a.sequel) e
   element_on q a c d e some h k =
       let s = a.sequel in
       ap (λ (n : Next). all_around level q.around (top_on level n q.body c)) a.next
       ∙ ap (all_around level q.around) (some_left level s q.body c (rw (← a.same) at some) ∙ element_around_on level s.number s.own_map s.members (s.left - 1) s.done q.body c d e (rw (← a.same) at h) (rw (← a.same) at k))
       ∙ sym (all_around-more level q.around _ _)
 
-  pub no_node_on : (q : Received) {t : Sequel} {is : Instructions} {fs : List Waiting} (c : Cursor) {f : Stop} → IsAtElement q t is fs → 0 < t.left → node_at t.number c ≡ Err f → all_around level q.around (top_on level q.next q.body c) ≡ Err f
+  pub no_node_on : (q : Received) {t : Sequel} {is : Instructions} {fs : List Waiting} (c : Cursor) {f : Stop} → IsAtElement q t is fs → 0 < t.left → node_at t.number c ≡ Err f → left_of level q c ≡ Err f
   no_node_on q c {f} a some h = rw (a.next, some_left level a.sequel q.body c (rw (← a.same) at some), rw (← a.same) at h) (all_around-stops level q.around f)
 
-  pub no_map_on : (q : Received) {t : Sequel} {is : Instructions} {fs : List Waiting} (c : Cursor) {d : Cursor} {f : Stop} → IsAtElement q t is fs → 0 < t.left → node_at t.number c ≡ Ok d → own_map_at level t.number t.own_map d ≡ Err f
-      → all_around level q.around (top_on level q.next q.body c) ≡ Err f
+  pub no_map_on : (q : Received) {t : Sequel} {is : Instructions} {fs : List Waiting} (c : Cursor) {d : Cursor} {f : Stop} → IsAtElement q t is fs → 0 < t.left → node_at t.number c ≡ Ok d → own_map_at level t.number t.own_map d ≡ Err f → left_of level q c ≡ Err f
   no_map_on q c {d} {f} a some h k =
       rw (a.next, some_left level a.sequel q.body c (rw (← a.same) at some), rw (← a.same) at h, rw (← a.same) at k) (all_around-stops level q.around f)
 
   -- in an element, from where it was next
   pub enters : {R : Type 0} (Has : Having R) (w : WalkNow) {v : WalkNow} (s : R) (d : Dictionary) (o q : Received) (bytes rest : List ℕ) {frames : List FrameNow} {outer own : List Bool} {left : ℕ} {t : Sequel} {is : Instructions}
-      (a : IsAtElement q t is (map frame_of frames)) → Same o q → ((b : List ℕ) → reads_on level w d o b ≡ all_around level q.around (top_on level q.next q.body (cursor d outer left b)))
+      (a : IsAtElement q t is (map frame_of frames)) → Same o q → ((b : List ℕ) → reads_on level w d o b ≡ left_of level q (cursor d outer left b))
       → 0 < t.left → 0 < left → IsOpened frames outer left t.number t.members is (in_sequence (fewer t)) own v
       → ((more : List ℕ) → own_map_at level t.number t.own_map (cursor d outer (left - 1) (bytes ++ more)) ≡ Ok (cursor d own (left - 1) (rest ++ more)))
       → (t.own_map ≡ a.sequel.own_map → 0 < a.sequel.left → Has s (in_element q outer a.sequel) d)
@@ -226,43 +225,34 @@ module _ (level : Level) where
   -- ---- the end of a segment
 
   -- what is left behind it, in the body that waited
-  ended_reads : (o : Received) (ws : List Waiting) (b : Body) (i : Inside) (c : Cursor)
-      → all_around level (ended_in o ws b i).around (top_on level (ended_in o ws b i).next (ended_in o ws b i).body c) ≡ all_around level ws (behind_inside level i b (items_of o.body.done) c)
+  ended_reads : (o : Received) (ws : List Waiting) (b : Body) (i : Inside) (c : Cursor) → left_of level (ended_in o ws b i) c ≡ all_around level ws (behind_inside level i b (items_of o.body.done) c)
   ended_reads o ws b in_group c = refl
   ended_reads o ws b (in_sequence s) c = refl
 
   pub end_on : (o : Received) (ws fs : List Waiting) (f : Waiting) (l : Last o.around fs f) (c : Cursor) → IsLeftClear level c.bits → o.next ≡ at_instruction → o.body.rest ≡ no_instructions
-      → all_around level o.around (top_on level o.next o.body c)
-      ≡ all_around level (ended_in o l.before l.last.body l.last.inside).around
-      (top_on level (ended_in o l.before l.last.body l.last.inside).next (ended_in o l.before l.last.body l.last.inside).body (under_bits f.bits c))
+      → left_of level o c ≡ left_of level (ended_in o l.before l.last.body l.last.inside) (under_bits f.bits c)
   end_on o ws fs f l c clear next rest =
       ap (λ (n : Next). all_around level o.around (top_on level n o.body c)) next
       ∙ end_goes level o.around l.before l.last o.body c clear l.is rest
       ∙ ap (λ (w : Waiting). all_around level l.before (behind_inside level l.last.inside l.last.body (items_of o.body.done) (under_bits w.bits c))) l.same
       ∙ sym (ended_reads o l.before l.last.body l.last.inside (under_bits f.bits c))
 
-  last_reads : (k : ℕ) (o : Received) (s : Sequel) (c : Cursor) → o.next ≡ at_element s → s.left ≡ k
-      → all_around level o.around (top_on level o.next o.body c)
-      ≡ all_around level (behind_last k o s).around (top_on level (behind_last k o s).next (behind_last k o s).body c)
+  last_reads : (k : ℕ) (o : Received) (s : Sequel) (c : Cursor) → o.next ≡ at_element s → s.left ≡ k → left_of level o c ≡ left_of level (behind_last k o s) c
   last_reads zero o s c next none = no_more_on o.around o.next o.body s c next none
   last_reads (suc n) o s c next some = refl
 
-  closed_reads : (o : Received) (ws : List Waiting) (b : Body) (i : Inside) (c : Cursor)
-      → all_around level (ended_in o ws b i).around (top_on level (ended_in o ws b i).next (ended_in o ws b i).body c)
-      ≡ all_around level (closed_in o ws b i).around (top_on level (closed_in o ws b i).next (closed_in o ws b i).body c)
+  closed_reads : (o : Received) (ws : List Waiting) (b : Body) (i : Inside) (c : Cursor) → left_of level (ended_in o ws b i) c ≡ left_of level (closed_in o ws b i) c
   closed_reads o ws b in_group c = refl
   closed_reads o ws b (in_sequence s) c = last_reads s.left (ended_in o ws b (in_sequence s)) (with_element s (items_of o.body.done)) c refl refl
 
   pub closed_on : (o : Received) (ws fs : List Waiting) (f : Waiting) (l : Last o.around fs f) (c : Cursor) → IsLeftClear level c.bits → o.next ≡ at_instruction → o.body.rest ≡ no_instructions
-      → all_around level o.around (top_on level o.next o.body c)
-      ≡ all_around level (closed_in o l.before l.last.body l.last.inside).around
-      (top_on level (closed_in o l.before l.last.body l.last.inside).next (closed_in o l.before l.last.body l.last.inside).body (under_bits f.bits c))
+      → left_of level o c ≡ left_of level (closed_in o l.before l.last.body l.last.inside) (under_bits f.bits c)
   closed_on o ws fs f l c clear next rest = end_on o ws fs f l c clear next rest ∙ closed_reads o l.before l.last.body l.last.inside (under_bits f.bits c)
 
   -- the end of a segment that leaves a bit that is 1
   pub end_on_stops : (o : Received) (fs : List Waiting) (number : ℕ) (c : Cursor) → map bare o.around ≡ fs → (fs ≡ [] → ⊥) → ((ws : List Waiting) (w : Waiting) → fs ≡ ws ++ w ∷ [] → number ≡ w.number)
       → o.next ≡ at_instruction → o.body.rest ≡ no_instructions → level ≡ Strict → some_set c.bits ≡ true
-      → all_around level o.around (top_on level o.next o.body c) ≡ stopped number c.bytes R8
+      → left_of level o c ≡ stopped number c.bytes R8
   end_on_stops o fs number c same some named next rest strict left =
       let l = has_last o.around (λ none. some (sym same ∙ ap (map bare) none)) in
       let numbered = named (map bare l.0) (bare l.1) (sym same ∙ ap (map bare) l.2 ∙ map_push bare l.0 l.1) in
@@ -271,12 +261,10 @@ module _ (level : Level) where
 
   -- behind the element that is open its sequence goes on
   pub sequel_on : (o : Received) (fs : List Waiting) (t : Sequel) (n : HasNext o.around fs t) (c : Cursor) → IsLeftClear level c.bits → o.next ≡ at_instruction → o.body.rest ≡ no_instructions
-      → all_around level o.around (top_on level o.next o.body c)
-      ≡ all_around level n.last.before (top_on level (at_element (with_element n.sequel (items_of o.body.done))) n.last.last.body (under_bits n.frame.bits c))
+      → left_of level o c ≡ all_around level n.last.before (top_on level (at_element (with_element n.sequel (items_of o.body.done))) n.last.last.body (under_bits n.frame.bits c))
   sequel_on o fs t n c clear next rest =
       end_on o n.fore n.fore n.frame n.last c clear next rest
-      ∙ ap (λ (i : Inside). all_around level (ended_in o n.last.before n.last.last.body i).around
-      (top_on level (ended_in o n.last.before n.last.last.body i).next (ended_in o n.last.before n.last.last.body i).body (under_bits n.frame.bits c))) n.is
+      ∙ ap (λ (i : Inside). left_of level (ended_in o n.last.before n.last.last.body i) (under_bits n.frame.bits c)) n.is
 
   -- the end of the message's own body
   pub all_read : (us : List Waiting) (n : Next) (b : Body) (c : Cursor) → us ≡ [] → n ≡ at_instruction → b.rest ≡ no_instructions → all_around level us (top_on level n b c) ≡ Ok (items_of b.done, c)

@@ -1,7 +1,9 @@
 -- How many bytes more a piece lacks at least that has begun.
 use Rattle.std.specs.Prelude.{◌≡◌, ◌≢◌, ◌≤◌, ◌<◌, ◌+◌, ℕ, Bool, true, false, List, [], ◌++◌, length, Result, Ok, Err, ◌⊎◌, pos}
 use Rattle.std.specs.List.{AllByRecursion}
-use Rattle.fast_walk.specs.Prelude.{unsigned_at, unsigned_nullable_at, Value, Kind, Operator, Presence, Mandatory, Optional, FieldPart, Instructions, list_of, then_instruction, whole_field, field_in_parts, sequence_of, Entry, Dictionary, field_at, mantissa_entity_at, part_at, units_at, NeedMore, Truncated, Reads, stopped, Level}
+use Rattle.fast_walk.specs.Prelude.{unsigned_at, unsigned_nullable_at, Value, Kind, Operator, Presence, Mandatory, Optional, FieldPart, Instructions, list_of, then_instruction, whole_field, field_in_parts, sequence_of, Entry, Dictionary, field_at, units_at, NeedMore, Truncated, Reads, stopped, Level}
+use Rattle.fast_wire.specs.Reading.{entity_at}
+use Rattle.fast_wire.specs.declared.fault.WireFault.{WireFault}
 use Rattle.fast_walk.specs.Received.{Received}
 use Rattle.fast_walk.specs.OpenSegments.{at_mantissa}
 use Rattle.fast_walk.specs.Walks.{IsAt, next_of, reads_on}
@@ -67,12 +69,12 @@ takes_two k = false
 abbrev pub HasSecond : Operator → Kind → Bool → Type 0
 HasSecond o k bit = ((k ≡ Kind.Decimal) × (o ≢ Operator.Tail) × (sends o bit ≡ true)) ⊎ ((takes_two k ≡ true) × (o ≡ Operator.Delta))
 
--- so it waits
-pub record SecondWaits (level : Level) (k : Kind) (bytes : List ℕ) : Type 0 where
-  pub units : part_at level k bytes ≡ Err NeedMore
-  pub mantissa : k ≡ Kind.Decimal → mantissa_entity_at level bytes ≡ Err NeedMore
+-- what is spelled whole waits: for the end of its characters or its vector, or else for that of the entity in front
+pub record WholeWaits (level : Level) (k : Kind) (p : Presence) (bytes : List ℕ) : Type 0 where
+  pub units : units_at level k p bytes ≡ Err NeedMore
+  pub entity : (k ≡ Kind.Unicode → ⊥) → (k ≡ Kind.Bytes → ⊥) → entity_at (whole_limit k) bytes ≡ Err WireFault.NeedMore
 
--- ---- what is lacking of an entity of at most so many bytes, of a vector, of a field, and behind its first entity
+-- ---- what is lacking of an entity of at most so many bytes, of a vector, of what is spelled whole, and of a field
 
 pub record EntityLacks (of limit : ℕ) (bytes : List ℕ) (l : Lack) : Type 0 where
   pub few : length bytes + l.most < limit
@@ -85,12 +87,12 @@ pub record VectorLacks (level : Level) (k : Kind) (p : Presence) (of : ℕ) (byt
   pub lacks : Wants (units_at level k p) NeedMore bytes l
   pub number : l.number ≡ of
 
+pub record WholeLacks (level : Level) (k : Kind) (p : Presence) (of : ℕ) (bytes : List ℕ) (l : Lack) : Type 0 where
+  pub lacks : (more : List ℕ) → IsLacking l more → WholeWaits level k p (bytes ++ more)
+  pub number : l.number ≡ of
+
 pub record FieldLacks (level : Level) (p : FieldPart) (e : Entry) (bit : Bool) (bytes : List ℕ) (l : Lack) : Type 0 where
   pub lacks : Wants (field_at level p e bit) NeedMore bytes l
-  pub number : l.number ≡ p.number
-
-pub record SecondLacks (level : Level) (p : FieldPart) (bytes : List ℕ) (l : Lack) : Type 0 where
-  pub lacks : (more : List ℕ) → IsLacking l more → SecondWaits level p.kind (bytes ++ more)
   pub number : l.number ≡ p.number
 
 -- a reading stops at the first of so many bytes, for want of more

@@ -1,7 +1,7 @@
 -- What a receiver has been handed of a message that has begun.
 use Rattle.std.specs.Prelude.{◌≡◌, ◌≤◌, ℕ, zero, suc, ℤ, Bool, true, false, List, [], ◌∷◌, ◌++◌, Option, Some, None, Ok, Err}
-use Rattle.fast_walk.specs.Prelude.{Scalar, U32, I32, Bytes, FieldPart, Instructions, no_instructions, has_map, Resolved, Entry, Dictionary, entry_at, Level, next, field_at, FieldFault, Item, single, group_items, sequence_elements, items_of, elements_of, nodes_in, node_limit, Content, Items, no_items, then_item, members_of, written, Reads}
-use Rattle.fast_walk.specs.OpenSegments.{Body, Sequel, Inside, in_group, in_sequence, Waiting, Next, at_instruction, at_mantissa, at_element, with_item, with_element, fewer}
+use Rattle.fast_walk.specs.Prelude.{Scalar, U32, I32, Bytes, FieldPart, Instructions, no_instructions, has_map, Resolved, Entry, Dictionary, entry_at, Level, next, field_at, FieldFault, Item, single, group_items, sequence_elements, items_of, elements_of, nodes_in, node_limit, Content, Items, no_items, then_item, members_of, written, Cursor, Reads}
+use Rattle.fast_walk.specs.OpenSegments.{Body, Sequel, Inside, in_group, in_sequence, Waiting, Next, at_instruction, at_mantissa, at_element, all_around, top_on, with_item, with_element, fewer}
 
 -- The template set; the messages before; the template and its instructions; the dictionary before the message; the
 -- piece that is next, the innermost open body, and those around it, the message's own first.
@@ -73,6 +73,10 @@ closed_in o ws b (in_sequence s) = behind_last s.left (ended_in o ws b (in_seque
 -- behind an element that has ended, in the next one of its sequence
 abbrev pub in_next : Received → List Bool → List Waiting → Body → Sequel → Received
 in_next o bits ws b s = in_element (ended_in o ws b (in_sequence s)) bits (with_element s (items_of o.body.done))
+
+-- what is left of the message
+abbrev pub left_of : Level → Received → Cursor → Reads Items
+left_of level o c = all_around level o.around (top_on level o.next o.body c)
 
 -- the message that has been received, once its own body has ended
 abbrev pub content_received : Received → Content

@@ -1,8 +1,8 @@
 -- How a walk through a message's open segments stands to what was received.
 use Rattle.std.specs.Prelude.{◌≡◌, ℕ, ◌+◌, ◌-◌, ◌*◌, pos, Bool, List, [], ◌∷◌, ◌++◌, map, length, IsTrue}
 use Rattle.fast_walk.specs.Prelude.{Key, Kind, Part, Presence, Mandatory, FieldPart, Instruction, Instructions, whole_field, field_in_parts, group_of, sequence_of, no_instructions, then_instruction, list_of, Dictionary, Level, after_bit, Items, Reads, stopped}
-use Rattle.fast_walk.specs.OpenSegments.{Sequel, Inside, in_group, in_sequence, Waiting, Next, at_instruction, at_mantissa, at_element, all_around, top_on, cursor}
-use Rattle.fast_walk.specs.Received.{Received, Goes, Having}
+use Rattle.fast_walk.specs.OpenSegments.{Sequel, Inside, in_group, in_sequence, Waiting, Next, at_instruction, at_mantissa, at_element, cursor}
+use Rattle.fast_walk.specs.Received.{Received, Goes, Having, left_of}
 use Rattle.fast_walk.specs.Told.{IsTold}
 use Rattle.fast_walk.specs.declared.halt.Halt.{Halt}
 use Rattle.fast_walk.specs.declared.walk.Sequel.{Sequel as SequelNow}
@@ -58,7 +58,7 @@ pub record IsAt (w : WalkNow) (o : Received) : Type 0 where
 
 -- what is left to be read
 abbrev pub reads_on : Level → WalkNow → Dictionary → Received → List ℕ → Reads Items
-reads_on level w d o bytes = all_around level o.around (top_on level o.next o.body (cursor d w.bits w.spare bytes))
+reads_on level w d o bytes = left_of level o (cursor d w.bits w.spare bytes)
 
 -- where a walk is and what its receiver has
 abbrev pub At : {R : Type 0} → Having R → WalkNow → R → Dictionary → Received → Type 0
@@ -74,13 +74,9 @@ HaltsAs level w d bytes h = (o : Received) → IsAt w o → reads_on level w d o
 
 -- ---- what is asked for
 
--- The key of such a part is served, and the part is one of a set.
-abbrev pub IsServedAs : (Key → Bool) → Part → Kind → FieldPart → Type 0
-IsServedAs serves part kind p = IsTrue (serves p.key) × IsTold part kind p
-
--- and it may be absent where that instruction may
+-- The key of such a part is served, the part is one of a set, and it may be absent where that instruction may.
 abbrev pub IsServedWith : (Key → Bool) → Part → Kind → Presence → FieldPart → Type 0
-IsServedWith serves part kind presence p = IsServedAs serves part kind p × (p.presence ≡ presence)
+IsServedWith serves part kind presence p = (IsTrue (serves p.key) × IsTold part kind p) × (p.presence ≡ presence)
 
 abbrev pub IsMantissaServed : (Key → Bool) → FieldPart → Type 0
 IsMantissaServed serves p = IsServedWith serves Part.Mantissa Kind.Int64 Mandatory p

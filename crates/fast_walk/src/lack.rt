@@ -12,7 +12,7 @@ ghost use Rattle.fast_stream.specs.Bits.{bit_for};
 ghost use Rattle.fast_dictionary.specs.declared.entry.Entry.{Entry};
 ghost use Rattle.fast_dictionary.specs.Dictionary.{Dictionary, entry_of};
 ghost use Rattle.fast_field.specs.Faults.{field_fault};
-ghost use Rattle.fast_walk.specs.Lacks.{AreUnstopped, EntityLacks, FieldLacks, HasSecond, IsCount, IsNextPart, Lacks, SecondLacks, VectorLacks, WalkLacks, WantsByte, first_limit as first_limit_of, sends};
+ghost use Rattle.fast_walk.specs.Lacks.{AreUnstopped, EntityLacks, FieldLacks, HasSecond, IsCount, IsNextPart, Lacks, VectorLacks, WalkLacks, WantsByte, WholeLacks, first_limit as first_limit_of, sends};
 
 use crate::bits::first_for;
 use crate::traversal::{Stage, Traversal};
@@ -178,6 +178,17 @@ fn units_lack(
     }
 }
 
+// What lacks that is spelled by an entity, or by a vector that begins with one.
+#[inline(always)]
+fn whole_lack(level: Level, part: &FieldPart, presence: Presence, bytes: &[u8]) -> Option<Lack>
+    ensures { IfSome result (WholeLacks level part.now.kind presence part.now.number bytes.now) }
+{
+    match entity_lack(part.number, first_limit(Operator::Plain, part.kind), bytes) {
+        Some(lack) => Some(lack),
+        None => units_lack(level, part.number, part.kind, presence, bytes),
+    }
+}
+
 /// What a field lacks, of which these bytes have come.
 pub(crate) fn field_lack(level: Level, part: &FieldPart, bit: bool, bytes: &[u8]) -> Option<Lack>
     ensures { IfSome result (λ l. (e : Entry) → FieldLacks level part.now e bit bytes.now l) }
@@ -185,12 +196,9 @@ pub(crate) fn field_lack(level: Level, part: &FieldPart, bit: bool, bytes: &[u8]
     if !is_sent(part.operator, bit) {
         return None;
     }
-    match entity_lack(part.number, first_limit(part.operator, part.kind), bytes) {
-        Some(lack) => Some(lack),
-        None => match part.operator {
-            Operator::Delta => None,
-            _ => units_lack(level, part.number, part.kind, part.presence, bytes),
-        },
+    match part.operator {
+        Operator::Delta => entity_lack(part.number, NUMBER_LIMIT, bytes),
+        _ => whole_lack(level, part, part.presence, bytes),
     }
 }
 
@@ -206,17 +214,6 @@ fn has_second(part: &FieldPart, bit: bool) -> bool
         },
         Kind::Ascii | Kind::Unicode | Kind::Bytes => part.operator == Operator::Delta,
         _ => false,
-    }
-}
-
-// What that entity lacks, or the vector that begins with it.
-#[inline(always)]
-fn second_lack(level: Level, part: &FieldPart, bytes: &[u8]) -> Option<Lack>
-    ensures { IfSome result (SecondLacks level part.now bytes.now) }
-{
-    match entity_lack(part.number, first_limit(Operator::Plain, part.kind), bytes) {
-        Some(lack) => Some(lack),
-        None => units_lack(level, part.number, part.kind, Presence::Mandatory, bytes),
     }
 }
 
@@ -237,7 +234,7 @@ fn rest_lack(
     }
     match entity_end(bytes, 0, NUMBER_LIMIT) {
         Err(_) => None,
-        Ok(next) => match second_lack(level, part, &bytes[next..]) {
+        Ok(next) => match whole_lack(level, part, Presence::Mandatory, &bytes[next..]) {
             None => None,
             Some(lack) => {
                 if let Err(FieldFault::NeedMore) = find_field(
