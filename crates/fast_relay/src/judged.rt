@@ -353,7 +353,9 @@ fn judge_constant(which: Part, instr: &FieldPart, entry: &Entry, bytes: &[u8], a
 {
     match &instr.initial {
         Some(initial) if can_begin(which, instr, initial.value()) => Judged::Stands(at),
-        _ => Judged::Elsewhere,
+        Some(_) => Judged::Elsewhere,
+        // a constant has a value, as was seen when the templates were loaded
+        None => unreachable!(),
     }
 }
 
@@ -506,15 +508,18 @@ fn judge_behind(
     }
 }
 
-/// Whether a part can be of a type. Those of a decimal are of one each, so that nothing is asked of it behind here.
+/// The type of a part. All but a whole field's are known with the part, so that nothing is asked of them behind here.
 #[inline(always)]
-fn can_have(which: Part, kind: Kind) -> bool
-    ensures { which ≡ part_type.Whole → result ≡ true }
+fn kind_of(which: Part, instr: &FieldPart) -> Kind
+    requires which { which ≡ instr.now.part }
+    requires part { IsFieldPart instr.now }
+    ensures { result ≡ instr.now.kind }
 {
     match which {
-        Part::Whole | Part::Length => true,
-        Part::Exponent => kind == Kind::Int32,
-        Part::Mantissa => kind == Kind::Int64,
+        Part::Whole => instr.kind,
+        Part::Exponent => Kind::Int32,
+        Part::Mantissa => Kind::Int64,
+        Part::Length => Kind::UInt32,
     }
 }
 
@@ -533,9 +538,6 @@ fn judge_integer(
     requires kind { kind ≡ instr.now.kind }
     ensures { IsJudged instr.now entry.old entry.new bytes.now at result }
 {
-    if !can_have(which, kind) {
-        return Judged::Elsewhere;
-    }
     // read once for all operators, so that the whole is small enough to be inlined
     let unsigned = is_sent_unsigned(kind, instr.operator);
     let Some((number, next)) = read_number(unsigned, instr.presence, bytes, at) else {
@@ -591,20 +593,15 @@ pub fn judge_field(
     requires kept { HoldsScalar entry.now }
     ensures { IsJudged instr.now entry.old entry.new bytes.now at result }
 {
-    match instr.operator {
-        Operator::Constant => judge_constant(which, instr, entry, bytes, at),
-        Operator::Plain
-        | Operator::Default
-        | Operator::Copy
-        | Operator::Increment
-        | Operator::Delta
-        | Operator::Tail => match instr.kind {
-            Kind::UInt32 | Kind::Int32 | Kind::UInt64 | Kind::Int64 => {
-                judge_integer(which, instr.kind, instr, entry, bytes, at)
-            }
-            Kind::Decimal | Kind::Ascii | Kind::Unicode | Kind::Bytes => {
-                judge_long(which, alloc, instr, entry, bytes, at)
-            }
-        },
+    if instr.operator == Operator::Constant {
+        return judge_constant(which, instr, entry, bytes, at);
+    }
+    match kind_of(which, instr) {
+        kind @ (Kind::UInt32 | Kind::Int32 | Kind::UInt64 | Kind::Int64) => {
+            judge_integer(which, kind, instr, entry, bytes, at)
+        }
+        Kind::Decimal | Kind::Ascii | Kind::Unicode | Kind::Bytes => {
+            judge_long(which, alloc, instr, entry, bytes, at)
+        }
     }
 }
