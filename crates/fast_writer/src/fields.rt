@@ -1,6 +1,6 @@
 //! Fields that are taken one after the other, with no call of the walk between them.
 
-ghost use Rattle.std.specs.Prelude.{◌≡◌, ◌≤◌, ◌<◌, ◌+◌, ◌&&◌, Bool, true, false, Option, None, IsSome, IfOk, IfSome, MatchOption, OnOk, IsTrue, length, drop, slice_range};
+ghost use Rattle.std.specs.Prelude.{◌≡◌, ◌≤◌, ◌<◌, ◌+◌, ◌-◌, ◌&&◌, Bool, true, false, Option, None, IsSome, IfOk, IfSome, MatchOption, OnOk, IsTrue, length, drop, slice_range};
 ghost use Rattle.fast_template.specs.Resolved.{instruction_of, list_of, part_needs_bit as part_needs_bit_of};
 ghost use Rattle.fast_value.specs.declared.scalar.Scalar.{Scalar as ScalarOf};
 ghost use Rattle.fast_dictionary.specs.declared.entry.Entry.{Entry as EntryOf};
@@ -257,8 +257,8 @@ fn first_part(flat: &Flat) -> Option<(&FieldPart, Option<&FieldPart>)>
     }
 }
 
-// Takes fields from the front of a body, as many as the quick way serves one after the other. Answers how many instructions
-// were passed, and the mantissa that is next where only the exponent of the last one was taken.
+// Takes fields from the front of a body, as many as the quick way serves one after the other. Answers the instructions behind
+// them, and the mantissa that is next where only the exponent of the last one was taken.
 fn take_all<'a, L: Leveled, E: Entries>(
     rest: &'a [Flat],
     alloc: Global,
@@ -267,21 +267,22 @@ fn take_all<'a, L: Leveled, E: Entries>(
     level: L,
     bytes: &[u8],
     segment: &mut Segment,
-) -> Result<(usize, Option<&'a FieldPart>), AllocError>
+) -> Result<(&'a [Flat], Option<&'a FieldPart>), AllocError>
     requires run { IsRun bytes.now segment.now.bytes.place segment.now.bytes }
     requires served { AreServed (E.serves entries.now) (list_of rest.now) }
     requires kept { KeepScalars (E.contents entries.now) }
     ensures run { OnOk result (IsRun bytes.now segment.new.bytes.place segment.new.bytes) }
+    ensures fewer { IfOk result (λ x. length x.0.now ≤ length rest.now) }
     ensures took { IfOk result (λ x. TookFields L.at (E.serves entries.old) rest.now bytes.now
         (level_in bytes.now segment.old) (E.contents entries.old) bits.old segment.old.bytes.place
-        x.0 x.1 (level_in bytes.now segment.new) (E.contents entries.new) bits.new segment.new.bytes.place) }
+        (length rest.now - length x.0.now) x.1 (level_in bytes.now segment.new) (E.contents entries.new) bits.new segment.new.bytes.place) }
     ensures same_keys { E.serves entries.new ≡ E.serves entries.old }
 {
     // no function of its own: what it changes stays in registers here (the instructions go by a slice, since an index would not)
     let mut others = rest;
     'pieces: while let Some(flat) = others.first() {
         match first_part(flat) {
-            None => return Ok((rest.len() - others.len(), None)),
+            None => return Ok((others, None)),
             Some((whole, None)) => match take_part(
                 Part::Whole,
                 alloc,
@@ -293,7 +294,7 @@ fn take_all<'a, L: Leveled, E: Entries>(
                 segment,
             ) {
                 Taken::Part(_there) => others = &others[1..],
-                Taken::Elsewhere => return Ok((rest.len() - others.len(), None)),
+                Taken::Elsewhere => return Ok((others, None)),
                 Taken::Refused => return Err(AllocError),
             },
             Some((exponent, Some(mantissa))) => match take_part(
@@ -317,16 +318,16 @@ fn take_all<'a, L: Leveled, E: Entries>(
                     segment,
                 ) {
                     Taken::Part(_there) => others = &others[1..],
-                    Taken::Elsewhere => return Ok((rest.len() - others.len() + 1, Some(mantissa))),
+                    Taken::Elsewhere => return Ok((&others[1..], Some(mantissa))),
                     Taken::Refused => return Err(AllocError),
                 },
                 Taken::Part(false) => others = &others[1..],
-                Taken::Elsewhere => return Ok((rest.len() - others.len(), None)),
+                Taken::Elsewhere => return Ok((others, None)),
                 Taken::Refused => return Err(AllocError),
             },
         }
     }
-    Ok((rest.len(), None))
+    Ok((others, None))
 }
 
 // Takes fields from the front of a body, and appends what is noted of them. Answers how many instructions were passed, and puts
@@ -351,12 +352,12 @@ fn take_run<'a, L: Leveled, E: Entries>(
         n mantissa.new (level_of segment.new) (E.contents entries.new) bits.new segment.new.bytes.place) }
     ensures same_keys { E.serves entries.new ≡ E.serves entries.old }
 {
-    let (count, next) = take_all(rest, alloc, entries, bits, level, bytes, segment)?;
+    let (others, next) = take_all(rest, alloc, entries, bits, level, bytes, segment)?;
     if !segment.bytes.flush(bytes) {
         return Err(AllocError);
     }
     *mantissa = next;
-    Ok(count)
+    Ok(rest.len() - others.len())
 }
 
 /// Takes fields from the front of the open body, as many as the quick way serves one after the other.

@@ -55,8 +55,7 @@ impl Run {
         self.place = next;
     }
 
-    /// Appends what is noted; answers false, and changes nothing, where memory is refused. (Nothing or one byte is noted
-    /// where a number is counted, which needs no call.)
+    /// Appends what is noted; answers false, and changes nothing, where memory is refused.
     #[inline(always)]
     pub fn flush(&mut self, bytes: &[u8]) -> bool
         requires from { self.now.from ≤ self.now.place }
@@ -70,29 +69,6 @@ impl Run {
         if self.from == self.place {
             return true;
         }
-        if self.place - self.from > 1 {
-            return self.flush_long(bytes);
-        }
-        match self.out.push(bytes[self.from]) {
-            Err(_) => false,
-            Ok(()) => {
-                self.from = self.place;
-                true
-            }
-        }
-    }
-
-    /// The same of any number of bytes.
-    #[inline(never)]
-    fn flush_long(&mut self, bytes: &[u8]) -> bool
-        requires from { self.now.from ≤ self.now.place }
-        requires place { self.now.place ≤ length bytes.now }
-        ensures out { result ≡ true → self.new.out.items ≡ written bytes.now self.old }
-        ensures from { result ≡ true → self.new.from ≡ self.old.place }
-        ensures place { self.new.place ≡ self.old.place }
-        ensures unchanged { result ≡ false → (self.new.out.items ≡ self.old.out.items)
-            × (self.new.from ≡ self.old.from) }
-    {
         match self.out.extend_from_slice(&bytes[self.from..self.place]) {
             Err(_) => false,
             Ok(()) => {

@@ -1,5 +1,5 @@
 use Rattle.fast_writer.proofs.Common.{◌≡◌, ◌-◌, None, Some, arith, length, refl, sym, ◌∙◌, Part, told_part}
-use Rattle.fast_writer.proofs.Takings.{ahead, none_ahead, served_ahead, took_mantissa, took_next, took_none}
+use Rattle.fast_writer.proofs.Takings.{ahead, served_ahead, took_mantissa, took_next, took_none}
 use Rattle.fast_writer.proofs.fields.take_all.Goals as goal
 
 pub pieces-init : goal.pieces-init
@@ -78,8 +78,6 @@ returns-in-Elsewhere-take_part-2-clause-took g c =
     let same = c.in-Elsewhere-take_part-2.ensures.taken in
     let took = rw (inv.same_keys) at inv.took in
     let next = (rw (first.field-0-1-is) at (first.ensures.served serves (served_ahead serves front took.served).0)).2 in
-    rw (same.same, same.segment, same.left, same.run.place)
+    rw (front.next, same.same, same.segment, same.left, same.run.place)
     (took_next m m front c.in-Part-true.ensures.taken took (rw (first.field-0-1-is) at first.ensures.begins) (rw (c.in-Part-true.field-0-test) refl) next)
 
-pub returns-clause-took : goal.returns-clause-took
-returns-clause-took g c = rw (sym (none_ahead c.args.rest.now c.pieces.others.now c.in_default.ensures.value)) (rw (c.pieces.invariant.same_keys) at c.pieces.invariant.took)
