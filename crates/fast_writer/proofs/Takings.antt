@@ -22,11 +22,6 @@ first_of : (others : List Flat) (f : Flat) → Some f ≡ slice_get others 0 →
 first_of [] f is = absurd cc
 first_of (g ∷ others) f is = cc
 
--- where nothing is in front, nothing is left
-pub none_ahead : (flats others : List Flat) → None ≡ slice_get others 0 → length flats - length others ≡ length flats
-none_ahead flats [] none = omega arith
-none_ahead flats (g ∷ others) none = absurd cc
-
 pub ahead : (flats : List Flat) {others : List Flat} {f : Flat} → length others ≤ length flats → others ≡ drop (length flats - length others) flats → Some f ≡ slice_get others 0 → Ahead flats others f
 ahead flats {others} {f} few is first =
     let count = length flats - length others in

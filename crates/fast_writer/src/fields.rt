@@ -30,7 +30,7 @@ use crate::strictly::is_read_as_usual;
 use fast_dictionary::{Entries, Entry};
 use fast_field::Passed;
 use fast_relay::{Best, Judged, best_of, judge_field, judge_other, pass_quickly};
-use fast_template::{FieldPart, Flat, Kind, Part, part_needs_bit};
+use fast_template::{FieldPart, Flat, Part, part_needs_bit};
 use fast_walk::{Fields, Leveled, take_for};
 use fast_wire::{Bits, Level};
 use std::alloc::{AllocError, Global};
@@ -239,6 +239,7 @@ fn take_part<L: Leveled, E: Entries>(
 // a sequence.
 #[inline(always)]
 fn first_part(flat: &Flat) -> Option<(&FieldPart, Option<&FieldPart>)>
+    requires { (serves : Key → Bool) × IsServed serves (instruction_of flat.now) }
     ensures begins { IfSome result (λ x. BeginsWith (instruction_of flat.now) x.0.now x.1) }
     ensures served { IfSome result (λ x. (serves : Key → Bool) → IsServed serves (instruction_of flat.now)
         → IsTrue (serves x.0.now.key) × IsFirstTold x.1 x.0.now × IsNextServed serves (next_behind x.1)) }
@@ -249,10 +250,7 @@ fn first_part(flat: &Flat) -> Option<(&FieldPart, Option<&FieldPart>)>
             exponent,
             mantissa,
             ..
-        } => match exponent.kind {
-            Kind::Int32 => Some((exponent, Some(mantissa))),
-            _ => None,
-        },
+        } => Some((exponent, Some(mantissa))),
         Flat::Group { .. } | Flat::Sequence { .. } => None,
     }
 }

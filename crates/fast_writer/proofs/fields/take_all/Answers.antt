@@ -1,4 +1,4 @@
-use Rattle.fast_writer.proofs.Common.{◌≡◌, ◌-◌, None, Some, arith, length, refl, sym, ◌∙◌, Part, told_part}
+use Rattle.fast_writer.proofs.Common.{◌≡◌, ◌-◌, None, Some, arith, length, refl, ◌∙◌, Part, told_part}
 use Rattle.fast_writer.proofs.Takings.{ahead, served_ahead, took_mantissa, took_next, took_none}
 use Rattle.fast_writer.proofs.fields.take_all.Goals as goal
 
@@ -6,6 +6,13 @@ pub pieces-init : goal.pieces-init
 pieces-init g c =
     let none : length c.args.rest.now - length c.args.rest.now ≡ 0 = omega arith in
     rw none (record { within = omega arith; others = refl; run = c.requires.run; took = took_none c.requires.served c.requires.kept; same_keys = refl })
+
+pub first_part-requires : goal.first_part-requires
+first_part-requires g c =
+    let inv = c.pieces.invariant in
+    let front = ahead c.args.rest.now inv.within inv.others c.in-Some.ensures.value in
+    let serves = g.E.Entries.serves c.pieces.entries in
+    (serves, (served_ahead serves front inv.took.served).0)
 
 pub take_part-requires-clause-part : goal.take_part-requires-clause-part
 take_part-requires-clause-part g c =
@@ -80,4 +87,3 @@ returns-in-Elsewhere-take_part-2-clause-took g c =
     let next = (rw (first.field-0-1-is) at (first.ensures.served serves (served_ahead serves front took.served).0)).2 in
     rw (front.next, same.same, same.segment, same.left, same.run.place)
     (took_next m m front c.in-Part-true.ensures.taken took (rw (first.field-0-1-is) at first.ensures.begins) (rw (c.in-Part-true.field-0-test) refl) next)
-
