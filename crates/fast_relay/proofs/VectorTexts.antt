@@ -4,7 +4,7 @@ use Rattle.fast_value.specs.contracts.scalar.ScalarPartialEq.TheImpl as scalar_e
 use Rattle.fast_field.proofs.BestTails.{on_next, vector_nullable_parts}
 use Rattle.fast_field.proofs.FieldLaws.{in_field_ok, made_back, made_by}
 use Rattle.fast_relay.proofs.PlainTexts.{best_removal, no_same_text}
-use Rattle.fast_relay.proofs.TextRelaying.{delta_made, end_best, other_end, tail_base_is, tail_made, tail_judges, text_delta_judges, text_few, text_judges}
+use Rattle.fast_relay.proofs.TextRelaying.{delta_made, end_best, other_end, tail_made, tail_judges, text_delta_judges, text_few, text_judges}
 
 -- ---- what stands behind a length
 
@@ -100,7 +100,7 @@ end_gives i base n s is whole o text size some prefix cut part = λ bytes at fir
     let kept : n ≡ length b - length s = omega (arith, size) in
     let made : limited_value i.kind (ended_by b s) ≡ Ok v = subst (λ (m : ℕ). limited_value i.kind (take m b ++ s) ≡ Ok v) kept (limited i.kind joined is t) in (
       v,
-      tail_judges i (Assigned base) base v s (drop at bytes) (drop next bytes) (slice_range bytes first next) whole o (tail_base_is i base text.of_kind) t
+      tail_judges i (Assigned base) base v s (drop at bytes) (drop next bytes) (slice_range bytes first next) whole o (rw text.of_kind refl) t
           (tail_made i base v s (drop at bytes) (drop next bytes) text.of_kind stands.spelt made)
           (other_end i base v o text.of_kind (λ e. no_same_text b s n (omega (arith, size, some)) prefix (e ∙ back)))
           (subst (λ (x : List ℕ). IsBestTail i.kind i.presence b x s) (sym back) (end_best i.kind i.presence b s n size prefix (λ some. no_more i.kind i.presence joined n is some)))
