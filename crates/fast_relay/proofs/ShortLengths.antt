@@ -1,5 +1,5 @@
 -- A length in one byte that no entry keeps.
-use Rattle.fast_relay.proofs.Common.{◌≡◌, ℕ, pos, ◌+◌, ◌-◌, ◌<◌, true, List, ◌∷◌, [], length, drop, get_or, refl, sym, subst, arith, Some, None, UInt32, Plain, Length, Presence, Mandatory, Optional, FieldPart, IsFieldNumber, LeavesWhole, zero_byte, RelaysByte, Judges, of_integer, Kind, le-leb}
+use Rattle.fast_relay.proofs.Common.{◌≡◌, ℕ, pos, ◌+◌, ◌<◌, true, List, ◌∷◌, [], length, drop, get_or, refl, sym, subst, arith, Some, None, UInt32, Plain, Length, Presence, Mandatory, Optional, FieldPart, IsFieldNumber, LeavesWhole, zero_byte, RelaysByte, Judges, of_integer, Kind, le-leb}
 use Rattle.fast_field.proofs.FieldsWithin.{uint_in_range}
 use Rattle.fast_relay.proofs.NullRelaying.{null_byte, null_judges}
 use Rattle.fast_relay.proofs.Ranges.{byte_range}

@@ -1,6 +1,5 @@
 -- Unicode strings and byte vectors, read and written at once.
 use Rattle.fast_relay.proofs.Common.{◌≡◌, ◌≤◌, ◌<◌, ◌+◌, ◌-◌, Bool, true, false, List, [], ℕ, ◌++◌, Ok, length, take, drop, slice_range, refl, sym, ap, subst, ◌∙◌, arith, drop-drop, length-append, length-drop, Some, None, pos, IsCharBoundary, length-take-le, IsUtf8-append, IsUtf8-take, is_utf8-from_IsUtf8, take-nil, Usual, ◌>>=◌, behind_length, bytes_at, unsigned_at, unsigned_nullable_at, vector_at, vector_nullable_at, Nullable, Null, Value, IsBytes, vector_nullable_size, unsigned_size-grows, is_of, Kind, Operator, Part, Presence, Mandatory, Optional, FieldPart, Scalar, Unicode, Bytes, Entry, Assigned, Empty, start_of, Both, IsBestCut, IsBestTail, ShortestPart, ShortestSigned, ShortestUnits, part_size, tail_size, IsLongestPrefix, SharesEnd, ended_by, ended_value, in_field, integer_at, limited_value, part_at, signless, tail_at, unit_value, units_at, units_spelled_at, left_out_of, default_of, of_units, units_of, SpellsWhole, Spelt, IsText, IsVectorKind, parts, longer_tail, all_append, all_take, IsTrue, Leaves, UnitsGive, Judges, le-ltb}
-use Rattle.fast_value.specs.contracts.scalar.ScalarPartialEq.TheImpl as scalar_eq
 use Rattle.fast_field.proofs.BestTails.{on_next, vector_nullable_parts}
 use Rattle.fast_field.proofs.FieldLaws.{in_field_ok, made_back, made_by}
 use Rattle.fast_relay.proofs.PlainTexts.{best_removal, no_same_text}
