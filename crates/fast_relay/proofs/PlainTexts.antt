@@ -116,7 +116,9 @@ pub cut_read : (i : FieldPart) (base : List ℕ) (r : ℕ) (bytes middle form re
 cut_read i base r bytes middle form rest k few le removal h short =
     let long : length (take (length base - r) base ++ groups form) ≤ 65535 =
     omega (arith, short, length-append (take (length base - r) base) (groups form), length-take-le (length base - r) base (omega arith), length-map form (λ b. b % 128)) in
-    record { behind = middle; plain = h; few = few; within = le; short = short; read = delta_made i (Ascii base) (Ascii (take (length base - r) base ++ groups form)) r (groups form) bytes middle rest (rw k refl) few le removal (rw k (part_plain middle form rest h)) (rw k (few_plain _ long)) }
+    let value = Ascii (take (length base - r) base ++ groups form) in
+    let read = delta_made i (Ascii base) value r (groups form) bytes middle rest (rw k refl) few le removal (rw k (part_plain middle form rest h)) (rw k (few_plain _ long)) in
+    record { behind = middle; plain = h; few = few; within = le; short = short; read = read }
 
 pub slice_length : (xs : List ℕ) (a b : ℕ) → a ≤ b → b ≤ length xs → length (slice_range xs a b) ≡ b - a
 slice_length xs a b h k = length-take-le (b - a) (drop a xs) (omega (arith, h, k, length-drop a xs))
