@@ -1,5 +1,5 @@
 -- What a step of a call that failed makes of the reading behind it.
-use Rattle.fast_field.proofs.Common.{◌≡◌, ℕ, Bool, true, false, List, Result, Ok, Err, refl, inl, inr, IsUtf8, is_utf8, is_utf8-from_IsUtf8, IsUtf8-from_is_utf8, verdict, Level, ◌>>=◌, Fails, NothingElse, WireFault, Kind, Presence, FieldPart, Unicode, Entry, FieldFault, field_fault, OrRefused, in_field, unit_value, units_at, units_spelled_at, row_at, part_checked, field_at}
+use Rattle.fast_field.proofs.Common.{◌≡◌, ℕ, Bool, List, Result, Ok, Err, refl, inl, inr, IsUtf8, is_utf8, is_utf8-from_IsUtf8, IsUtf8-from_is_utf8, verdict, Level, ◌>>=◌, Fails, NothingElse, WireFault, Kind, Presence, FieldPart, Unicode, Entry, FieldFault, field_fault, OrRefused, in_field, unit_value, units_at, units_spelled_at, row_at, part_checked, field_at, false_from_ne_true}
 use Rattle.fast_field.proofs.ValueFaults.{NoWant, never_then, made, null_or, unit_made, part_allowed}
 
 -- ---- faults
@@ -25,13 +25,9 @@ pub unicode_value : (k : Kind) (s : List ℕ) → k ≡ Kind.Unicode → IsUtf8 
 unfolding unit_value
 unicode_value k s e h = rw (e, is_utf8-from_IsUtf8 s h) refl
 
-no_text : (s : List ℕ) (b : Bool) → (IsUtf8 s → ⊥) → is_utf8 s ≡ b → b ≡ false
-no_text s true never h = absurd (never (IsUtf8-from_is_utf8 s h))
-no_text s false never h = refl
-
 pub unicode_refused : (k : Kind) (s : List ℕ) → k ≡ Kind.Unicode → (IsUtf8 s → ⊥) → unit_value k s ≡ Err FieldFault.R2
 unfolding unit_value
-unicode_refused k s e never = rw (e, no_text s (is_utf8 s) never refl) refl
+unicode_refused k s e never = rw (e, false_from_ne_true (is_utf8 s) (λ h. never (IsUtf8-from_is_utf8 s h))) refl
 
 -- ---- strings
 

@@ -2,7 +2,7 @@
 pub use Rattle.std.proofs.Common.{Bool, Err, IfOk, IfSome, IsSome, IsTrue, IsUtf8, List, MatchResult, None, Ok, Option, Result, SFits, Some, [], ap, append-nil, arith, codes, drop, drop-drop, false, get_or, if◌then◌else◌, inl, inr, int_le, int_lt, length, length-append, length-drop, length-take, min, nat_eq, nat_le, nat_lt, negsuc, not, pos, refl, rules, set, slice_range, subst, suc, sym, take, take-append-drop, true, unwrap_or, zero, ℕ, ℤ, ◌%◌, ◌&&◌, ◌*◌, ◌++◌, ◌+ℤ◌, ◌+◌, ◌-ℤ◌, ◌-◌, ◌<ℤ◌, ◌<◌, ◌^◌, ◌∙◌, ◌∷◌, ◌≡◌, ◌≢◌, ◌≤◌, ◌⊎◌}
 pub use Rattle.std.proofs.Math.Dec.{eqb}
 pub use Rattle.std.proofs.Math.Seq.{drop-append-add, drop-length, take-append_seam}
-pub use Rattle.std.proofs.lemmas.Bool.{and_from, and_parts, cases_lt, le-leb, le-ltb, leb-true, lt-ltb, ltb-false, ltb-true, not-false}
+pub use Rattle.std.proofs.lemmas.Bool.{and_from, and_parts, cases_lt, false_from_ne_true, le-leb, le-ltb, leb-false, leb-true, lt-ltb, ltb-false, ltb-true, not-false}
 pub use Rattle.std.proofs.lemmas.Bool.Decides.{eqb_tells, nat_tests}
 pub use Rattle.std.proofs.lemmas.Int.{ints, to_z-of_z}
 pub use Rattle.std.proofs.lemmas.List.{append_assoc, drop_at, drop_more, get_or-append-add, get_or-append_right, get_or-drop, get_or-take, length-map, length-take-le, nil_from_length, set-append_right, take-take, take_all, take_at, take_more, take_rest}

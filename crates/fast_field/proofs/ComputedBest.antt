@@ -1,6 +1,6 @@
 -- Best forms that compute: the cut and the tail that a writer takes of a text are functions, and their bytes are the
 -- shortest where they are read as them and are no more than their size.
-use Rattle.fast_field.proofs.Common.{◌≡◌, ℕ, ◌+◌, ◌-◌, ◌<◌, ◌≤◌, Bool, true, false, List, [], ◌∷◌, ◌++◌, length, take, drop, refl, sym, subst, ◌∙◌, arith, Ok, Result, ℤ, pos, negsuc, nat_le, nat_lt, ◌&&◌, Option, Some, AllByRecursion, nat_tests, leb-true, ltb-true, Usual, IsReader, ascii_size, Value, Kind, Delta, Tail, Whole, Presence, Mandatory, Optional, Scalar, Ascii, Entry, FieldFault, delta_base, tail_base, integer_at, part_at, units_at, IsBest, left_out_of, Both, ShortestSigned, ShortestPart, ShortestUnits, length_size, tail_size, IsBestCut, IsBestTail, and_parts}
+use Rattle.fast_field.proofs.Common.{◌≡◌, ℕ, ◌+◌, ◌-◌, ◌<◌, ◌≤◌, Bool, true, false, List, [], ◌∷◌, ◌++◌, length, take, drop, refl, sym, subst, ◌∙◌, arith, Ok, Result, ℤ, pos, negsuc, nat_le, nat_lt, ◌&&◌, Option, Some, AllByRecursion, nat_tests, leb-true, ltb-true, Usual, IsReader, ascii_size, Value, Kind, Delta, Tail, Whole, Presence, Mandatory, Optional, Scalar, Ascii, Entry, FieldFault, delta_base, tail_base, integer_at, part_at, units_at, IsBest, left_out_of, Both, ShortestSigned, ShortestPart, ShortestUnits, length_size, tail_size, IsBestCut, IsBestTail, and_parts, leb-false}
 use Rattle.std.proofs.lemmas.List.{append-nil}
 use Rattle.fast_field.proofs.BestCuts.{agree_front, agree_back, front_agrees, back_agrees, best_at_end, best_in_front, cut_is_first, length_least, part_least}
 use Rattle.fast_field.proofs.BestTails.{longer_is_best, shortest_is_best, tail_is_first, tail_least}
@@ -67,12 +67,9 @@ abbrev pub part_by : Bool → List ℕ → List ℕ → List ℕ
 part_by true base v = drop (agree_front base v) v
 part_by false base v = take (length v - agree_back base v) v
 
-fewer : (a b : ℕ) → nat_le a b ≡ false → b < a
-fewer a b e = grind (arith, nat_tests, e)
-
 cut_is : (p : Presence) (base v : List ℕ) (t : Bool) → ends_first p base v ≡ t → IsBestCut Kind.Ascii p base v (removal_by t base v) (part_by t base v)
 cut_is p base v true e = best_at_end Kind.Ascii p base v (agree_front base v) (agree_back base v) (front_agrees base v) (back_agrees base v) (leb-true _ _ e)
-cut_is p base v false e = best_in_front Kind.Ascii p base v (agree_front base v) (agree_back base v) (front_agrees base v) (back_agrees base v) (fewer _ _ e)
+cut_is p base v false e = best_in_front Kind.Ascii p base v (agree_front base v) (agree_back base v) (front_agrees base v) (back_agrees base v) (leb-false _ _ e)
 
 pub delta_row : (p : Presence) (initial : Option Scalar) (e : Entry) (base v front back : List ℕ) (t : Bool) → delta_base (part_of Whole Kind.Ascii p Delta initial) e ≡ Ok (Ascii base) → is_text base ≡ true → is_text v ≡ true
     → ends_first p base v ≡ t → all_below 256 front ≡ true → integer_at Usual false p front ≡ Ok (Value (removal_by t base v), []) → length front ≡ length_size p (removal_by t base v)

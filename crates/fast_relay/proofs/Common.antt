@@ -4,7 +4,7 @@ pub use Rattle.std.proofs.Math.ListN.{set}
 pub use Rattle.std.proofs.Math.Logic.{◌↔◌}
 pub use Rattle.std.proofs.Math.Nat.{mul-le-mul_right, pow-le-pow_right, pow-suc}
 pub use Rattle.std.proofs.Math.Seq.{take-append_seam, take-nil}
-pub use Rattle.std.proofs.lemmas.Bool.{cases_lt, eq-eqb, eqb-true, le-leb, le-ltb, lt-ltb, or_parts}
+pub use Rattle.std.proofs.lemmas.Bool.{cases_lt, eq-eqb, eqb-true, false_from_ne_true, le-leb, le-ltb, lt-leb, lt-ltb}
 pub use Rattle.std.proofs.lemmas.Bool.Decides.{nat_tests}
 pub use Rattle.std.proofs.lemmas.Int.{ints, to_z-of_z}
 pub use Rattle.std.proofs.lemmas.List.{drop-map, drop-take, drop_more, get_or_default, get_or_past, length-map, length-set, length-take-le, take-append-drop, take_all, take_rest}

@@ -1,6 +1,6 @@
 -- What decimals rest on that are judged as they stand.
 use Rattle.fast_relay.proofs.Common.{◌≡◌, ℕ, Bool, true, List, drop, slice_range, refl, sym, subst, ◌∙◌, ℤ, ◌+ℤ◌, Some, exponent_in_range, in_range, Kind, Part, Presence, Mandatory, FieldPart, Decimal, Entry, Assigned, ShortestPair, next as next_entry, FormOf, IsFirst, Operator, Usual, Leaves, PairGives, PairStandsFrom, SpellsWhole, whole_shortest}
-use Rattle.fast_relay.proofs.DecimalRelaying.{decimal_of, delta_as, delta_first, delta_read, of_type, whole_read}
+use Rattle.fast_relay.proofs.DecimalRelaying.{delta_as, delta_first, delta_read, of_type, whole_read}
 use Rattle.fast_relay.proofs.Ranges.{range_split}
 use Rattle.fast_relay.proofs.Standing.{shortest_signed}
 use Rattle.fast_relay.proofs.Taking.{delta_out, delta_row, judges, takes, whole_first, whole_row}
@@ -25,7 +25,7 @@ decimal_gives bit i old new x m k p o near fits l = λ bytes at first next s.
     let within = whole_within i.part v p in
     let row = whole_row i.operator i old (drop at bytes) o ∙ whole_read i x m (drop at bytes) (drop s.middle bytes) (drop next bytes) k s.exponent.spelt near s.mantissa.spelt fits in (
       v,
-      judges bit i old new v (drop at bytes) (drop next bytes) form (decimal_of i x m k) within (takes i old new v (drop at bytes) (drop next bytes) within row l.entry) l.left_out
+      judges bit i old new v (drop at bytes) (drop next bytes) form (rw k refl) within (takes i old new v (drop at bytes) (drop next bytes) within row l.entry) l.left_out
           (whole_first i.operator i old (Some v) form o (whole_shortest i.kind i.presence v form (of_type i.kind x m k near fits) (pair_shortest i.presence bytes at first next x m s))),
     )
 

@@ -1,5 +1,5 @@
 -- What decimals that are read at once rest on.
-use Rattle.fast_relay.proofs.Common.{◌≡◌, ℕ, true, false, List, Ok, refl, sym, subst, ◌∙◌, ℤ, ◌+ℤ◌, ◌-ℤ◌, Some, Usual, signed_at, Value, exponent_in_range, in_range, Kind, Part, Presence, Mandatory, FieldPart, Decimal, Entry, Assigned, ShortestPair, DeltaForm, decimal_delta_at, decimal_spelled_at, decimal_value, delta_at, in_field, integer_at, mantissa_behind, mantissa_delta_behind, spelled_at, whole_at, IsFirst, delta_is_first, IsOfType, Spelt, is_of}
+use Rattle.fast_relay.proofs.Common.{◌≡◌, ℕ, true, false, List, Ok, refl, sym, subst, ◌∙◌, ℤ, ◌+ℤ◌, ◌-ℤ◌, Some, Usual, signed_at, Value, exponent_in_range, in_range, Kind, Part, Presence, Mandatory, FieldPart, Decimal, Entry, Assigned, ShortestPair, DeltaForm, decimal_delta_at, decimal_spelled_at, decimal_value, delta_at, in_field, integer_at, mantissa_behind, mantissa_delta_behind, spelled_at, whole_at, IsFirst, delta_is_first, IsOfType, Spelt}
 use Rattle.fast_field.proofs.ChosenForms.{decimal_value as decimal_is_first}
 use Rattle.fast_field.proofs.FieldLaws.{made_back}
 use Rattle.fast_relay.proofs.Taking.{added_back, base_is}
@@ -46,6 +46,3 @@ spelled_read p x m bytes mid rest exponent near mantissa fits = rw (exponent, ne
 pub whole_read : (i : FieldPart) (x m : ℤ) (bytes mid rest : List ℕ) → i.kind ≡ Kind.Decimal → Spelt false i.presence bytes x mid → exponent_in_range x ≡ true → Spelt false Mandatory mid m rest → in_range Kind.Int64 m ≡ true → whole_at Usual i bytes ≡ Ok (Some (Decimal x m), rest)
 unfolding whole_at
 whole_read i x m bytes mid rest k exponent near mantissa fits = spelled_as i.part i.kind i.presence bytes k ∙ spelled_read i.presence x m bytes mid rest exponent near mantissa fits
-
-pub decimal_of : (i : FieldPart) (x m : ℤ) → i.kind ≡ Kind.Decimal → is_of i.kind (Decimal x m) ≡ true
-decimal_of i x m k = rw k refl

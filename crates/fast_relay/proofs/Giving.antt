@@ -1,14 +1,10 @@
--- What values that were sent although bit 0 gives them, and NULL, leave behind: the entry stays.
+-- What a value leaves behind that was sent although bit 0 gives it, and values that are there where a test says so.
 use Rattle.std.proofs.Common.{Bool, IfSome, Option}
 use Rattle.std.specs.Bool.{then_some}
-use Rattle.fast_relay.proofs.Common.{◌≡◌, true, false, refl, inl, inr, ◌⊎◌, Some, None, is_of, scalar_eq-same, Operator, Optional, Scalar, FieldPart, Assigned, Empty, Leaves}
+use Rattle.fast_relay.proofs.Common.{◌≡◌, true, false, refl, Some, None, is_of, scalar_eq-same, Operator, Scalar, FieldPart, Assigned, Leaves}
 
 pub ends_same : (i : FieldPart) (v : Scalar) → i.operator ≡ Operator.Tail → is_of i.kind v ≡ true → Leaves false i (Assigned v) (Assigned v) (Some v)
 ends_same i v o is = record { entry = rw o refl; left_out = rw (o, is) (scalar_eq-same v) }
-
-pub empty : (i : FieldPart) → (i.operator ≡ Operator.Copy) ⊎ (i.operator ≡ Operator.Increment) → i.presence ≡ Optional → Leaves false i Empty Empty None
-empty i (inl o) optional = record { entry = rw o refl; left_out = rw (o, optional) refl }
-empty i (inr o) optional = record { entry = rw o refl; left_out = rw (o, optional) refl }
 
 -- ---- a value that is there where a test says so
 

@@ -1,8 +1,7 @@
 -- What numbers rest on that are judged as they stand.
-use Rattle.fast_relay.proofs.Common.{◌≡◌, ◌≤◌, ℕ, Bool, true, false, List, length, drop, slice_range, refl, rules, sym, ap, subst, ◌∙◌, ℤ, Some, IsBytes, is_of, of_integer, scalar_eq-exact, scalar_eq-same, Kind, Operator, Presence, FieldPart, Scalar, Entry, Assigned, next, HasNumber, IsNumber, next_number, left_out_of, overlong_number, integer_of, increased_is, kind_is, number_back, IfFound, Leaves, StandsAt, Spelt, Judged, Stands, Behind, BehindTwo, Given, Elsewhere, None, arith, HasBest, JudgedTo}
+use Rattle.fast_relay.proofs.Common.{◌≡◌, ◌≤◌, ℕ, Bool, true, false, List, length, drop, slice_range, refl, rules, sym, ap, subst, ◌∙◌, ℤ, Some, IsBytes, is_of, of_integer, scalar_eq-exact, scalar_eq-same, Kind, Operator, Presence, FieldPart, Scalar, Entry, Assigned, next, HasNumber, IsNumber, next_number, left_out_of, overlong_number, integer_of, increased_is, kind_is, number_back, IfFound, Leaves, StandsAt, Spelt, Judged, Stands, Behind, BehindTwo, Given, Elsewhere}
 use Rattle.fast_value.specs.contracts.scalar.ScalarPartialEq.TheImpl as scalar_eq
 use Rattle.fast_relay.proofs.Standing.{standing}
-use Rattle.fast_relay.proofs.Ranges.{range_none}
 
 -- ---- what is handed on
 
@@ -54,20 +53,3 @@ increment_sends k i old new y z same o h fits differ entry =
       entry = number_next i old new w o entry;
       left_out = increments k i old y w same o h ∙ no_same v w ((scalar_eq.eq-value).it v w) (λ e. differ (sym (number_back k (next_number k y) follows) ∙ ap integer_of e ∙ number_back k z fits)) refl;
     }
-
--- ---- the best form of what was judged
-
--- a value that is there, between two places
-pub sent_best : {p : FieldPart} {old new : Entry} {bytes : List ℕ} {at : ℕ} (first next : ℕ) → at ≤ first → JudgedTo true p old new bytes at first next → HasBest p old new bytes at (record { there = true; bit = true; removal = None; first = first; next = next })
-sent_best first next from j = record { place = omega (arith, j.place); first = j.place; within = j.within; value = Some j.gives.0; is_there = (j.gives.0, refl, j.gives.1.0); judges = j.gives.1.1 }
-
--- or given by bit 0
-pub given_best : {p : FieldPart} {old new : Entry} {bytes : List ℕ} {at : ℕ} (next : ℕ) → JudgedTo false p old new bytes at at next → HasBest p old new bytes at (record { there = true; bit = false; removal = None; first = next; next = next })
-given_best {bytes = bytes} next j = record {
-  place = j.place;
-  first = omega arith;
-  within = j.within;
-  value = Some j.gives.0;
-  is_there = (j.gives.0, refl, j.gives.1.0);
-  judges = rw (range_none bytes next) j.gives.1.1;
-}

@@ -1,19 +1,16 @@
 -- Numbers in one byte, which is their shortest form.
-use Rattle.fast_relay.proofs.Common.{◌≡◌, ℕ, pos, suc, ◌+◌, ◌%◌, ◌<◌, ◌≤◌, Bool, true, false, nat_le, List, length, drop, slice_range, get_or, refl, arith, nat_tests, one_byte, short_given, short_nullable_given, short_signed_given, short_signed_nullable_given, Presence, Mandatory, Optional, integer_at, overlong_number, bytes_from, StandsAt, zero_byte, Spelt}
+use Rattle.fast_relay.proofs.Common.{◌≡◌, ℕ, pos, suc, ◌+◌, ◌%◌, ◌<◌, ◌≤◌, Bool, true, false, nat_le, List, length, drop, slice_range, get_or, refl, arith, one_byte, short_given, short_nullable_given, short_signed_given, short_signed_nullable_given, Presence, Mandatory, Optional, integer_at, overlong_number, bytes_from, StandsAt, zero_byte, Spelt, lt-leb}
 use Rattle.fast_relay.proofs.Judging.{stands_at}
 use Rattle.fast_relay.proofs.Ranges.{byte_range}
-
-no_sign : (x : ℕ) → x < 64 → nat_le 64 x ≡ false
-no_sign x less = grind (arith, nat_tests)
 
 module _ (bytes : List ℕ) (at n : ℕ) (fits : (k : ℕ) → get_or bytes k 0 < 256) (there : at < length bytes) where
   spelt_signed : (p : Presence) → n < 63 → get_or bytes at 0 ≡ zero_byte p + n → Spelt false p (drop at bytes) (pos n) (drop (at + 1) bytes)
   unfolding integer_at
   spelt_signed Mandatory few is =
-      let plus : nat_le 64 (get_or bytes at 0 % 128) ≡ false = no_sign (get_or bytes at 0 % 128) (omega arith) in
+      let plus : nat_le 64 (get_or bytes at 0 % 128) ≡ false = lt-leb 64 (get_or bytes at 0 % 128) (omega arith) in
       rw (short_signed_given bytes at (pos n) (at + 1) (record { spelled = n; short = one_byte bytes at n fits there (omega arith) (omega arith); value = rw (plus) refl })) refl
   spelt_signed Optional few is =
-      let plus : nat_le 64 (get_or bytes at 0 % 128) ≡ false = no_sign (get_or bytes at 0 % 128) (omega arith) in
+      let plus : nat_le 64 (get_or bytes at 0 % 128) ≡ false = lt-leb 64 (get_or bytes at 0 % 128) (omega arith) in
       rw (short_signed_nullable_given bytes at (pos (suc n)) (at + 1) (record { spelled = suc n; short = one_byte bytes at (suc n) fits there (omega arith) (omega arith); value = rw (plus) refl })) refl
 
   spelt_unsigned : (p : Presence) → get_or bytes at 0 ≡ zero_byte p + n → Spelt true p (drop at bytes) (pos n) (drop (at + 1) bytes)

@@ -3,7 +3,7 @@ use Rattle.fast_relay.proofs.Common.{◌≡◌, ◌≤◌, ◌<◌, ◌+◌, ◌
 use Rattle.std.proofs.Math.Seq.{take-add}
 use Rattle.std.proofs.lemmas.List.{drop_at}
 use Rattle.fast_wire.specs.Ascii.{IsAscii, IsAsciiNullable, SpellsAscii, SpellsAsciiNullable}
-use Rattle.fast_relay.proofs.TextRelaying.{delta_made, end_best, other_end, tail_base_is, tail_made, tail_judges, text_delta_judges, text_judges}
+use Rattle.fast_relay.proofs.TextRelaying.{delta_made, end_best, other_end, tail_made, tail_judges, text_delta_judges, text_judges}
 
 units_plain : (p : Presence) (bytes form rest : List ℕ) → IsPlain bytes form rest → units_at Usual Kind.Ascii p bytes ≡ Ok (Value (groups form), rest)
 unfolding units_at part_at
@@ -116,7 +116,9 @@ pub cut_read : (i : FieldPart) (base : List ℕ) (r : ℕ) (bytes middle form re
 cut_read i base r bytes middle form rest k few le removal h short =
     let long : length (take (length base - r) base ++ groups form) ≤ 65535 =
     omega (arith, short, length-append (take (length base - r) base) (groups form), length-take-le (length base - r) base (omega arith), length-map form (λ b. b % 128)) in
-    record { behind = middle; plain = h; few = few; within = le; short = short; read = delta_made i (Ascii base) (Ascii (take (length base - r) base ++ groups form)) r (groups form) bytes middle rest (rw k refl) few le removal (rw k (part_plain middle form rest h)) (rw k (few_plain _ long)) }
+    let value = Ascii (take (length base - r) base ++ groups form) in
+    let read = delta_made i (Ascii base) value r (groups form) bytes middle rest (rw k refl) few le removal (rw k (part_plain middle form rest h)) (rw k (few_plain _ long)) in
+    record { behind = middle; plain = h; few = few; within = le; short = short; read = read }
 
 pub slice_length : (xs : List ℕ) (a b : ℕ) → a ≤ b → b ≤ length xs → length (slice_range xs a b) ≡ b - a
 slice_length xs a b h k = length-take-le (b - a) (drop a xs) (omega (arith, h, k, length-drop a xs))
@@ -245,7 +247,7 @@ plain_tail_judges i base n bytes form rest k whole o text short is gives prefix 
     let t = text_together base form n text (text_plain gives.behind form rest h) long in
     let read = subst (λ m. tail_at Usual i (Assigned (Ascii base)) bytes ≡ Ok (Some (Ascii (take (length base - m) base ++ groups form)), rest)) (sym same) gives.read in
     tail_judges i (Assigned (Ascii base)) (Ascii base) (Ascii v) (groups form) bytes rest form whole o
-    (tail_base_is i (Ascii base) (rw k refl))
+    (rw k refl)
     (subst (λ (k : Kind). IsText k (Ascii v)) (sym k) t)
     (subst (λ m. tail_at Usual i (Assigned (Ascii base)) bytes ≡ Ok (Some (Ascii (take m base ++ groups form)), rest)) (sym kept) read)
     (other_end i (Ascii base) (Ascii v) o (rw k refl) (no_same_text base (groups form) n (omega (arith, is, some)) prefix))

@@ -1,18 +1,13 @@
 -- A length in one byte that no entry keeps.
-use Rattle.fast_relay.proofs.Common.{◌≡◌, ℕ, pos, ◌+◌, ◌-◌, ◌^◌, ◌<◌, true, nat_le, List, ◌∷◌, [], length, drop, get_or, refl, sym, subst, arith, ◌&&◌, Some, None, nat_tests, UInt32, Plain, Length, Presence, Mandatory, Optional, FieldPart, IsFieldNumber, LeavesWhole, zero_byte, RelaysByte, Judges, of_integer, Kind}
+use Rattle.fast_relay.proofs.Common.{◌≡◌, ℕ, pos, ◌+◌, ◌<◌, true, List, ◌∷◌, [], length, drop, get_or, refl, sym, subst, arith, Some, None, UInt32, Plain, Length, Presence, Mandatory, Optional, FieldPart, IsFieldNumber, LeavesWhole, zero_byte, RelaysByte, Judges, of_integer, Kind, le-leb}
+use Rattle.fast_field.proofs.FieldsWithin.{uint_in_range}
 use Rattle.fast_relay.proofs.NullRelaying.{null_byte, null_judges}
 use Rattle.fast_relay.proofs.Ranges.{byte_range}
 use Rattle.fast_relay.proofs.Taking.{typed_judges}
 use Rattle.fast_relay.proofs.OneByte.{unsigned_stands}
 
-few_number : (n : ℕ) → n < 128 → (nat_le 0 n && nat_le n (2 ^ 32 - 1)) ≡ true
-few_number n few = grind (arith, nat_tests)
-
-few_length : (n : ℕ) → n < 128 → nat_le n 65535 ≡ true
-few_length n few = grind (arith, nat_tests)
-
 length_number : (i : FieldPart) (n : ℕ) → i.part ≡ Length → n < 128 → IsFieldNumber UInt32 i.part (pos n)
-length_number i n part few = record { number = record { integer = refl; range = few_number n few }; within = rw (part) (few_length n few) }
+length_number i n part few = record { number = record { integer = refl; range = uint_in_range n 4294967295 (omega (arith, few)) }; within = rw (part) (le-leb n 65535 (omega (arith, few))) }
 
 few_above : (p : Presence) (byte n : ℕ) → byte < 256 → byte ≡ zero_byte p + n → n < 128
 few_above Mandatory byte n fits is = omega (arith, fits, is)

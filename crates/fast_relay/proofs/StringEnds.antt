@@ -1,5 +1,5 @@
 -- A string whose stop bit is found among sixteen bytes.
-use Rattle.fast_relay.proofs.Common.{◌≡◌, ℕ, ◌+◌, ◌-◌, ◌%◌, ◌<◌, ◌≤◌, List, length, get_or, take, drop, slice_range, sym, ap, ◌∙◌, arith, length-take, length-drop, get_or-take, get_or-drop, IsFirstStop, IsRun, IsPlain, entity_from, plain_at}
+use Rattle.fast_relay.proofs.Common.{◌≡◌, ℕ, ◌+◌, ◌%◌, ◌<◌, ◌≤◌, List, length, get_or, take, drop, slice_range, sym, ap, ◌∙◌, arith, length-take, length-drop, get_or-take, get_or-drop, IsFirstStop, IsRun, IsPlain, entity_from, plain_at}
 use Rattle.fast_wire.proofs.AsciiForms.{first_byte}
 
 among : (xs : List ℕ) (at k : ℕ) → k < 16 → get_or (take 16 (drop at xs)) k 0 ≡ get_or xs (at + k) 0

@@ -1,5 +1,5 @@
 -- What ASCII strings rest on that are judged as they stand.
-use Rattle.fast_relay.proofs.Common.{◌≡◌, ◌≤◌, ◌<◌, ℕ, ◌+◌, ◌-◌, Bool, false, List, ◌++◌, length, take, drop, slice_range, refl, sym, ap, subst, ◌∙◌, arith, take-append-drop, pos, Option, Some, true, AllByRecursion, groups, IsPlain, Kind, Operator, Part, FieldPart, Scalar, Ascii, Entry, Assigned, next_of, bit_zero_is_best, left_out, IsLongestPrefix, SharesEnd, EndGives, JudgedTo, JudgesFrom, Leaves, StandsAt, TextGives, KeepsNothing, SpellsWhole, Takes}
+use Rattle.fast_relay.proofs.Common.{◌≡◌, ◌≤◌, ◌<◌, ℕ, ◌+◌, ◌-◌, Bool, false, List, ◌++◌, length, take, drop, slice_range, refl, sym, ap, subst, ◌∙◌, arith, take-append-drop, pos, Some, true, AllByRecursion, groups, IsPlain, Kind, Operator, Part, FieldPart, Ascii, Entry, Assigned, bit_zero_is_best, left_out, IsLongestPrefix, SharesEnd, EndGives, JudgedTo, JudgesFrom, Leaves, StandsAt, TextGives, SpellsWhole, Takes}
 use Rattle.fast_relay.proofs.Giving.{ends_same}
 use Rattle.fast_relay.proofs.PlainTexts.{characters_text, cut_read, plain_delta_judges, plain_judges, plain_tail_judges}
 use Rattle.fast_relay.proofs.TextRelaying.{whole_within}

@@ -1,5 +1,5 @@
 -- What fields that are read and judged at once rest on; here numbers and constants.
-use Rattle.fast_relay.proofs.Common.{◌≡◌, ℕ, Bool, true, false, not, List, [], Ok, drop, slice_range, refl, sym, subst, ◌∙◌, arith, ℤ, ◌+ℤ◌, ◌-ℤ◌, Option, Some, IsTrue, ints, Usual, is_of, is_integer, in_range, of_integer, Kind, Operator, Part, Presence, FieldPart, Scalar, Entry, Assigned, delta_base, next, next_of, ShortestSigned, ShortestWhole, DeltaForm, integer_value, integer_spelled_at, spelled_at, integer_sum, integer_delta_at, delta_at, whole_at, row_at, field_at, FormOf, IsWithin, within_part, IsNumber, IsFieldNumber, IsNumberOf, HasNumber, left_out_of, IsShortest, Spelled, integer_of, is_unsigned, IsFirst, whole_is_first, delta_is_first, best_under_one, constant_is_first, left_out, bit_zero_is_best, whole_shortest, number_value, checked_is, field_goes, of_type, of_kind, number_back, within_number, kind_is, number_is, KeepsNothing, SpellsWhole, Spelt, Adds, JudgesFrom, LeavesWhole, NumberGives, StandsFrom, sent_unsigned, under, Judges, Takes}
+use Rattle.fast_relay.proofs.Common.{◌≡◌, ℕ, Bool, true, false, not, List, [], Ok, drop, slice_range, refl, sym, subst, ◌∙◌, arith, ℤ, ◌+ℤ◌, ◌-ℤ◌, Option, Some, IsTrue, ints, Usual, is_of, is_integer, in_range, of_integer, Kind, Operator, Part, Presence, FieldPart, Scalar, Entry, Assigned, delta_base, next, next_of, ShortestSigned, DeltaForm, integer_value, integer_spelled_at, spelled_at, integer_sum, integer_delta_at, delta_at, whole_at, row_at, field_at, FormOf, IsWithin, within_part, IsNumber, IsFieldNumber, IsNumberOf, HasNumber, left_out_of, IsShortest, Spelled, integer_of, is_unsigned, IsFirst, whole_is_first, delta_is_first, best_under_one, constant_is_first, left_out, bit_zero_is_best, whole_shortest, number_value, checked_is, field_goes, of_type, of_kind, number_back, within_number, kind_is, number_is, KeepsNothing, SpellsWhole, Spelt, Adds, JudgesFrom, LeavesWhole, NumberGives, StandsFrom, sent_unsigned, under, Judges, Takes}
 use Rattle.fast_relay.proofs.Ranges.{range_none}
 use Rattle.fast_relay.proofs.Standing.{shortest_signed, shortest_whole}
 

@@ -1,5 +1,5 @@
 -- What strings and vectors that are read and judged at once rest on.
-use Rattle.fast_relay.proofs.Common.{◌≡◌, ◌<◌, ◌+◌, ◌-◌, ◌++◌, ◌≤◌, true, false, List, ℕ, Ok, length, refl, sym, subst, ◌∙◌, ℤ, Some, IsTrue, Usual, IsShortest, is_of, Kind, Operator, Part, Presence, FieldPart, Scalar, Entry, Assigned, tail_base, Both, IsBestCut, IsBestTail, ShortestPart, ShortestSigned, ShortestUnits, DeltaForm, delta_at, row_at, spelled_at, tail_at, unit_delta_at, units_spelled_at, whole_at, FormOf, within_part, SpellsWhole, left_out_of, Spelled, IsText, units_of, IsUnitKind, IsFirst, tail_is_first, delta_is_first, tail_form_is_first, string_value, few_units, units_form, string_is_shortest, IsOfType, Bool, Leaves, under, Judges, ap, arith, drop, length-append, pos, take, le-leb, length-take-le, Value, scalar_eq-exact, shortest_is_best, tail_size, IsLongestPrefix, ended_by, ended_value, limited_value, new_part_behind, part_at, units_at, Spelt}
+use Rattle.fast_relay.proofs.Common.{◌≡◌, ◌<◌, ◌+◌, ◌-◌, ◌++◌, ◌≤◌, true, false, List, ℕ, Ok, length, refl, sym, subst, ◌∙◌, ℤ, Some, IsTrue, Usual, IsShortest, is_of, Kind, Operator, Part, Presence, FieldPart, Scalar, Entry, Assigned, tail_base, Both, IsBestCut, IsBestTail, ShortestPart, ShortestSigned, ShortestUnits, DeltaForm, delta_at, row_at, spelled_at, tail_at, unit_delta_at, units_spelled_at, whole_at, FormOf, within_part, SpellsWhole, left_out_of, Spelled, IsText, units_of, IsUnitKind, IsFirst, tail_is_first, delta_is_first, tail_form_is_first, string_value, few_units, units_form, string_is_shortest, Bool, Leaves, under, Judges, ap, arith, drop, length-append, pos, take, le-leb, length-take-le, Value, scalar_eq-exact, shortest_is_best, tail_size, IsLongestPrefix, ended_by, ended_value, limited_value, new_part_behind, part_at, units_at, Spelt, false_from_ne_true}
 use Rattle.fast_value.specs.contracts.scalar.ScalarPartialEq.TheImpl as scalar_eq
 use Rattle.std.proofs.lemmas.List.{drop_at}
 use Rattle.fast_relay.proofs.Taking.{base_is, delta_out, delta_row, judges, takes, whole_first, whole_row}
@@ -31,9 +31,6 @@ text_judges bit i old new v bytes rest form whole o h read l s =
 
 -- ---- deltas
 
-pub text_of_type : (k : Kind) (v : Scalar) → IsText k v → IsOfType k v
-text_of_type k v h = (h.of_kind, h.within)
-
 pub text_few : (k : Kind) (v : Scalar) → IsText k v → length (units_of v) ≤ 65535
 text_few k v h = few_units v h.within
 
@@ -48,7 +45,7 @@ cut_first : (i : FieldPart) (base v : Scalar) (removal : ℤ) (new_part b : List
     → Both (ShortestSigned i.presence removal) (ShortestPart i.kind new_part) b → IsFirst (λ c b. DeltaForm Usual i (Assigned base) c b (Some v)) b
 cut_first i base v removal new_part b h l best s =
     delta_is_first i (Assigned base) base v b (base_is i base h.of_kind)
-    (string_value i.kind i.presence base v removal new_part b h.of_units (text_of_type i.kind base h) (text_of_type i.kind v l) best s)
+    (string_value i.kind i.presence base v removal new_part b h.of_units (h.of_kind, h.within) (l.of_kind, l.within) best s)
 
 pub text_delta_judges : (i : FieldPart) (base v : Scalar) (removal : ℤ) (new_part bytes rest form : List ℕ) → i.part ≡ Part.Whole → i.operator ≡ Operator.Delta → IsText i.kind base → IsText i.kind v → unit_delta_at Usual i (Assigned base) bytes ≡ Ok (Some v, rest)
     → IsBestCut i.kind i.presence (units_of base) (units_of v) removal new_part → Both (ShortestSigned i.presence removal) (ShortestPart i.kind new_part) form → IsTrue (is_of i.kind v) × Judges true form i (Assigned base) (Assigned v) (Some v) bytes rest
@@ -67,16 +64,13 @@ unfolding row_at
 tail_row Operator.Tail i e bytes o = refl
 tail_row o' i e bytes o = absurd cc
 
-pub tail_base_is : (i : FieldPart) (v : Scalar) → is_of i.kind v ≡ true → tail_base i (Assigned v) ≡ Ok v
-tail_base_is i v is = rw is refl
-
 -- an entry gives a tail a base, which may be another one than its value
 pub tail_judges : (i : FieldPart) (old : Entry) (base v : Scalar) (tail bytes rest form : List ℕ) → i.part ≡ Part.Whole → i.operator ≡ Operator.Tail → tail_base i old ≡ Ok base → IsText i.kind v → tail_at Usual i old bytes ≡ Ok (Some v, rest)
     → left_out_of i.operator i old (Some v) ≡ false → IsBestTail i.kind i.presence (units_of base) (units_of v) tail → ShortestUnits i.kind i.presence tail form → IsTrue (is_of i.kind v) × Judges true form i old (Assigned v) (Some v) bytes rest
 tail_judges i old base v tail bytes rest form whole o given l read out best s =
     let within = whole_within i.part v whole in
     judges true i old (Assigned v) v bytes rest form l.of_kind within (takes i old (Assigned v) v bytes rest within (tail_row i.operator i old bytes o ∙ read) (rw o refl)) out
-    (subst (λ (o : Operator). IsFirst (λ c b. FormOf Usual o i old true c b (Some v)) form) (sym o) (tail_form_is_first i old base v form given (tail_is_first i.kind i.presence base v tail form l.of_units (text_of_type i.kind v l) best s)))
+    (subst (λ (o : Operator). IsFirst (λ c b. FormOf Usual o i old true c b (Some v)) form) (sym o) (tail_form_is_first i old base v form given (tail_is_first i.kind i.presence base v tail form l.of_units (l.of_kind, l.within) best s)))
 
 -- ---- what is read on the string or vector that an entry has
 
@@ -90,12 +84,8 @@ pub tail_made : (i : FieldPart) (base v : Scalar) (s bytes rest : List ℕ) → 
 unfolding tail_at ended_value
 tail_made i base v s bytes rest is read made = rw (read, is, made) refl
 
-not_same : (v w : Scalar) (b : Bool) → (units_of v ≡ units_of w → ⊥) → (scalar_eq.eq-value).it v w ≡ b → (scalar_eq.eq-value).it v w ≡ false
-not_same v w true differ e = absurd (differ (ap units_of (scalar_eq-exact v w e)))
-not_same v w false differ e = e
-
 pub other_end : (i : FieldPart) (base v : Scalar) → i.operator ≡ Operator.Tail → is_of i.kind base ≡ true → (units_of base ≡ units_of v → ⊥) → left_out_of i.operator i (Assigned base) (Some v) ≡ false
-other_end i base v o is differ = rw (o, is) (not_same base v ((scalar_eq.eq-value).it base v) differ refl)
+other_end i base v o is differ = rw (o, is) (false_from_ne_true ((scalar_eq.eq-value).it base v) (λ e. differ (ap units_of (scalar_eq-exact base v e))))
 
 -- as many units as were there, behind the longest common front
 pub end_best : (k : Kind) (p : Presence) (base s : List ℕ) (n : ℕ) → n + length s ≡ length base → IsLongestPrefix base (take n base ++ s) n → (0 < n → tail_size k p (drop n (take n base ++ s)) ≤ tail_size k p (drop (n - 1) (take n base ++ s))) → IsBestTail k p base (take n base ++ s) s

@@ -1,10 +1,9 @@
 -- Unicode strings and byte vectors, read and written at once.
 use Rattle.fast_relay.proofs.Common.{◌≡◌, ◌≤◌, ◌<◌, ◌+◌, ◌-◌, Bool, true, false, List, [], ℕ, ◌++◌, Ok, length, take, drop, slice_range, refl, sym, ap, subst, ◌∙◌, arith, drop-drop, length-append, length-drop, Some, None, pos, IsCharBoundary, length-take-le, IsUtf8-append, IsUtf8-take, is_utf8-from_IsUtf8, take-nil, Usual, ◌>>=◌, behind_length, bytes_at, unsigned_at, unsigned_nullable_at, vector_at, vector_nullable_at, Nullable, Null, Value, IsBytes, vector_nullable_size, unsigned_size-grows, is_of, Kind, Operator, Part, Presence, Mandatory, Optional, FieldPart, Scalar, Unicode, Bytes, Entry, Assigned, Empty, start_of, Both, IsBestCut, IsBestTail, ShortestPart, ShortestSigned, ShortestUnits, part_size, tail_size, IsLongestPrefix, SharesEnd, ended_by, ended_value, in_field, integer_at, limited_value, part_at, signless, tail_at, unit_value, units_at, units_spelled_at, left_out_of, default_of, of_units, units_of, SpellsWhole, Spelt, IsText, IsVectorKind, parts, longer_tail, all_append, all_take, IsTrue, Leaves, UnitsGive, Judges, le-ltb}
-use Rattle.fast_value.specs.contracts.scalar.ScalarPartialEq.TheImpl as scalar_eq
 use Rattle.fast_field.proofs.BestTails.{on_next, vector_nullable_parts}
 use Rattle.fast_field.proofs.FieldLaws.{in_field_ok, made_back, made_by}
 use Rattle.fast_relay.proofs.PlainTexts.{best_removal, no_same_text}
-use Rattle.fast_relay.proofs.TextRelaying.{delta_made, end_best, other_end, tail_base_is, tail_made, tail_judges, text_delta_judges, text_few, text_judges}
+use Rattle.fast_relay.proofs.TextRelaying.{delta_made, end_best, other_end, tail_made, tail_judges, text_delta_judges, text_few, text_judges}
 
 -- ---- what stands behind a length
 
@@ -100,7 +99,7 @@ end_gives i base n s is whole o text size some prefix cut part = λ bytes at fir
     let kept : n ≡ length b - length s = omega (arith, size) in
     let made : limited_value i.kind (ended_by b s) ≡ Ok v = subst (λ (m : ℕ). limited_value i.kind (take m b ++ s) ≡ Ok v) kept (limited i.kind joined is t) in (
       v,
-      tail_judges i (Assigned base) base v s (drop at bytes) (drop next bytes) (slice_range bytes first next) whole o (tail_base_is i base text.of_kind) t
+      tail_judges i (Assigned base) base v s (drop at bytes) (drop next bytes) (slice_range bytes first next) whole o (rw text.of_kind refl) t
           (tail_made i base v s (drop at bytes) (drop next bytes) text.of_kind stands.spelt made)
           (other_end i base v o text.of_kind (λ e. no_same_text b s n (omega (arith, size, some)) prefix (e ∙ back)))
           (subst (λ (x : List ℕ). IsBestTail i.kind i.presence b x s) (sym back) (end_best i.kind i.presence b s n size prefix (λ some. no_more i.kind i.presence joined n is some)))

@@ -1,4 +1,4 @@
-use Rattle.fast_field.proofs.Common.{rules, option_copied, ShortestPieces}
+use Rattle.fast_field.proofs.Common.{option_copied, ShortestPieces}
 use Rattle.fast_field.proofs.WrittenForms.{appends_best}
 use Rattle.fast_field.proofs.write.write_in_place.Goals as goal
 
@@ -9,6 +9,3 @@ returns-in-Some-clause-best c =
 pub returns-in_default-clause-best : goal.returns-in_default-clause-best
 returns-in_default-clause-best c =
     appends_best c.args.instr.now c.args.entry.now (option_copied c.args.value) c.in_ok-bit.bit (ShortestPieces c.args.instr.now c.in_ok-bit.pieces) c.args.out.now.items c.append.new.out.items (rw c.view.ensures at c.in_ok-bit.ensures.best) c.in_ok-append.ensures.ok
-
-pub returns-in-Some-clause-entry : goal.returns-in-Some-clause-entry
-returns-in-Some-clause-entry c = search rules

@@ -1,4 +1,4 @@
-use Rattle.fast_relay.proofs.Common.{sym, Some, slice_range, groups, Ascii}
+use Rattle.fast_relay.proofs.Common.{sym, slice_range, groups, Ascii}
 use Rattle.fast_relay.proofs.StringJudging.{text_stands}
 use Rattle.fast_relay.proofs.Taking.{leaves}
 use Rattle.fast_relay.proofs.judged_string.judge_string_once.Goals as goal

@@ -12,7 +12,8 @@ put_part-requires-clause-text c =
     let few = text_few i.kind value text in
     let le = rw c.units-base.ensures at c.if-part-base.false in
     rw c.units-base.ensures
-    (joined_text i.kind value (length (units_of value) - length c.args.part.now) c.args.part.now c.requires.kind text (omega arith) (omega (arith, few, le)) (rw c.units-base.ensures at (c.may_end.ensures c.if-not-may_end.false)) (c.are_text.ensures c.if-not-are_text.false))
+    (joined_text i.kind value (length (units_of value) - length c.args.part.now) c.args.part.now c.requires.kind text (omega arith)
+    (omega (arith, few, le)) (rw c.units-base.ensures at (c.may_end.ensures c.if-not-may_end.false)) (c.are_text.ensures c.if-not-are_text.false))
 
 pub returns-clause-gives : goal.returns-clause-gives
 returns-clause-gives c =

@@ -16,8 +16,10 @@ returns c =
     elim c.if-bit.branch [
       | then-bit w ↦
           let sent = byte_range bytes at there ∙ ap (λ (x : ℕ). x ∷ []) (null_byte bytes at there null) in
-          rw (w.if-bit.true, w.first-is, w.entry-is) (null_judged true i c.args.entry.now w.keep_absent.new.entry bytes at at there null optional (λ none. absurd cc) (record { entry = w.keep_absent.ensures; left_out = rw w.if-bit.true at found.bit }) (omega arith) sent)
+          rw (w.if-bit.true, w.first-is, w.entry-is)
+          (null_judged true i c.args.entry.now w.keep_absent.new.entry bytes at at there null optional (λ none. absurd cc) (record { entry = w.keep_absent.ensures; left_out = rw w.if-bit.true at found.bit }) (omega arith) sent)
       | else-bit w ↦
           let whole = found.operator (ap (λ b. Some b) w.if-bit.false) in
-          rw (w.if-bit.false, w.first-is, w.entry-is) (null_judged false i c.args.entry.now c.args.entry.now bytes at (at + 1) there null optional (λ _. whole) (rw w.if-bit.false at found.bit) (omega arith) (range_none bytes (at + 1)))
+          rw (w.if-bit.false, w.first-is, w.entry-is)
+          (null_judged false i c.args.entry.now c.args.entry.now bytes at (at + 1) there null optional (λ _. whole) (rw w.if-bit.false at found.bit) (omega arith) (range_none bytes (at + 1)))
     ]
