@@ -39,7 +39,7 @@ fn are_few(bytes: &[u8]) -> bool
 }
 
 // Whether a value is within its type. (A number is looked at only so that its range is known.)
-fn is_scalar(value: &Scalar) -> bool
+pub(crate) fn is_scalar(value: &Scalar) -> bool
     ensures { result ≡ true → IsScalar value.now }
 {
     match value {
@@ -67,7 +67,7 @@ pub(crate) fn holds_scalar(entry: &Entry) -> bool
 }
 
 // Whether an operator applies to a type.
-fn applies_to(operator: Operator, kind: Kind) -> bool
+pub(crate) fn applies_to(operator: Operator, kind: Kind) -> bool
     ensures { result ≡ true → IsTrue (applies operator kind) }
 {
     match (operator, kind) {
@@ -80,7 +80,7 @@ fn applies_to(operator: Operator, kind: Kind) -> bool
 }
 
 // Whether a part has this type.
-fn has_kind(part: Part, kind: Kind) -> bool
+pub(crate) fn has_kind(part: Part, kind: Kind) -> bool
     ensures { result ≡ true → IsKindOfPart part kind }
 {
     match (part, kind) {

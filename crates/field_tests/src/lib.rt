@@ -10,7 +10,6 @@ mod fields;
 #[cfg(test)]
 mod general;
 #[cfg(test)]
-#[cfg(test)]
 mod judged;
 #[cfg(test)]
 mod nulls;
@@ -30,5 +29,7 @@ mod taken;
 mod texts;
 #[cfg(test)]
 mod vectors;
+#[cfg(test)]
+mod ways;
 #[cfg(test)]
 mod writing;

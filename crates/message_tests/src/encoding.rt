@@ -2,3 +2,4 @@
 
 mod messages;
 mod relaying;
+mod ways;

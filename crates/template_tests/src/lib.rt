@@ -1,8 +1,9 @@
-//! The tests of fast_template and fast_load, and template texts for the tests above.
+//! The tests of fast_template and fast_load, and template texts and generated fields for the tests above.
 #![tactic(auto)]
 
 #[cfg(test)]
 mod building;
+pub mod generated;
 #[cfg(test)]
 mod json;
 #[cfg(test)]

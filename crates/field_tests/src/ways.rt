@@ -1,0 +1,329 @@
+//! Generated fields that go the quick way and the general one: their bytes, entries and places are the same. All operators,
+//! types and presences, bits that say what they need not, needless groups and characters, bytes that no field has, and fields
+//! that have not wholly come.
+
+ghost use Rattle.std.specs.Prelude.{◌≡◌, ◌≤◌, true, false, length, IfSome, IsSome};
+ghost use Rattle.fast_value.specs.declared.kind.Operator.TheVariants as operator_type;
+ghost use Rattle.fast_value.specs.declared.kind.Presence.TheVariants.{Mandatory};
+ghost use Rattle.fast_field.specs.Parts.{IsFieldPart};
+ghost use Rattle.fast_template.specs.TemplateSets.{IsInitial};
+
+use crate::fields::{Value, part_of};
+use crate::judged::{applies_to, has_kind, holds_scalar, is_scalar};
+use crate::same::same;
+use fast_dictionary::Entry;
+use fast_field::{FieldFault, FieldRefusal, Level, Passed, read_field, write_in_place};
+use fast_relay::{Best, best_of, judge_field, judge_other, pass_quickly};
+use fast_template::{FieldPart, Initial, Kind, Operator, Part, Presence, part_needs_bit};
+use fast_value::is_of_kind;
+use std::alloc::{AllocError, Global};
+use std::process::Abort;
+use template_tests::generated::{Numbers, put_sent};
+
+// How many fields of an instruction follow one another.
+const FIELDS: u32 = 96;
+
+// A field behind one byte, and bytes behind it.
+fn generated(
+    alloc: Global,
+    instr: &FieldPart,
+    bit: bool,
+    numbers: &mut Numbers,
+) -> Result<Vec<u8>, AllocError> {
+    let mut bytes = Vec::new(alloc);
+    bytes.push(numbers.below(128))?;
+    if bit {
+        put_sent(instr, numbers, &mut bytes)?;
+    }
+    for _ in 0..numbers.below(4) {
+        bytes.push(numbers.below(255))?;
+    }
+    Ok(bytes)
+}
+
+// Whether an initial value is one that a part can have.
+fn is_initial(instr: &FieldPart, initial: &Initial) -> bool
+    ensures { result ≡ true → IsInitial instr.now initial.now }
+{
+    is_of_kind(instr.kind, initial.value())
+        && is_scalar(initial.value())
+        && instr.part != Part::Exponent
+}
+
+// Whether an operator wants an initial value.
+fn needs_initial(operator: Operator, presence: Presence) -> bool
+    ensures constant { result ≡ false → operator ≡ operator_type.Constant → ⊥ }
+    ensures default { result ≡ false → operator ≡ operator_type.Default → presence ≡ Mandatory → ⊥ }
+{
+    match operator {
+        Operator::Constant => true,
+        Operator::Default => presence == Presence::Mandatory,
+        _ => false,
+    }
+}
+
+// Whether an initial value is there where it is wanted, and one that the part can have.
+fn has_initial(instr: &FieldPart) -> bool
+    ensures fits { result ≡ true → IfSome instr.now.initial (IsInitial instr.now) }
+    ensures constant { result ≡ true → instr.now.operator ≡ operator_type.Constant → IsSome instr.now.initial }
+    ensures default { result ≡ true → instr.now.operator ≡ operator_type.Default
+        → instr.now.presence ≡ Mandatory → IsSome instr.now.initial }
+{
+    match &instr.initial {
+        Some(initial) => is_initial(instr, initial),
+        None => !needs_initial(instr.operator, instr.presence),
+    }
+}
+
+// Whether this is the instruction of a field.
+fn is_part(which: Part, instr: &FieldPart) -> bool
+    ensures part { result ≡ true → IsFieldPart instr.now }
+    ensures which { result ≡ true → which ≡ instr.now.part }
+{
+    has_initial(instr)
+        && which == instr.part
+        && applies_to(instr.operator, instr.kind)
+        && has_kind(instr.part, instr.kind)
+}
+
+// What the quick way answers of a field: none where it does not serve.
+fn quickly(
+    alloc: Global,
+    which: Part,
+    instr: &FieldPart,
+    entry: &mut Entry,
+    bit: bool,
+    bytes: &[u8],
+    at: usize,
+) -> Option<Best>
+    requires place { at ≤ length bytes.now }
+    requires part { IsFieldPart instr.now }
+    requires which { which ≡ instr.now.part }
+{
+    if !bit {
+        let there = match pass_quickly(which, instr, entry) {
+            Passed::Present => true,
+            Passed::Absent => false,
+            Passed::Elsewhere => return None,
+        };
+        return Some(Best {
+            there,
+            bit: false,
+            removal: None,
+            first: at,
+            next: at,
+        });
+    }
+    if !holds_scalar(entry) {
+        return None;
+    }
+    let judged = judge_field(which, alloc, instr, entry, bytes, at);
+    match best_of(judged, bytes, at) {
+        Some(best) => Some(best),
+        None if holds_scalar(entry) => judge_other(alloc, instr, entry, bytes, at),
+        None => None,
+    }
+}
+
+// The bytes of a best form.
+fn spelled(
+    rt: &impl Abort,
+    alloc: Global,
+    best: Best,
+    bytes: &[u8],
+) -> Result<Vec<u8>, AllocError> {
+    let mut form = Vec::new(alloc);
+    if let Some(removal) = best.removal {
+        form.push(removal)?;
+    }
+    match bytes.get(best.first..best.next) {
+        None => same(rt, best.first, best.next),
+        Some(rest) => form.extend_from_slice(rest)?,
+    }
+    Ok(form)
+}
+
+// A field of which the last bytes have not come is left to the general way, and nothing changes.
+fn waits(
+    rt: &impl Abort,
+    alloc: Global,
+    which: Part,
+    instr: &FieldPart,
+    entry: &Entry,
+    bytes: &[u8],
+    at: usize,
+) -> Result<(), AllocError>
+    requires place { at ≤ length bytes.now }
+    requires part { IsFieldPart instr.now }
+    requires which { which ≡ instr.now.part }
+{
+    for cut in at..bytes.len() {
+        let mut same_entry = entry.view().copy(alloc)?;
+        let best = quickly(
+            alloc,
+            which,
+            instr,
+            &mut same_entry,
+            true,
+            &bytes[..cut],
+            at,
+        );
+        same(rt, best, None);
+        same(rt, &same_entry, entry);
+    }
+    Ok(())
+}
+
+// A field goes the same both ways, and its entry becomes the one afterwards. Answers whether the quick way served.
+fn goes_both_ways(
+    rt: &impl Abort,
+    alloc: Global,
+    which: Part,
+    instr: &FieldPart,
+    entry: &mut Entry,
+    bit: bool,
+    bytes: &[u8],
+) -> Result<bool, AllocError> {
+    let at = bytes.len().min(1);
+    // no other is judged
+    if !is_part(which, instr) || !holds_scalar(entry) {
+        same(rt, false, true);
+        return Ok(false);
+    }
+    let before = entry.view().copy(alloc)?;
+    let mut quick = entry.view().copy(alloc)?;
+    let best = quickly(alloc, which, instr, &mut quick, bit, bytes, at);
+    let (value, after, next) = match read_field(
+        alloc,
+        instr,
+        entry.view(),
+        bit,
+        Level::Usual,
+        bytes,
+        at,
+    ) {
+        Err(FieldFault::Memory) => return Err(AllocError),
+        Err(_) => {
+            same(rt, best, None);
+            same(rt, &quick, &before);
+            return Ok(false);
+        }
+        Ok(read) => read,
+    };
+    waits(rt, alloc, which, instr, &before, &bytes[..next], at)?;
+    let mut form = Vec::new(alloc);
+    match write_in_place(alloc, instr, entry, value.as_ref(), &mut form) {
+        Err(refusal) => {
+            same(rt, refusal, FieldRefusal::Memory);
+            Err(AllocError)
+        }
+        Ok(bit) => {
+            same(rt, &*entry, &after);
+            match best {
+                None => {
+                    same(rt, &quick, &before);
+                    Ok(false)
+                }
+                Some(best) => {
+                    same(
+                        rt,
+                        (best.there, best.bit, best.next),
+                        (value.is_some(), bit, next),
+                    );
+                    same(rt, spelled(rt, alloc, best, bytes)?, form);
+                    same(rt, &quick, &after);
+                    Ok(true)
+                }
+            }
+        }
+    }
+}
+
+// Fields of an instruction, one after the other, go the same both ways, and some of them the quick way.
+fn all_go_both_ways(
+    rt: &impl Abort,
+    alloc: Global,
+    numbers: &mut Numbers,
+    which: Part,
+    instr: &FieldPart,
+) -> Result<(), AllocError> {
+    let mut entry = Entry::Undefined;
+    let mut served = false;
+    for _ in 0..FIELDS {
+        let bit = !part_needs_bit(instr) || numbers.below(3) > 0;
+        let bytes = generated(alloc, instr, bit, numbers)?;
+        served |= goes_both_ways(rt, alloc, which, instr, &mut entry, bit, &bytes)?;
+    }
+    same(rt, served, true);
+    Ok(())
+}
+
+// The same with an initial value, and without one where none is wanted.
+fn instructions_go_both_ways(
+    rt: &impl Abort,
+    alloc: Global,
+    numbers: &mut Numbers,
+    which: Part,
+    kind: Kind,
+    presence: Presence,
+    operator: Operator,
+    initial: Value,
+) -> Result<(), AllocError> {
+    if !applies_to(operator, kind) {
+        return Ok(());
+    }
+    if which != Part::Exponent {
+        let value = Some(initial.scalar(alloc)?);
+        let instr = part_of(alloc, which, kind, presence, operator, value)?;
+        all_go_both_ways(rt, alloc, numbers, which, &instr)?;
+    }
+    if needs_initial(operator, presence) {
+        return Ok(());
+    }
+    let instr = part_of(alloc, which, kind, presence, operator, None)?;
+    all_go_both_ways(rt, alloc, numbers, which, &instr)
+}
+
+#[test]
+fn generated_fields_go_the_same_both_ways(rt: HostRuntime) -> Result<(), AllocError> {
+    const PARTS: &[(Part, Kind, Value)] = &[
+        (Part::Whole, Kind::UInt32, Value::U32(5)),
+        (Part::Whole, Kind::Int32, Value::I32(-5)),
+        (Part::Whole, Kind::UInt64, Value::U64(5)),
+        (Part::Whole, Kind::Int64, Value::I64(-5)),
+        (Part::Whole, Kind::Decimal, Value::Decimal(-2, 5)),
+        (Part::Whole, Kind::Ascii, Value::Ascii(b"AB")),
+        (Part::Whole, Kind::Unicode, Value::Unicode("AB")),
+        (Part::Whole, Kind::Bytes, Value::Bytes(b"AB")),
+        (Part::Length, Kind::UInt32, Value::U32(5)),
+        (Part::Exponent, Kind::Int32, Value::I32(-2)),
+        (Part::Mantissa, Kind::Int64, Value::I64(-5)),
+    ];
+    const OPERATORS: &[Operator] = &[
+        Operator::Plain,
+        Operator::Constant,
+        Operator::Default,
+        Operator::Copy,
+        Operator::Increment,
+        Operator::Delta,
+        Operator::Tail,
+    ];
+    let mut numbers = Numbers::new(1);
+    for (which, kind, initial) in PARTS {
+        for operator in OPERATORS {
+            for presence in [Presence::Mandatory, Presence::Optional] {
+                instructions_go_both_ways(
+                    &rt,
+                    rt.alloc(),
+                    &mut numbers,
+                    *which,
+                    *kind,
+                    presence,
+                    *operator,
+                    *initial,
+                )?;
+            }
+        }
+    }
+    Ok(())
+}
