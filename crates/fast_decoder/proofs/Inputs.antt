@@ -93,13 +93,11 @@ front_carried mode set bytes xs ys c =
     let f = front_carries mode set xs ys at_start c.front c.start c.carried in
     record { front = f.0; rest = f.1 ++ c.rest; start = f.2; parts = c.parts ∙ ap (λ (zs : List ℕ). zs ++ c.rest) f.3 ∙ append_assoc f.0 f.1 c.rest; carried = f.4; ends = tt }
 
-reached_carried : {E : Type 0} {ghosts : Ghosts E} (at : Reached) (d : Decoder E ghosts) (reads turns : ℕ) (left : Option (List ℕ)) (bytes : List ℕ) (messages : List Content)
-    → HasReached at (Follows d bytes messages × (reads ≤ length bytes)) (mode_of d.machine) (templates_in d.machine.traversal.set.now) turns left bytes messages → Carried (mode_of d.machine) (templates_in d.machine.traversal.set.now) bytes messages
-reached_carried Reached.Open d reads turns left bytes messages h =
-    let at = rw (h.0.goes_on) at h.0.follows.at in
-    carried_of at.0
-reached_carried Reached.End d reads turns left bytes messages h = all_carried (mode_of d.machine) (templates_in d.machine.traversal.set.now) bytes messages h.carried
-reached_carried (Reached.Fault f) d reads turns left bytes messages h = h.carried
+pub reached_carried : (at : Reached) {P : Type 0} {mode : Mode} {set : List Resolved} {turns : ℕ} {left : Option (List ℕ)} {bytes : List ℕ} {messages : List Content} → (P → Carried mode set bytes messages) → HasReached at P mode set turns left bytes messages
+    → Carried mode set bytes messages
+reached_carried Reached.Open f h = f h
+reached_carried Reached.End f h = all_carried _ _ _ _ h.carried
+reached_carried (Reached.Fault fault) f h = h.carried
 
 -- the message that waited last in the list is answered
 popped : (answered : List Content) (old rest : List Message) (m : Message) → old ≡ rest ++ m ∷ [] → answered ++ waiting_in old ≡ (answered ++ content_of m ∷ []) ++ waiting_in rest
@@ -112,7 +110,7 @@ pub stands_popped : {E : Type 0} {ghosts : Ghosts E} (at : Reached) (d : Decoder
     → Stands at d rest turns reads left bytes (answered ++ content_of m ∷ []) × Carried (mode_of d.machine) (templates_in d.machine.traversal.set.now) bytes (answered ++ content_of m ∷ [])
 stands_popped at d old rest m turns reads left bytes answered is stands =
     let now = subst (λ (ms : List Content). HasReached at (Follows d bytes ms × (reads ≤ length bytes)) (mode_of d.machine) (templates_in d.machine.traversal.set.now) turns left bytes ms) (popped answered old rest m is) stands in
-    (now, front_carried (mode_of d.machine) (templates_in d.machine.traversal.set.now) bytes (answered ++ content_of m ∷ []) (waiting_in rest) (reached_carried at d reads turns left bytes ((answered ++ content_of m ∷ []) ++ waiting_in rest) now))
+    (now, front_carried (mode_of d.machine) (templates_in d.machine.traversal.set.now) bytes (answered ++ content_of m ∷ []) (waiting_in rest) (reached_carried at (λ f. let at = rw (f.0.goes_on) at f.0.follows.at in carried_of at.0) now))
 
 -- ---- causes
 

@@ -97,15 +97,15 @@ module _ (mode : Mode) (set : List Resolved) (is : IsNextReader mode set) where
           omega (arith, none, read, length-append {A = Content})
 
 -- the place behind a message that has ended is behind the bytes that were held
-pub behind_held : (framing : Framing) (left after : ℕ) (G H : Dictionary → (List ℕ → Reading) → Type 0) (t u : Traversal) (held : List ℕ) (waiting next : ℕ) (fed chunk : List ℕ) (messages ended : List Content)
+pub behind_held : (framing : Framing) (left after : ℕ) (H : Dictionary → (List ℕ → Reading) → Type 0) (t u : Traversal) (held : List ℕ) (waiting next : ℕ) (fed chunk : List ℕ) (messages ended : List Content)
     → AllByRecursion (λ r. HaveTypedParts r.members) (templates_in t.set.now) → framed_as framing u ≡ framed_as framing t → u.set.now ≡ t.set.now
     → Waits framing left t held waiting fed messages → Stands framing after H u (drop next (held ++ chunk)) (fed ++ chunk) (messages ++ ended)
     → (ended ≡ [] → next ≡ length (held ++ chunk)) → (begun_of t ≡ 0 → 0 < next) → next ≤ length (held ++ chunk) → 0 < length chunk → length held < next
-behind_held framing left after G H t u held waiting next fed chunk messages [] typed alike set waits stands all took place some =
+behind_held framing left after H t u held waiting next fed chunk messages [] typed alike set waits stands all took place some =
     omega (arith, length-append {A = ℕ}, all refl, some)
-behind_held framing left after G H t u held waiting next fed chunk messages (m ∷ more) typed alike set (inl between) stands all took place some =
+behind_held framing left after H t u held waiting next fed chunk messages (m ∷ more) typed alike set (inl between) stands all took place some =
     omega (arith, ap (λ (xs : List ℕ). length xs) between.1, took (ap begun_at between.0))
-behind_held framing left after G H t u held waiting next fed chunk messages (m ∷ more) typed alike set (inr stops) stands all took place some =
+behind_held framing left after H t u held waiting next fed chunk messages (m ∷ more) typed alike set (inr stops) stands all took place some =
     let mode = framed_as framing t in
     let sets = templates_in t.set.now in
     let same : templates_in u.set.now ≡ sets = ap (λ (x : TemplateList). templates_in x) set in

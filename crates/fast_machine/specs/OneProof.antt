@@ -1,9 +1,9 @@
 -- What a machine keeps of its keys and parts has one proof at most.
-use Rattle.std.specs.Prelude.{ℕ, zero, suc, ◌-◌, Bool, List, [], ◌∷◌, Some, length}
+use Rattle.std.specs.Prelude.{ℕ, zero, suc, Bool, List, [], ◌∷◌}
 use Rattle.std.specs.Coded.{×_prop, Π_prop, →_prop, Unit-prop, le_prop}
-use Rattle.fast_machine.specs.Prelude.{Key, Instruction, Instructions, group_of, sequence_of, no_instructions, then_instruction, TemplateList, Stage, Traversal, Walk, Inside, in_group, in_sequence, Waiting, Next, at_element, true-prop, IsTold-prop, if-lacks-prop, IsServed, AreServed, IsNextServed, IsInsideServed, AreAllServed, Dictionary, HasRoomAt, ServesAll, IsReadyAt, CanGoOn}
+use Rattle.fast_machine.specs.Prelude.{Key, Instruction, Instructions, group_of, sequence_of, no_instructions, then_instruction, TemplateList, Stage, Traversal, Walk, Inside, in_group, in_sequence, Waiting, Next, at_element, true-prop, IsTold-prop, short-prop, IsServed, AreServed, IsNextServed, IsInsideServed, AreAllServed, Dictionary, HasRoomAt, ServesAll, IsReadyAt}
 use Rattle.std.proofs.Props.{props}
-use Rattle.fast_machine.specs.Ends.{IsLong, lack_of}
+use Rattle.fast_machine.specs.Ends.{IsLong}
 
 pub ServesAll-prop : (serves : Key → Bool) (set : TemplateList) → IsProp (ServesAll serves set)
 ServesAll-prop serves set = Π_prop (λ k. →_prop (true-prop (serves k)))
@@ -30,12 +30,9 @@ around-prop serves (w ∷ ws) = hlevel (list-prop, inside-prop, around-prop serv
     inside-prop serves in_group = Unit-prop
     inside-prop serves (in_sequence s) = list-prop serves s.members
 
-at-prop : (at : Stage) (serves : Key → Bool) (t : Traversal) → IsProp (IsReadyAt at serves t)
-at-prop Stage.Body serves t = hlevel (list-prop, next-prop, around-prop)
-at-prop at serves t = hlevel props
-
-pub CanGoOn-prop : (serves : Key → Bool) (t : Traversal) → IsProp (CanGoOn serves t)
-CanGoOn-prop serves t = at-prop t.stage serves t
+pub IsReadyAt-prop : (at : Stage) (serves : Key → Bool) (t : Traversal) → IsProp (IsReadyAt at serves t)
+IsReadyAt-prop Stage.Body serves t = hlevel (list-prop, next-prop, around-prop)
+IsReadyAt-prop at serves t = hlevel props
 
 pub HasRoomAt-prop : (room : List (List Bool) → List Bool → Bool) (at : Stage) (w : Walk) → IsProp (HasRoomAt room at w)
 HasRoomAt-prop room Stage.Body w = true-prop _
@@ -43,4 +40,4 @@ HasRoomAt-prop room at w = hlevel (props, le_prop)
 
 pub IsLong-prop : (end : ℕ) (t : Traversal) (d : Dictionary) (held : List ℕ) (until_stop : Bool) (number : ℕ) → IsProp (IsLong end t d held until_stop number)
 IsLong-prop zero t d held until_stop number = Unit-prop
-IsLong-prop (suc n) t d held until_stop number = ×_prop le_prop (if-lacks-prop t d held (Some (lack_of (n - length held) until_stop number)))
+IsLong-prop (suc n) t d held until_stop number = hlevel (props, le_prop, short-prop)

@@ -21,7 +21,7 @@ pub use Rattle.fast_stream.specs.declared.mode.Mode.{Mode}
 pub use Rattle.fast_stream.specs.declared.place.Place.{Place}
 pub use Rattle.fast_walk.specs.Lacks.{Lacks}
 pub use Rattle.fast_walk.specs.Messages.{CanRead, IsSameSet}
-pub use Rattle.fast_walk.specs.OneProof.{IsTold-prop, if-lacks-prop, true-prop}
+pub use Rattle.fast_walk.specs.OneProof.{IsTold-prop, short-prop, true-prop}
 pub use Rattle.fast_walk.specs.OpenSegments.{Inside, Next, Reading, Waiting, at_element, in_group, in_sequence}
 pub use Rattle.fast_walk.specs.Received.{Received}
 pub use Rattle.fast_walk.specs.Room.{HasRoomAt}

@@ -1,6 +1,7 @@
 -- How a traversal with its receiver stands to the messages that stand one behind the other in some bytes, from a dictionary.
 use Rattle.std.specs.Prelude.{◌≡◌, ◌≢◌, ◌<◌, ◌⊎◌, ℕ, List, [], ◌++◌, length, Option, Some, None, Err}
-use Rattle.fast_machine.specs.Prelude.{IsBytes, Level, Resolved, templates_in, Dictionary, Truncated, Memory, Halt, Stage, Traversal, Content, CarriesFrom, MessageStop, message_at, Reading, Received, Continues, stop_of}
+pub use Rattle.fast_walk.specs.Received.{Having, Keeping as Standing}
+use Rattle.fast_machine.specs.Prelude.{IsBytes, Level, Resolved, templates_in, Dictionary, Truncated, Memory, Halt, Stage, Traversal, Content, CarriesFrom, MessageStop, message_at, Reading, Continues, stop_of}
 
 -- messages that stand one behind the other at the front of the bytes, from an origin, and behind them a rest of which this is so
 pub record Front {S : Type 0} (Stand : S → List ℕ → List Content → S → Type 0) (origin : S) (bytes : List ℕ) (messages : List Content) (Ends : S → List ℕ → Type 0) : Type 0 where
@@ -22,13 +23,6 @@ RunCarried level set origin bytes messages = Run level set origin bytes messages
 -- and the reading of the next message stops
 abbrev pub RunStops : Level → List Resolved → Dictionary → List ℕ → List Content → MessageStop → Type 0
 RunStops level set origin bytes messages stop = Run level set origin bytes messages (λ d rest. (0 < length rest) × IsBytes rest × (message_at level set d rest ≡ Err stop))
-
--- what is true of a receiver: while a message is open, between messages, and whatever is open
-abbrev pub Having : Type 0 → Type 1
-Having R = R → Received → Dictionary → Type 0
-
-abbrev pub Standing : Type 0 → Type 1
-Standing R = R → List Resolved → List Content → Dictionary → Type 0
 
 -- What a receiver has or keeps it still has, and nothing is open in it.
 abbrev pub Forgets : {R : Type 0} → Standing R → Standing R → R → R → Type 0

@@ -10,7 +10,7 @@ ghost use Rattle.fast_walk.specs.Room.{HasRoomAt};
 ghost use Rattle.fast_walk.specs.Told.{KeepScalars};
 ghost use Rattle.fast_walk.specs.Traversals.{CanGoOn, ServesAll};
 ghost use Rattle.fast_machine.specs.Ends.{IsLong};
-ghost use Rattle.fast_machine.specs.OneProof.{CanGoOn-prop, HasRoomAt-prop, IsLong-prop, ServesAll-prop};
+ghost use Rattle.fast_machine.specs.OneProof.{IsReadyAt-prop, HasRoomAt-prop, IsLong-prop, ServesAll-prop};
 
 use fast_dictionary::Entries;
 use fast_stream::{Fault, Framing};
@@ -48,7 +48,7 @@ pub struct Machine<'a, R: Receiver, E: Entries> {
     ghost served: { ServesAll (E.serves entries) traversal.set.now } by { ServesAll-prop (E.serves entries) traversal.set.now },
     ghost bounded: { length held.items ≤ 65554 },
     ghost cleared: { IfSome fault (λ f. held.items ≡ []) } by { Prim.hlevel props },
-    ghost ready: { fault ≡ None → CanGoOn (E.serves entries) traversal } by { →_prop (CanGoOn-prop (E.serves entries) traversal) },
+    ghost ready: { fault ≡ None → CanGoOn (E.serves entries) traversal } by { →_prop (IsReadyAt-prop traversal.stage (E.serves entries) traversal) },
     ghost lacks: { IsLong end traversal (E.contents entries) held.items until_stop waiting } by { IsLong-prop end traversal (E.contents entries) held.items until_stop waiting },
     ghost within: { end ≤ 65554 },
     ghost kept: { fault ≡ None → KeepScalars (E.contents entries) } by { →_prop (KeepScalars-prop (E.contents entries)) },

@@ -17,13 +17,13 @@ pub use Rattle.fast_stream.specs.declared.mode.Mode.{Mode}
 pub use Rattle.fast_walk.specs.Received.{handed_on}
 pub use Rattle.fast_machine.proofs.Calls.{same_on}
 pub use Rattle.fast_machine.proofs.Followings.{all_carried, follows_behind, has_kept}
-pub use Rattle.fast_machine.proofs.MessageEnds.{take_again}
+pub use Rattle.std.proofs.Math.Seq.{take-add}
 pub use Rattle.fast_machine.proofs.Runs.{carried_of}
 pub use Rattle.fast_machine.specs.Calls.{FollowsTaken, IsSameStream}
 pub use Rattle.fast_machine.specs.Following.{Follows, mode_of}
 pub use Rattle.fast_machine.specs.Standing.{Carried}
 pub use Rattle.fast_machine.specs.declared.machine.Machine.{Machine}
-pub use Rattle.fast_decoder.proofs.Inputs.{caused_by_end, caused_by_feed, caused_by_read, causes_on, causes_weaker, empty_read, failed_read, more_read, none_read, of_bytes, one_read, reached_with, refused_by_bytes, refused_by_read, refused_by_turns}
+pub use Rattle.fast_decoder.proofs.Inputs.{caused_by_end, caused_by_feed, caused_by_read, causes_on, causes_weaker, empty_read, failed_read, more_read, none_read, of_bytes, one_read, reached_carried, reached_with, refused_by_bytes, refused_by_read, refused_by_turns}
 pub use Rattle.fast_decoder.specs.Inputs.{IsCaused, Reader, Reads, Refuses, reader_by}
 pub use Rattle.fast_decoder.specs.declared.input.Reached.{Reached}
 pub use Rattle.fast_pass.specs.Passed.{Passes, PassesBy, PassesFront}

@@ -1,5 +1,5 @@
 -- Lemmas on a stream on its way through an output.
-use Rattle.fast_pass.proofs.Common.{◌≡◌, ◌≤◌, ℕ, ◌+◌, ◌-◌, min, List, [], ◌∷◌, ◌++◌, length, length-append, take, drop, append_assoc, append-nil, arith, Option, None, Result, Ok, Err, refl, ap, sym, ◌∙◌, ◌⊎◌, inl, inr, take_rest, Resolved, templates_in, Dictionary, Ghosts, Reached, Machine, Reader, Reads, Refuses, Fault, Mode, Content, FollowsTaken, Carried, Follows, mode_of, Keeps, counted_by, Taken, Appends-kept, Appends-nil, Appends-trans, all_carried, has_kept, take_again, carried_of, Passes, PassesBy, PassesFront, Break, HandsOn, Making, Relays, Step, Way, answer_of, farther, outset, CanonFault, Stop, Summary, handed_on}
+use Rattle.fast_pass.proofs.Common.{◌≡◌, ◌≤◌, ℕ, ◌+◌, ◌-◌, min, List, [], ◌∷◌, ◌++◌, length, length-append, take, drop, append_assoc, append-nil, arith, Option, None, Result, Ok, Err, refl, ap, sym, ◌∙◌, ◌⊎◌, inl, inr, take_rest, Resolved, templates_in, Dictionary, Ghosts, Reached, Machine, Reader, Reads, Refuses, Fault, Mode, Content, FollowsTaken, Carried, Follows, mode_of, Keeps, counted_by, Taken, Appends-kept, Appends-nil, Appends-trans, all_carried, has_kept, take-add, reached_carried, carried_of, Passes, PassesBy, PassesFront, Break, HandsOn, Making, Relays, Step, Way, answer_of, farther, outset, CanonFault, Stop, Summary, handed_on}
 use Rattle.fast_walk.specs.declared.receiver.Receiver.{Ghosts as Receiving}
 
 -- what a front carries, the whole carries in a front
@@ -21,11 +21,8 @@ taken_on {rest = rest} t ready behind parts same u = (
 
 -- the bytes of one chunk more are counted, as many as they are or up to the greatest number that a count has
 pub counts_more : (m k y : ℕ) (handed more : List ℕ) → m ≡ counted_by 0 (length handed) → (y ≡ length more) ⊎ (y ≡ counted_by 0 (length more)) → k ≡ min (m + y) 18446744073709551615 → k ≡ counted_by 0 (length (handed ++ more))
-counts_more m k y handed more before count e = of_sizes (length handed) (length more) (length (handed ++ more)) before count e (length-append handed more)
-  where
-    of_sizes : (a b c : ℕ) → m ≡ counted_by 0 a → (y ≡ b) ⊎ (y ≡ counted_by 0 b) → k ≡ min (m + y) 18446744073709551615 → c ≡ a + b → k ≡ counted_by 0 c
-    of_sizes a b c h (inl i) j same = omega (arith, h, i, j, same)
-    of_sizes a b c h (inr i) j same = omega (arith, h, i, j, same)
+counts_more m k y handed more before (inl i) e = omega (arith, before, i, e, length-append handed more)
+counts_more m k y handed more before (inr i) e = omega (arith, before, i, e, length-append handed more)
 
 -- ---- what was read
 
@@ -52,9 +49,7 @@ stops {waiting = waiting} {makes = makes} law m turns left way f refuses g = rec
 
 carried_by : {O E : Type 0} {receiver : Receiving O} {entries : Ghosts E} {waiting : O → List ℕ} {makes : Making} {turns : ℕ} {left : Option (List ℕ)} (at : Reached) (m : Machine O E receiver entries) (way : Way)
     → Relays waiting makes at m turns left way → Carried (mode_of m) (templates_in m.traversal.set.now) way.input way.messages
-carried_by Reached.Open m way r = let f = rw (r.holds.unrefused) at r.holds.follows.at in carried_of f.0
-carried_by Reached.End m way r = all_carried (mode_of m) (templates_in m.traversal.set.now) way.input way.messages r.holds.carried
-carried_by (Reached.Fault f) m way r = r.holds.carried
+carried_by at m way r = reached_carried at (λ go. let f = rw (go.unrefused) at go.follows.at in carried_of f.0) r.holds
 
 -- ---- steps
 
@@ -135,7 +130,7 @@ pub feeds_on : {O E : Type 0} {receiver : Receiving O} {entries : Ghosts E} {wai
     → Step waiting makes Reached.Open new turns left t u size way (take (k + n) bytes) B
 feeds_on {turns = turns} {left = left} law bytes k n new s none fed =
     let f = fed (handed_on (behind s).handed ∷ (behind s).messages) (behind s).input (behind s).messages s.relays.holds.follows in
-    let same = ap (λ (xs : List ℕ). take k bytes ++ take n xs) (take_rest bytes k) ∙ take_again k n bytes in
+    let same = ap (λ (xs : List ℕ). take k bytes ++ take n xs) (take_rest bytes k) ∙ sym (take-add k n bytes) in
     reads_on s (take n (take (length bytes - k) (drop k bytes))) f.0 (goes_on law new turns left _ none f.1) s.because same
 
 -- ---- what is answered

@@ -1,12 +1,10 @@
 -- What a receiver is told has one proof at most.
 use Rattle.fast_walk.specs.Prelude.{Bool-set, Kind, Part, Scalar, Decimal, FieldPart, Entry, Assigned, Dictionary, entry_at, Reads, Items}
-use Rattle.std.specs.Prelude.{◌<◌, ℕ, Bool, true, List, [], ◌∷◌, Option, Some, None, IsSome, IfSome, IsTrue, Ok, Err}
+use Rattle.std.specs.Prelude.{◌<◌, ℕ, Bool, true, List, [], ◌∷◌, Option, Some, None, IsSome, IsTrue, Ok, Err}
 use Rattle.std.specs.Coded.{×_prop, Π_prop, Unit-prop, le_prop}
 use Rattle.std.specs.List.{AllByRecursion}
 use Rattle.std.proofs.Props.{props}
-use Rattle.fast_walk.specs.Lacks.{Lacks, StopsShort}
-use Rattle.fast_walk.specs.declared.lack.Lack.{Lack}
-use Rattle.fast_walk.specs.declared.traversal.Traversal.{Traversal}
+use Rattle.fast_walk.specs.Lacks.{StopsShort}
 use Rattle.fast_walk.specs.Told.{IsKeptScalar, KeepsScalar, KeepScalars, KeepsInitial, IsTold}
 
 pub true-prop : (b : Bool) → IsProp (IsTrue b)
@@ -38,10 +36,6 @@ some-prop (Some x) = hlevel props
 pub IsTold-prop : (part : Part) (kind : Kind) (p : FieldPart) → IsProp (IsTold part kind p)
 IsTold-prop part kind p = hlevel (props, initial-prop, some-prop)
 
-short-prop : (number left : ℕ) (r : Reads Items) → IsProp (StopsShort number left r)
+pub short-prop : (number left : ℕ) (r : Reads Items) → IsProp (StopsShort number left r)
 short-prop number left (Ok x) = hlevel props
 short-prop number left (Err s) = hlevel props
-
-pub if-lacks-prop : (t : Traversal) (d : Dictionary) (bytes : List ℕ) (o : Option Lack) → IsProp (IfSome o (Lacks t d bytes))
-if-lacks-prop t d bytes None = Unit-prop
-if-lacks-prop t d bytes (Some l) = hlevel (props, short-prop)

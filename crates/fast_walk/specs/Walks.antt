@@ -74,13 +74,9 @@ HaltsAs level w d bytes h = (o : Received) → IsAt w o → reads_on level w d o
 
 -- ---- what is asked for
 
--- The key of such a part is served, and the part is one of a set.
-abbrev pub IsServedAs : (Key → Bool) → Part → Kind → FieldPart → Type 0
-IsServedAs serves part kind p = IsTrue (serves p.key) × IsTold part kind p
-
--- and it may be absent where that instruction may
+-- The key of such a part is served, the part is one of a set, and it may be absent where that instruction may.
 abbrev pub IsServedWith : (Key → Bool) → Part → Kind → Presence → FieldPart → Type 0
-IsServedWith serves part kind presence p = IsServedAs serves part kind p × (p.presence ≡ presence)
+IsServedWith serves part kind presence p = (IsTrue (serves p.key) × IsTold part kind p) × (p.presence ≡ presence)
 
 abbrev pub IsMantissaServed : (Key → Bool) → FieldPart → Type 0
 IsMantissaServed serves p = IsServedWith serves Part.Mantissa Kind.Int64 Mandatory p

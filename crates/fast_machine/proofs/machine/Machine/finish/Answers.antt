@@ -1,5 +1,4 @@
-use Rattle.fast_machine.proofs.Common.{◌≡◌, [], ℕ, List, length, refl, ap, subst, arith, nil_from_length, Stage}
-use Rattle.fast_machine.specs.Standing.{ReadsOn, Stands}
+use Rattle.fast_machine.proofs.Common.{◌≡◌, [], ℕ, List, length, refl, ap, arith, nil_from_length, Stage}
 use Rattle.fast_machine.proofs.Runs.{none_begun}
 use Rattle.fast_machine.proofs.Calls.{follows_refused}
 use Rattle.fast_machine.proofs.Followings.{carries_all, ends_inside}
@@ -18,22 +17,18 @@ returns-then-has_begun-clause-truncated g c = λ none.
     ] in (
       r.fault.cause_is,
       λ before fed messages short follows.
-          let R = g.R.Receiver in
-          let G = ReadsOn R.has R.stands R.keeps t old.receiver (g.E.Entries.contents old.entries) before in
           let at = rw (none) at follows.at in
           follows_refused r.keeps before old.held.items fed messages follows.counts at.0
-          (ends_inside old.framing old.left G c.keep.result t old.held.items old.waiting fed messages old.fed old.messages c.set_is_sound.ensures.typed follows.counts short at inside (rw (c.held-held.ensures.held) at r.fault)),
+          (ends_inside old.framing old.left _ c.keep.result t old.held.items old.waiting fed messages old.fed old.messages c.set_is_sound.ensures.typed follows.counts short at inside (rw (c.held-held.ensures.held) at r.fault)),
     )
 
 pub returns-clause-ok : goal.returns-clause-ok
 returns-clause-ok g c =
     let old = c.args.self.now in
-    let R = g.R.Receiver in
     let none = nil_from_length old.held.items (omega (arith, c.held-held.ensures.held, c.if-held-gt0.false)) in (
       refl,
       λ before fed messages follows.
-          let G = ReadsOn R.has R.stands R.keeps old.traversal old.receiver (g.E.Entries.contents old.entries) before in
           let at = rw (c.in_default.is) at follows.at in
-          carries_all old.framing old.left G old.traversal fed messages (c.if-has_begun.ensures.no (λ e. absurd cc)) (omega (arith, c.if-self-gt0.false))
-          (subst (λ (held : List ℕ). Stands old.framing old.left G old.traversal held fed messages) none at.0),
+          carries_all old.framing old.left _ old.traversal fed messages (c.if-has_begun.ensures.no (λ e. absurd cc)) (omega (arith, c.if-self-gt0.false))
+          (rw none at at.0),
     )
