@@ -1,5 +1,5 @@
 use Rattle.std.proofs.Math.Seq.{take-add}
-use Rattle.fast_machine.proofs.Common.{◌≡◌, ◌++◌, ◌+◌, ◌-◌, ◌∙◌, [], ℕ, List, length, length-drop, take, drop, take-append-drop, refl, sym, arith, ap, subst, append-nil, take_all, take_rest, FollowsAll}
+use Rattle.fast_machine.proofs.Common.{◌≡◌, ◌++◌, ◌+◌, ◌-◌, ◌∙◌, [], ℕ, List, length, length-drop, take, drop, refl, sym, arith, ap, append-nil, take_rest}
 use Rattle.fast_machine.proofs.Calls.{all_on, same_on}
 use Rattle.fast_machine.proofs.machine.Machine.feed_on.Goals as goal
 
@@ -11,13 +11,6 @@ messages-init g c = record {
   fed = omega arith;
   follows = λ before fed messages f. ([], rw (append-nil fed, append-nil before, append-nil messages) f);
 }
-
-pub returns-in_err-at-clause-follows : goal.returns-in_err-at-clause-follows
-returns-in_err-at-clause-follows g c = λ none.
-    let l = c.messages in
-    let chunk = c.args.chunk.now in
-    let whole = ap (λ (xs : List ℕ). take l.at chunk ++ xs) (take_rest chunk l.at) ∙ take-append-drop l.at chunk in
-    subst (λ (xs : List ℕ). FollowsAll c.args.self.now xs c.take_message.new.self) whole (all_on (take l.at chunk) (take (length chunk - l.at) (drop l.at chunk)) l.invariant.follows (c.in_err-at.ensures.follows l.invariant.fault))
 
 pub messages-preserved : goal.messages-preserved
 messages-preserved g c =
@@ -35,6 +28,3 @@ messages-preserved g c =
       fed = omega (arith, (o.ensures.fed v.fault).0, fed);
       follows = rw (← same) (all_on (take l.at chunk) (take o.field-0 (take (length chunk - l.at) (drop l.at chunk))) v.follows (o.ensures.follows v.fault));
     }
-
-pub returns-clause-follows : goal.returns-clause-follows
-returns-clause-follows g c = λ none. rw (take_all c.messages.at c.args.chunk.now (omega (arith, c.messages-test.false))) at c.messages.invariant.follows
