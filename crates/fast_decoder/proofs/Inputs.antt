@@ -93,11 +93,11 @@ front_carried mode set bytes xs ys c =
     let f = front_carries mode set xs ys at_start c.front c.start c.carried in
     record { front = f.0; rest = f.1 ++ c.rest; start = f.2; parts = c.parts ∙ ap (λ (zs : List ℕ). zs ++ c.rest) f.3 ∙ append_assoc f.0 f.1 c.rest; carried = f.4; ends = tt }
 
-pub reached_carried : (at : Reached) {P : Type 0} {mode : Mode} {set : List Resolved} {turns : ℕ} {left : Option (List ℕ)} {bytes : List ℕ} {messages : List Content} → (P → Carried mode set bytes messages) → HasReached at P mode set turns left bytes messages
+pub reached_carried : (at : Reached) (P : Type 0) (mode : Mode) (set : List Resolved) (turns : ℕ) (left : Option (List ℕ)) (bytes : List ℕ) (messages : List Content) → (P → Carried mode set bytes messages) → HasReached at P mode set turns left bytes messages
     → Carried mode set bytes messages
-reached_carried Reached.Open f h = f h
-reached_carried Reached.End f h = all_carried _ _ _ _ h.carried
-reached_carried (Reached.Fault fault) f h = h.carried
+reached_carried Reached.Open P mode set turns left bytes messages f h = f h
+reached_carried Reached.End P mode set turns left bytes messages f h = all_carried mode set bytes messages h.carried
+reached_carried (Reached.Fault fault) P mode set turns left bytes messages f h = h.carried
 
 -- the message that waited last in the list is answered
 popped : (answered : List Content) (old rest : List Message) (m : Message) → old ≡ rest ++ m ∷ [] → answered ++ waiting_in old ≡ (answered ++ content_of m ∷ []) ++ waiting_in rest
@@ -109,8 +109,9 @@ pub stands_popped : {E : Type 0} {ghosts : Ghosts E} (at : Reached) (d : Decoder
     → Stands at d old turns reads left bytes answered
     → Stands at d rest turns reads left bytes (answered ++ content_of m ∷ []) × Carried (mode_of d.machine) (templates_in d.machine.traversal.set.now) bytes (answered ++ content_of m ∷ [])
 stands_popped at d old rest m turns reads left bytes answered is stands =
-    let now = subst (λ (ms : List Content). HasReached at (Follows d bytes ms × (reads ≤ length bytes)) (mode_of d.machine) (templates_in d.machine.traversal.set.now) turns left bytes ms) (popped answered old rest m is) stands in
-    (now, front_carried (mode_of d.machine) (templates_in d.machine.traversal.set.now) bytes (answered ++ content_of m ∷ []) (waiting_in rest) (reached_carried at (λ f. let at = rw (f.0.goes_on) at f.0.follows.at in carried_of at.0) now))
+    let now = rw (popped answered old rest m is) at stands in
+    let carried = reached_carried at _ (mode_of d.machine) (templates_in d.machine.traversal.set.now) turns left bytes _ (λ (f : Follows d bytes ((answered ++ content_of m ∷ []) ++ waiting_in rest) × (reads ≤ length bytes)). let at = rw (f.0.goes_on) at f.0.follows.at in carried_of at.0) now in
+    (now, front_carried (mode_of d.machine) (templates_in d.machine.traversal.set.now) bytes (answered ++ content_of m ∷ []) (waiting_in rest) carried)
 
 -- ---- causes
 

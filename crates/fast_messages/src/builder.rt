@@ -159,7 +159,9 @@ impl Receiver for Builder {
         at: usize,
     ) -> Result<usize, FieldFault> {
         let (value, next) = take_part(alloc, entries, part, bit, level, bytes, at)?;
-        self.nodes.push(node_of(value))?;
+        self.nodes
+            .push(node_of(value))
+            .map_err(|_| FieldFault::Memory)?;
         Ok(next)
     }
 
@@ -177,7 +179,9 @@ impl Receiver for Builder {
     ) -> Result<(bool, usize), FieldFault> {
         match take_exponent(alloc, entries, part, bit, level, bytes, at)? {
             (None, next) => {
-                self.nodes.push(Node::Absent)?;
+                self.nodes
+                    .push(Node::Absent)
+                    .map_err(|_| FieldFault::Memory)?;
                 Ok((false, next))
             }
             (Some(exponent), next) => {
@@ -199,7 +203,9 @@ impl Receiver for Builder {
     ) -> Result<usize, FieldFault> {
         let (mantissa, next) = take_mantissa(alloc, entries, part, bit, level, bytes, at)?;
         let exponent = self.exponent;
-        self.nodes.push(Node::Value(Scalar::Decimal { exponent, mantissa }))?;
+        self.nodes
+            .push(Node::Value(Scalar::Decimal { exponent, mantissa }))
+            .map_err(|_| FieldFault::Memory)?;
         Ok(next)
     }
 
@@ -217,7 +223,9 @@ impl Receiver for Builder {
     ) -> Result<(Option<u32>, usize), FieldFault> {
         match take_length(alloc, entries, part, bit, level, bytes, at)? {
             (None, next) => {
-                self.nodes.push(Node::Absent)?;
+                self.nodes
+                    .push(Node::Absent)
+                    .map_err(|_| FieldFault::Memory)?;
                 Ok((None, next))
             }
             (Some(length), next) => {

@@ -1,5 +1,5 @@
 -- Lemmas on a stream on its way through an output.
-use Rattle.fast_pass.proofs.Common.{◌≡◌, ◌≤◌, ℕ, ◌+◌, ◌-◌, min, List, [], ◌∷◌, ◌++◌, length, length-append, take, drop, append_assoc, append-nil, arith, Option, None, Result, Ok, Err, refl, ap, sym, ◌∙◌, ◌⊎◌, inl, inr, take_rest, Resolved, templates_in, Dictionary, Ghosts, Reached, Machine, Reader, Reads, Refuses, Fault, Mode, Content, FollowsTaken, Carried, Follows, mode_of, Keeps, counted_by, Taken, Appends-kept, Appends-nil, Appends-trans, all_carried, has_kept, take-add, reached_carried, carried_of, Passes, PassesBy, PassesFront, Break, HandsOn, Making, Relays, Step, Way, answer_of, farther, outset, CanonFault, Stop, Summary, handed_on}
+use Rattle.fast_pass.proofs.Common.{◌≡◌, ◌≤◌, ℕ, ◌+◌, ◌-◌, min, List, [], ◌∷◌, ◌++◌, length, length-append, take, drop, append_assoc, append-nil, arith, Option, None, Result, Ok, Err, refl, ap, sym, ◌∙◌, ◌⊎◌, inl, inr, take_rest, Resolved, templates_in, Dictionary, Ghosts, Reached, Machine, Reader, Reads, Refuses, Fault, Mode, Content, FollowsTaken, Carried, Follows, mode_of, Keeps, counted_by, Taken, Appends-kept, Appends-nil, Appends-trans, all_carried, has_kept, take-add, reached_carried, carried_of, Passes, PassesBy, PassesFront, Break, GoesOn, HandsOn, Making, Relays, Step, Way, answer_of, farther, outset, CanonFault, Stop, Summary, handed_on}
 use Rattle.fast_walk.specs.declared.receiver.Receiver.{Ghosts as Receiving}
 
 -- what a front carries, the whole carries in a front
@@ -49,7 +49,8 @@ stops {waiting = waiting} {makes = makes} law m turns left way f refuses g = rec
 
 carried_by : {O E : Type 0} {receiver : Receiving O} {entries : Ghosts E} {waiting : O → List ℕ} {makes : Making} {turns : ℕ} {left : Option (List ℕ)} (at : Reached) (m : Machine O E receiver entries) (way : Way)
     → Relays waiting makes at m turns left way → Carried (mode_of m) (templates_in m.traversal.set.now) way.input way.messages
-carried_by at m way r = reached_carried at (λ go. let f = rw (go.unrefused) at go.follows.at in carried_of f.0) r.holds
+carried_by {turns = turns} {left = left} at m way r =
+    reached_carried at (GoesOn m way) (mode_of m) (templates_in m.traversal.set.now) turns left way.input way.messages (λ go. let f = rw (go.unrefused) at go.follows.at in carried_of f.0) r.holds
 
 -- ---- steps
 
