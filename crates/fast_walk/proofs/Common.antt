@@ -1,5 +1,5 @@
 -- What the proofs of this crate cite from elsewhere, passed on from one place. Declares nothing.
-pub use Rattle.std.proofs.Common.{Bool, Contains, Err, IfSome, IsErrAnd, IsTrue, List, None, Ok, Option, Result, Some, [], ap, append-nil, arith, cond, drop, false, find, get_or, if◌then◌else◌, inl, inr, length, length-append, length-drop, map, nat_eq, nat_le, option_map, option_to_list, pos, refl, rules, slice_index_or, slice_set, subst, subst₂, suc, sym, take, true, vec_len, zero, ℕ, ℤ, ◌%◌, ◌*◌, ◌++◌, ◌+ℤ◌, ◌+◌, ◌-◌, ◌<◌, ◌∙◌, ◌∷◌, ◌≡◌, ◌≢◌, ◌≤◌, ◌⊎◌}
+pub use Rattle.std.proofs.Common.{Bool, Contains, Err, IfSome, IsErrAnd, IsTrue, List, None, Ok, Option, Result, Some, [], ap, append-nil, arith, cond, drop, false, find, get_or, if◌then◌else◌, inl, inr, length, length-append, length-drop, map, nat_eq, nat_le, option_map, option_to_list, pos, refl, rules, slice_index_or, slice_set, subst, subst₂, suc, sym, take, true, vec_len, zero, ℕ, ℤ, ◌%◌, ◌*◌, ◌++◌, ◌+ℤ◌, ◌+◌, ◌-◌, ◌<◌, ◌∙◌, ◌∷◌, ◌≡◌, ◌≢◌, ◌≤◌, ◌↔◌, ◌⊎◌}
 pub use Rattle.std.proofs.Math.Seq.{get_or-append_seam, set-append_seam}
 pub use Rattle.std.proofs.lemmas.Bool.Decides.{nat_tests}
 pub use Rattle.std.proofs.lemmas.List.{map_push, nil_from_length, take_rest}

@@ -1,9 +1,6 @@
 -- How reading goes on from a message's map and identifier to its body.
-use Rattle.fast_walk.proofs.Common.{◌≡◌, ℕ, Bool, true, List, [], ◌++◌, length, Option, Some, Result, Ok, Err, refl, sym, ap, ◌∙◌, Scalar, U32, Instructions, Resolved, part_needs_bit, Dictionary, ◌>>=◌, IsLeftClear, some_set, Level, Strict, FieldFault, R8, Items, node_limit, bit_for, after_bit, members_of, identifier, Stop, Cursor, Reads, field_part_at, own_map_at, body_at, named_at, head_at, closing, message_at, in_template, Reading, body_on, cursor, ended_on, message_of, named_on, Took, identifier_on}
+use Rattle.fast_walk.proofs.Common.{◌≡◌, ℕ, Bool, true, List, [], ◌++◌, length, Some, Ok, Err, refl, sym, ap, ◌∙◌, U32, Instructions, Resolved, part_needs_bit, Dictionary, ◌>>=◌, IsLeftClear, some_set, Level, Strict, R8, Items, node_limit, bit_for, after_bit, members_of, identifier, Stop, Cursor, Reads, field_part_at, own_map_at, body_at, named_at, head_at, closing, message_at, in_template, Reading, body_on, cursor, ended_on, message_of, named_on, Took, identifier_on}
 use Rattle.fast_walk.proofs.Steps.{part_goes, closed_on, from_none, end_passes, clear_goes, set_stops}
-
-abbrev pub value_read : Option Scalar → List ℕ → Result (Option Scalar × List ℕ) FieldFault
-value_read v rest = Ok (v, rest)
 
 abbrev pub own_bit : List Bool → Bool
 own_bit bits = bit_for (part_needs_bit identifier) bits

@@ -5,17 +5,16 @@ one : {F : Type 0} (of_wire : WireFault → F) (f : F) (b : ℕ) (bs : List ℕ)
 unfolding entity_at
 one of_wire f b bs ends = rw ends refl
 
-two : {F : Type 0} (of_wire : WireFault → F) (f : F) (b c : ℕ) (bs : List ℕ) → nat_le 128 b ≡ false → nat_le 128 c ≡ true → nat_eq (c % 128) 0 ≡ false → judge Strict 256 overlong_map of_wire f (b ∷ c ∷ bs) ≡ Ok tt
-unfolding entity_at
-two of_wire f b c bs on ends some = rw on (rw ends (rw some refl))
-
 either : {F : Type 0} (of_wire : WireFault → F) (f : F) (b c : ℕ) (bs : List ℕ) (ends : Bool) → nat_le 128 b ≡ ends → (128 ≤ b) ⊎ ((128 < c) × (c < 256)) → judge Strict 256 overlong_map of_wire f (b ∷ c ∷ bs) ≡ Ok tt
+unfolding entity_at
 either of_wire f b c bs true is h = one of_wire f b (c ∷ bs) is
 either of_wire f b c bs false is (inl h) = grind (arith, nat_tests)
 either of_wire f b c bs false is (inr h) =
     let above = h.0 in
     let byte = h.1 in
-    two of_wire f b c bs is (grind (arith, nat_tests)) (grind (arith, nat_tests))
+    let ends : nat_le 128 c ≡ true = grind (arith, nat_tests) in
+    let some : nat_eq (c % 128) 0 ≡ false = grind (arith, nat_tests) in
+    rw is (rw ends (rw some refl))
 
 pub short_map : {F : Type 0} (of_wire : WireFault → F) (f : F) (bytes : List ℕ) → BeginsShortMap bytes → judge Strict 256 overlong_map of_wire f bytes ≡ Ok tt
 short_map of_wire f [] h = absurd h

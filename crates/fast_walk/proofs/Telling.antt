@@ -1,30 +1,22 @@
 -- What a receiver is told is true of the parts of a set and of the entries along a stream, and what it says of values.
-use Rattle.fast_walk.proofs.Common.{◌≡◌, ℕ, Bool, true, false, List, [], Option, Some, None, Ok, refl, sym, ap, subst, subst₂, ◌∙◌, append-nil, drop, get_or, ◌<◌, IfSome, IsTrue, cond, is_eq, is_utf8-from_IsUtf8, IsUtf8-from_is_utf8, IsBytes, done, Level, Usual, key_cmp, Key, Kind, Part, Presence, Mandatory, Scalar, Unicode, is_of, IsScalar, FieldPart, part_needs_bit, IsInitial, IsPartOf, Entry, Undefined, Assigned, Dictionary, entry_at, entry_at-empty, entry_at-set_entry, FieldFault, next, field_at, Form, IsBitOf, IsFieldPart, IsKindOfPart, HoldsScalar, field_forms, values_within, entries_within, read_usually, bytes_from, value_kind, value_there, bit_for, with_entry, written, identifier, Took, TookFrom, HoldScalars, IsKeptScalar, KeepsScalar, KeepScalars, KeepsInitial, IsTold}
+use Rattle.fast_walk.proofs.Common.{◌≡◌, ℕ, Bool, true, false, List, [], Option, Some, None, Ok, refl, sym, ap, subst, subst₂, ◌∙◌, ◌↔◌, append-nil, drop, get_or, ◌<◌, IfSome, IsTrue, cond, is_eq, is_utf8-from_IsUtf8, IsUtf8-from_is_utf8, IsBytes, done, Level, Usual, key_cmp, Key, Kind, Part, Presence, Mandatory, Scalar, Unicode, is_of, IsScalar, FieldPart, part_needs_bit, IsInitial, IsPartOf, Entry, Undefined, Assigned, Dictionary, entry_at, entry_at-empty, entry_at-set_entry, FieldFault, next, field_at, Form, IsBitOf, IsFieldPart, IsKindOfPart, HoldsScalar, field_forms, values_within, entries_within, read_usually, bytes_from, value_kind, value_there, bit_for, with_entry, written, identifier, Took, TookFrom, HoldScalars, IsKeptScalar, KeepsScalar, KeepScalars, KeepsInitial, IsTold}
 use Rattle.std.specs.FinMap as map
 
 -- ---- entries within their types
 
-scalar_kept : (v : Scalar) → IsScalar v → IsKeptScalar v
-scalar_kept (Unicode s) h = (h.0, (h.1, is_utf8-from_IsUtf8 s h.2))
-scalar_kept v h = h
+scalar_kept : (v : Scalar) → IsScalar v ↔ IsKeptScalar v
+scalar_kept (Unicode s) = (λ h. (h.0, (h.1, is_utf8-from_IsUtf8 s h.2)), λ h. (h.0, h.1.0, IsUtf8-from_is_utf8 s h.1.1))
+scalar_kept v = (λ h. h, λ h. h)
 
-kept_scalar : (v : Scalar) → IsKeptScalar v → IsScalar v
-kept_scalar (Unicode s) h = (h.0, h.1.0, IsUtf8-from_is_utf8 s h.1.1)
-kept_scalar v h = h
-
-entry_kept : (e : Entry) → HoldsScalar e → KeepsScalar e
-entry_kept (Assigned v) h = scalar_kept v h
-entry_kept e h = h
-
-pub kept_entry : (e : Entry) → KeepsScalar e → HoldsScalar e
-kept_entry (Assigned v) h = kept_scalar v h
-kept_entry e h = h
+entry_kept : (e : Entry) → HoldsScalar e ↔ KeepsScalar e
+entry_kept (Assigned v) = scalar_kept v
+entry_kept e = (λ h. h, λ h. h)
 
 pub are_kept : (d : Dictionary) → HoldScalars d → KeepScalars d
-are_kept d h k = entry_kept (entry_at d k) (h k)
+are_kept d h k = (entry_kept (entry_at d k)).0 (h k)
 
 pub kept_hold : (d : Dictionary) → KeepScalars d → HoldScalars d
-kept_hold d h k = kept_entry (entry_at d k) (h k)
+kept_hold d h k = (entry_kept (entry_at d k)).1 (h k)
 
 pub empty_holds : HoldScalars map.empty
 empty_holds k = subst HoldsScalar (sym (entry_at-empty k)) tt
@@ -32,13 +24,9 @@ empty_holds k = subst HoldsScalar (sym (entry_at-empty k)) tt
 pub empty_kept : KeepScalars map.empty
 empty_kept = are_kept map.empty empty_holds
 
-either_holds : (b : Bool) (e f : Entry) → HoldsScalar e → HoldsScalar f → HoldsScalar (cond b e f)
-either_holds true e f h k = h
-either_holds false e f h k = k
-
 with_entry_holds : (d : Dictionary) (k : Key) (e : Entry) → HoldScalars d → HoldsScalar e → HoldScalars (with_entry d k e)
 with_entry_holds d k Undefined all one = all
-with_entry_holds d k e all one = λ q. subst HoldsScalar (sym (entry_at-set_entry d k e q)) (either_holds (is_eq (key_cmp q k)) e (entry_at d q) one (all q))
+with_entry_holds d k e all one = λ q. subst HoldsScalar (sym (entry_at-set_entry d k e q)) (elim (is_eq (key_cmp q k)) as (λ b. HoldsScalar (cond b e (entry_at d q))) [ true ↦ one | false ↦ all q ])
 
 -- what has a form is written as a value of its type
 pub form_holds : (p : FieldPart) (d : Dictionary) (bit : Bool) (b : List ℕ) (v : Option Scalar) → IsFieldPart p → HoldScalars d → Form Usual p (entry_at d p.key) bit b v → HoldScalars (written p d v)
@@ -48,19 +36,15 @@ form_holds p d bit b v is all form =
 
 -- ---- parts of a set
 
-initial_kept : (p : FieldPart) (o : Option Scalar) → IfSome o (IsInitial p) → KeepsInitial p o
-initial_kept p None h = tt
-initial_kept p (Some v) h = (h.0, (h.1, scalar_kept v h.2))
-
-kept_initial : (p : FieldPart) (o : Option Scalar) → KeepsInitial p o → IfSome o (IsInitial p)
-kept_initial p None h = tt
-kept_initial p (Some v) h = (h.0, h.1.0, kept_scalar v h.1.1)
+initial_kept : (p : FieldPart) (o : Option Scalar) → IfSome o (IsInitial p) ↔ KeepsInitial p o
+initial_kept p None = (λ h. tt, λ h. tt)
+initial_kept p (Some v) = (λ h. (h.0, (h.1, (scalar_kept v).0 h.2)), λ h. (h.0, h.1.0, (scalar_kept v).1 h.1.1))
 
 pub part_told : (part : Part) (kind : Kind) (presence : Presence) (p : FieldPart) → IsPartOf part kind presence p → IsTold part kind p
-part_told part kind presence p h = assumption (initial_kept p p.initial h.typed.initial_fits)
+part_told part kind presence p h = assumption ((initial_kept p p.initial).0 h.typed.initial_fits)
 
 pub told_part : (part : Part) (kind : Kind) (p : FieldPart) → IsKindOfPart part kind → IsTold part kind p → IsFieldPart p
-told_part part kind p k h = assumption (kept_initial p p.initial h.initial_fits, subst₂ IsKindOfPart (sym h.part_is) (sym h.kind_is) k)
+told_part part kind p k h = assumption ((initial_kept p p.initial).1 h.initial_fits, subst₂ IsKindOfPart (sym h.part_is) (sym h.kind_is) k)
 
 pub identifier_told : IsTold Part.Whole Kind.UInt32 identifier
 identifier_told = record { part_is = refl; kind_is = refl; operator_applies = refl; initial_fits = tt; constant_has_value = λ e. absurd cc; default_has_value = λ e m. absurd cc }

@@ -1,6 +1,6 @@
-use Rattle.fast_walk.proofs.Common.{◌≡◌, ◌≢◌, ◌++◌, Option, drop, map, refl, sym, ap, ◌∙◌, arith, rules, Some, option_map, FlatTemplate, list_of, Instructions, templates_in, D9, Memory, Truncated, cause_of_field, message_of, opened, next_of, reads_on, frame_of, field_at, entry_at, node_limit, identifier, Kind, Part, U32, Stage}
+use Rattle.fast_walk.proofs.Common.{◌≡◌, ◌≢◌, ◌++◌, ℕ, List, Ok, Option, drop, map, refl, sym, ap, ◌∙◌, arith, rules, Some, option_map, FlatTemplate, list_of, Instructions, templates_in, D9, Memory, Truncated, cause_of_field, message_of, opened, next_of, reads_on, frame_of, field_at, entry_at, node_limit, identifier, Kind, Part, U32, Stage}
 use Rattle.fast_field.specs.declared.fault.FieldFault.TheVariants.{Memory as FieldMemory}
-use Rattle.fast_walk.proofs.Heads.{identifier_goes, own_bit, value_read}
+use Rattle.fast_walk.proofs.Heads.{identifier_goes, own_bit}
 use Rattle.fast_walk.proofs.Steps.{part_goes, part_stops, with_none}
 use Rattle.fast_walk.proofs.Messages.{identifier_stops}
 use Rattle.fast_walk.proofs.Serving.{found_members, members_served}
@@ -37,7 +37,7 @@ returns-in-None-clause-reads g c =
     identifier_stops c.requires.stage c.requires.place c.requires.can c.begin.ensures.same_keys c.begin.ensures.keeps
     (λ other.
     let bytes = drop c.args.at c.args.bytes.now in
-    let value = with_none (field_at old.level identifier (entry_at d identifier.key) (own_bit old.walk.bits)) (value_read (Some (U32 c.in-Ok.id))) bytes (drop c.in-Ok.next c.args.bytes.now) took.value in
+    let value = with_none (field_at old.level identifier (entry_at d identifier.key) (own_bit old.walk.bits)) (λ (rest : List ℕ). Ok (Some (U32 c.in-Ok.id), rest)) bytes (drop c.in-Ok.next c.args.bytes.now) took.value in
     rw (c.new.ensures.cause, c.new.ensures.number, part_goes old.level identifier d old.walk.bits node_limit bytes (drop c.in-Ok.next c.args.bytes.now) (Some (U32 c.in-Ok.id)) value, none) refl)
     (λ wanted. let k : D9 ≡ Truncated = sym c.new.ensures.cause ∙ wanted in absurd cc)
 
