@@ -1,6 +1,6 @@
 -- Lemmas on a stream on its way to canonical bytes.
-use Rattle.std.proofs.Common.{◌≡◌, ◌≤◌, ℕ, List, length, length-append, arith, Option, None, Result, Ok, Err, OnOk, ap, ◌∙◌}
-use Rattle.fast_canon.proofs.Common.{Resolved, IsSound, TemplateList, templates_in, Mode, at_start, as_messages_from, Content, Carried, counted_by, all_carried, Summary, summary_by, CanonFault, Passes, errors_after, Canonicalises, Checks, IsCanonical}
+use Rattle.std.proofs.Common.{◌≡◌, ◌≤◌, ℕ, List, length, length-append, arith, Option, Result, Ok, Err, OnOk, ap, ◌∙◌}
+use Rattle.fast_canon.proofs.Common.{IsSound, TemplateList, templates_in, Mode, at_start, as_messages_from, Content, Carried, counted_by, all_carried, Summary, summary_by, CanonFault, Passes, Canonicalises, IsCanonical}
 use Rattle.fast_canon.proofs.StreamLaws.{none_shorter_alone}
 
 -- The canonical bytes of messages that a front of the bytes read carries are no more than these.
@@ -25,9 +25,3 @@ canonicalised mode set turns left a b input (Ok summary) sound exact p =
     }
 canonicalised mode set turns left a b input (Err (CanonFault.Stream f)) sound exact p = p
 canonicalised mode set turns left a b input r sound exact p = p
-
--- Where nothing is written no write fails.
-pub checked : (mode : Mode) (set : List Resolved) (turns : ℕ) (left : Option (List ℕ)) (input : List ℕ) (r : Result Summary CanonFault) → 0 ≡ errors_after r 0
-    → Canonicalises mode set turns left None None input r → Checks mode set turns left input r
-checked mode set turns left input (Err CanonFault.Write) none p = absurd (omega (arith, none))
-checked mode set turns left input r none p = p

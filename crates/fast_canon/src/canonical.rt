@@ -2,7 +2,7 @@
 
 ghost use Rattle.std.specs.Prelude.{◌≡◌, ◌≤◌, ◌^◌, ℕ, List};
 ghost use Rattle.fast_template.specs.TemplateSets.{templates_in};
-ghost use Rattle.fast_decoder.specs.Inputs.{Reads, reader_by};
+ghost use Rattle.fast_decoder.specs.Inputs.{Reads, told_by};
 ghost use Rattle.fast_pass.specs.Passed.{FlushesOnce, IsCausedBy, errors_after};
 ghost use Rattle.fast_canon.specs.Canonicalised.{Canonicalises, Checks};
 
@@ -39,14 +39,12 @@ pub fn canonicalise<R: ByteInput, W: ByteOutput>(
     requires turns { turns ≤ 2 ^ 40 }
     // at most `turns` reads, what they gave, what was written, and what is answered
     ensures answer { (count : ℕ) × (input : List ℕ)
-        × Reads (reader_by R.left R.calls R.errors R.ends reader.old)
-        (reader_by R.left R.calls R.errors R.ends reader.new) count input
+        × Reads (told_by R.ByteInput reader.old) (told_by R.ByteInput reader.new) count input
         × (count ≤ turns)
         × Canonicalises mode (templates_in set.now) turns (R.left reader.new) (W.taken writer.old)
         (W.taken writer.new) input result
         × IsCausedBy result (count ≡ turns)
-        (reader_by R.left R.calls R.errors R.ends reader.old)
-        (reader_by R.left R.calls R.errors R.ends reader.new) }
+        (told_by R.ByteInput reader.old) (told_by R.ByteInput reader.new) }
     ensures write { W.errors writer.new ≡ errors_after result (W.errors writer.old) }
     ensures flush { FlushesOnce result (W.flushes writer.old) (W.flushes writer.new) }
 {
@@ -67,13 +65,11 @@ pub fn check<R: ByteInput>(
 ) -> Result<Summary, CanonFault>
     requires turns { turns ≤ 2 ^ 40 }
     ensures answer { (count : ℕ) × (input : List ℕ)
-        × Reads (reader_by R.left R.calls R.errors R.ends reader.old)
-        (reader_by R.left R.calls R.errors R.ends reader.new) count input
+        × Reads (told_by R.ByteInput reader.old) (told_by R.ByteInput reader.new) count input
         × (count ≤ turns)
         × Checks mode (templates_in set.now) turns (R.left reader.new) input result
         × IsCausedBy result (count ≡ turns)
-        (reader_by R.left R.calls R.errors R.ends reader.old)
-        (reader_by R.left R.calls R.errors R.ends reader.new) }
+        (told_by R.ByteInput reader.old) (told_by R.ByteInput reader.new) }
 {
     let mut nowhere = Nowhere {
         calls: 0,

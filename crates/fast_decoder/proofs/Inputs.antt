@@ -1,5 +1,5 @@
 -- How a stream of messages follows its reader.
-use Rattle.fast_decoder.proofs.Common.{◌≡◌, ◌≢◌, ◌≤◌, ℕ, ◌+◌, List, [], ◌∷◌, ◌++◌, length, take, map, reverse, Option, Result, refl, sym, ap, subst, ◌∙◌, arith, append_assoc, length-append, length-take, reverse-reverse, reverse-append, Consumes, Keeps, IsAtEnd, counted, Resolved, Reached, Cause, Fault, Mode, Place, Decoder, Message, templates_in, Ghosts, Content, content_of, IsCutAt, Refused, mode_of, Stand, at_start, CarriesFrom, FirstFault, Carried, Causes, Follows, HasReached, IsCaused, IsFaultOf, OnFault, Reader, Reads, RefusedBy, Refuses, Repeats, Stands, waiting_in, carried_of, all_carried, IsOfBytes, of_mode}
+use Rattle.fast_decoder.proofs.Common.{◌≡◌, ◌≢◌, ◌≤◌, ℕ, ◌+◌, List, [], ◌∷◌, ◌++◌, length, take, map, reverse, Option, refl, sym, ap, subst, ◌∙◌, arith, append_assoc, length-append, length-take, reverse-reverse, reverse-append, Consumes, Keeps, IsAtEnd, counted, Resolved, Reached, Cause, Fault, Mode, Place, Decoder, Message, templates_in, Ghosts, Content, content_of, IsCutAt, Refused, mode_of, Stand, at_start, CarriesFrom, FirstFault, Carried, Causes, Follows, HasReached, IsCaused, IsFaultOf, OnFault, Reader, Reads, RefusedBy, Refuses, Stands, waiting_in, carried_of, all_carried, IsOfBytes, of_mode}
 use Rattle.std.proofs.KnownBytes.{Consumes-kept, Consumes-nil, Consumes-trans}
 
 by_bytes : (c : Cause) (mode : Mode) (set : List Resolved) (turns : ℕ) (left : Option (List ℕ)) (bytes : List ℕ) (place : Place) → (c ≡ Cause.Truncated → IsAtEnd left) → (c ≢ Cause.Memory → FirstFault mode set bytes place c)
@@ -142,8 +142,3 @@ pub causes_end : (before now next : Reached) (P : Type 0) (a b : Reader) → Cau
     → Causes before next P a b
 causes_end before Reached.Open next P a b h p used same = used_from before next P a b h (used refl) (p refl)
 causes_end before now next P a b h p used same = subst (λ (r : Reached). Causes before r P a b) (sym (same (λ e. absurd cc))) (causes_weaker before now P a b h)
-
--- what is answered once more of a stream that stayed as it was, if it is not open
-pub repeats_kept : (before now : Reached) (r : Result (Option Message) Fault) → (before ≢ Reached.Open → now ≡ before) → Repeats now r → Repeats before r
-repeats_kept Reached.Open now r same h = tt
-repeats_kept before now r same h = subst (λ (at : Reached). Repeats at r) (same (λ e. absurd cc)) h

@@ -8,11 +8,11 @@ use Rattle.fast_stream.specs.declared.message.Message.{Message}
 use Rattle.fast_stream.specs.Nodes.{Content}
 use Rattle.fast_machine.specs.Following.{mode_of}
 use Rattle.fast_decoder.specs.declared.input.MessageInputStream.{MessageInputStream}
-use Rattle.fast_decoder.specs.Inputs.{Causes, Reader, Reads, Stands, Tells, reader_by}
+use Rattle.fast_decoder.specs.Inputs.{Causes, Reader, Reads, Stands, Tells, told_by}
 
 -- what its reader tells
 abbrev pub reader_of : {R E : Type 0} {input : Giving R} {entries : Ghosts E} → MessageInputStream R E input entries → Reader
-reader_of {input = input} s = reader_by input.left input.calls input.errors input.ends s.reader
+reader_of {input = input} s = told_by input s.reader
 
 -- it has read these bytes since the reset, and has answered these messages
 abbrev pub StandsAt : {R E : Type 0} {input : Giving R} {entries : Ghosts E} → MessageInputStream R E input entries → List ℕ → List Content → Type 0

@@ -2,6 +2,7 @@
 use Rattle.std.specs.Prelude.{◌≡◌, ◌⊎◌, ◌≤◌, ℕ, ◌+◌, ◌*◌, List, [], ◌∷◌, ◌++◌, length, map, reverse, Option, Some, None, Result, Ok, Err}
 use Rattle.std.specs.Io.KnownBytes.{Consumes, IsAtEnd}
 use Rattle.fast_io.specs.Counts.{counted, counted_by}
+use Rattle.fast_io.specs.declared.input.ByteInput.{Ghosts as Giving}
 use Rattle.fast_template.specs.Resolved.{Resolved}
 use Rattle.fast_template.specs.TemplateSets.{templates_in}
 use Rattle.fast_stream.specs.declared.fault.Cause.{Cause}
@@ -27,6 +28,9 @@ pub record Reader : Type 0 where
 
 abbrev pub reader_by : {R : Type 0} → (R → Option (List ℕ)) → (R → ℕ) → (R → ℕ) → (R → ℕ) → R → Reader
 reader_by left calls errors ends r = record { left = left r; calls = calls r; errors = errors r; ends = ends r }
+
+abbrev pub told_by : {R : Type 0} → Giving R → R → Reader
+told_by input r = reader_by input.left input.calls input.errors input.ends r
 
 -- So many reads, each of at most 4,096 bytes, gave these bytes.
 pub record Reads (old new : Reader) (count : ℕ) (got : List ℕ) : Type 0 where

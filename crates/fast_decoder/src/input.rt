@@ -7,7 +7,7 @@ ghost use Rattle.fast_template.specs.TemplateSets.{templates_in};
 ghost use Rattle.fast_stream.specs.Nodes.{Content};
 ghost use Rattle.fast_walk.specs.Traversals.{ServesAll};
 ghost use Rattle.fast_machine.specs.Following.{mode_of};
-ghost use Rattle.fast_decoder.specs.Inputs.{Causes, Follows, HasReached, IsFaultOf, OnFault, Reads, Repeats, Stands, Tells, answered_in, reader_by, waiting_in};
+ghost use Rattle.fast_decoder.specs.Inputs.{Causes, Follows, HasReached, IsFaultOf, OnFault, Reads, Repeats, Stands, Tells, answered_in, told_by, waiting_in};
 
 use crate::decoder::Decoder;
 use fast_dictionary::Entries;
@@ -165,8 +165,7 @@ impl<'a, R: ByteInput, E: Entries> MessageInputStream<'a, R, E> {
         ensures mode { mode_of self.new.decoder.machine ≡ mode_of self.old.decoder.machine }
         ensures waits { self.old.waiting.items ≢ [] → self.new.reader ≡ self.old.reader }
         ensures read { (got : List ℕ) × (count : ℕ)
-            × Reads (reader_by R.left R.calls R.errors R.ends self.old.reader)
-            (reader_by R.left R.calls R.errors R.ends self.new.reader) count got
+            × Reads (told_by R.ByteInput self.old.reader) (told_by R.ByteInput self.new.reader) count got
             × (self.new.reads ≡ self.old.reads + count)
             × ((bytes : List ℕ) (answered : List Content)
             → Stands self.old.reached self.old.decoder self.old.waiting.items self.old.turns
@@ -176,8 +175,7 @@ impl<'a, R: ByteInput, E: Entries> MessageInputStream<'a, R, E> {
             × Tells result (mode_of self.new.decoder.machine) (templates_in self.new.decoder.machine.traversal.set.now) self.new.turns
             (R.left self.new.reader) (bytes ++ got) (answered ++ answered_in result)
             × Causes self.old.reached self.new.reached (self.new.reads ≡ self.new.turns)
-            (reader_by R.left R.calls R.errors R.ends self.old.reader)
-            (reader_by R.left R.calls R.errors R.ends self.new.reader)) }
+            (told_by R.ByteInput self.old.reader) (told_by R.ByteInput self.new.reader)) }
         ensures end { result ≡ Ok None → self.new.reached ≡ Reached.End }
         ensures fault { IfErr result (λ f. self.new.reached ≡ Reached.Fault f) }
         // with none or a fault no message waits, and the next call answers the same

@@ -193,9 +193,8 @@ goes_of Blocks left G t unread s rest (inr i) = (i.next.read, i.next.goes)
 
 module _ {R : Type 0} (has : Having R) (stands keeps : Standing R) (t : Traversal) (r : R) (d : Dictionary) (before : List Content) where
   kept_at : (set : List Resolved) (start : Dictionary) (read : List ℕ → Reading) (at : Stage) → ContinuesAt has stands keeps at t r set d before start read → keeps r set before start ⊎ stands r set before start
-  kept_at set start read Stage.Map c = inr (rw (c.start_is) c.stands)
-  kept_at set start read Stage.Identifier c = inr (rw (c.start_is) c.stands)
   kept_at set start read Stage.Body c = inl c.keeps
+  kept_at set start read at c = inr (rw (c.start_is) c.stands)
 
   -- where the receiver forgets what is open
   pub forgets : {s : R} → Forgets stands keeps r s → (start : Dictionary) (read : List ℕ → Reading) → ReadsOn has stands keeps t r d before start read → stands s (templates_in t.set.now) before start
@@ -216,8 +215,6 @@ module _ {R : Type 0} (has : Having R) (stands keeps : Standing R) (t : Traversa
       (between : (x : List Resolved) (e : Dictionary) → stands r x before e → stands s x after e)
       (kept : (x : List Resolved) (e : Dictionary) → keeps r x before e → keeps s x after e) where
     continues_behind : (set : List Resolved) (start : Dictionary) (read : List ℕ → Reading) (at : Stage) → ContinuesAt has stands keeps at t r set d before start read → ContinuesAt has stands keeps at t s set d after start read
-    continues_behind set start read Stage.Map c = record { stands = between set d c.stands; start_is = c.start_is; reads = c.reads }
-    continues_behind set start read Stage.Identifier c = record { stands = between set d c.stands; start_is = c.start_is; reads = c.reads }
     continues_behind set start read Stage.Body c = record {
       received = behind c.received after;
       at = record { next = c.at.next; rest = c.at.rest; around = c.at.around };
@@ -229,6 +226,7 @@ module _ {R : Type 0} (has : Having R) (stands keeps : Standing R) (t : Traversa
       named = c.named;
       reads = c.reads;
     }
+    continues_behind set start read at c = record { stands = between set d c.stands; start_is = c.start_is; reads = c.reads }
 
     next_behind : {unread : List ℕ} {start : Dictionary} {rest : List ℕ} → Unfinished (ReadsOn has stands keeps t r d before) t unread start rest → Unfinished (ReadsOn has stands keeps t s d after) t unread start rest
     next_behind {start = start} u = record { read = u.read; goes = continues_behind (templates_in t.set.now) start u.read t.stage u.goes; fits = u.fits; reads = u.reads; taken = u.taken; whole = u.whole; between = u.between; some = u.some }

@@ -1,5 +1,5 @@
 -- Where a message has ended: the bytes behind it are left out, and they are bytes of the last chunk.
-use Rattle.fast_machine.proofs.Common.{◌≡◌, ◌≤◌, ◌<◌, ◌+◌, ℕ, suc, ◌-◌, length, take, drop, length-append, length-drop, take-append-drop, arith, List, [], ◌∷◌, ◌++◌, refl, sym, ap, subst, ◌∙◌, append_assoc, append-nil, inl, inr, cases_lt, append_cancel_right, drop-drop, drop_at, take-append-le, take_all, take_at, AllByRecursion, Resolved, HaveTypedParts, TemplateList, templates_in, Dictionary, Framing, Plain, Blocks, Mode, Stand, at_start, Opens, CarriesFrom, Content, MessageStop, IsNextReader, Stage, Traversal, Reading, begun_at, begun_of, Having, ReadsOn, Standing, Unfinished, Waits, GoesIn, Stands, framed_as, message_reader, fits_take, next_reader}
+use Rattle.fast_machine.proofs.Common.{◌≡◌, ◌≤◌, ◌<◌, ◌+◌, ℕ, zero, suc, ◌-◌, length, take, drop, length-append, length-drop, take-append-drop, arith, List, [], ◌∷◌, ◌++◌, refl, sym, ap, subst, ◌∙◌, append_assoc, append-nil, inl, inr, cases_lt, append_cancel_right, drop-drop, drop_at, take-append-le, take_at, AllByRecursion, Resolved, HaveTypedParts, TemplateList, templates_in, Dictionary, Framing, Plain, Blocks, Mode, Stand, at_start, Opens, CarriesFrom, Content, MessageStop, IsNextReader, Stage, Traversal, Reading, begun_at, begun_of, Having, ReadsOn, Standing, Unfinished, Waits, GoesIn, Stands, framed_as, message_reader, fits_take, next_reader}
 use Rattle.fast_stream.specs.Modes.{GoesOn, NextStops, StreamReading, messages_at}
 use Rattle.fast_stream.proofs.ModeStreams.{continues, stops_reading}
 use Rattle.fast_machine.proofs.Followings.{held_within}
@@ -24,16 +24,16 @@ module _ {R : Type 0} (has : Having R) (stands keeps : Standing R) (t : Traversa
     goes : GoesIn framing left G t [] s back
 
   shorter : (framing : Framing) (left : ℕ) (unread : List ℕ) (s : Stand) (rest : List ℕ) → GoesIn framing left G t unread s rest → Shorter framing left unread s rest
-  unfolding next_of_none
+  unfolding next_of_none unfinished_between
   shorter Plain left unread s rest h = record { back = []; parts = all_unread h.0 at; goes = (next_of_none unread s.dictionary rest h.0, h.1, h.2) }
   shorter Blocks left unread s rest (inl b) = record {
     back = [];
     parts = b.same;
     goes = inl (record { none = b.none; outside = b.outside; stage = at; same = refl; fits = tt; next = b.next });
   }
-  shorter Blocks left unread s rest (inr i) =
+  shorter Blocks zero unread s rest (inr i) = let some = i.some in absurd (omega (arith, some))
+  shorter Blocks (suc left) unread s rest (inr i) =
       let parts : rest ≡ i.size ++ unread = i.parts ∙ ap (λ (xs : List ℕ). i.size ++ (xs ++ unread)) (i.next.between at) in
-      let none : take left [] ≡ [] = take_all {A = ℕ} left [] (omega arith) in
       record {
         back = i.size;
         parts = parts;
@@ -41,17 +41,8 @@ module _ {R : Type 0} (has : Having R) (stands keeps : Standing R) (t : Traversa
           some = i.some;
           size = i.size;
           within = [];
-          next = let u = next_of_none (take left unread) s.dictionary i.within i.next in record {
-            read = u.read;
-            goes = u.goes;
-            fits = tt;
-            reads = λ more. u.reads more ∙ ap (λ (xs : List ℕ). u.read (xs ++ more)) (sym none);
-            taken = [];
-            whole = sym none;
-            between = λ k. refl;
-            some = u.some;
-          };
-          opens = subst (λ (xs : List ℕ). Opens t.level s.left i.size (length xs + left)) (i.next.between at) i.opens;
+          next = next_of_none (take (suc left) unread) s.dictionary i.within i.next;
+          opens = subst (λ (xs : List ℕ). Opens t.level s.left i.size (length xs + suc left)) (i.next.between at) i.opens;
           parts = sym (append-nil i.size);
           fits = rw (← take_at i.size unread (length i.size) refl) (fits_take (length i.size) (i.size ++ unread) (rw (parts) at i.fits));
         });

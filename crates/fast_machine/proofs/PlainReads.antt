@@ -10,16 +10,13 @@ module _ {G : Dictionary → (List ℕ → Reading) → Type 0} {t : Traversal} 
   abbrev sets : List Resolved
   sets = templates_in u.set.now
 
-  outside_is : (s : Stand) → s.left ≡ 0 → outside s.dictionary ≡ s
-  outside_is s none = ap (λ (n : ℕ). record { dictionary = s.dictionary; left = n }) (sym none)
-
   onwards : {Ends : Dictionary → List ℕ → Type 0} {Later : Stand → List ℕ → Type 0} → ((d : Dictionary) (r : List ℕ) → Ends d r → Later (outside d) r) → Run u.level sets b.start.dictionary b.rest more Ends → Behind (framed_as Plain u) sets fed (messages ++ more) Later
   onwards later run = go_on Plain t u b level set (record {
     front = run.front;
     rest = run.rest;
     start = outside run.start;
     parts = run.parts;
-    carried = subst (λ (s : Stand). CarriesFrom (framed_as Plain u) sets s run.front more (outside run.start)) (outside_is b.start b.ends.1) (in_mode_from u.level sets more b.start.dictionary run.start run.front run.carried);
+    carried = subst (λ (s : Stand). CarriesFrom (framed_as Plain u) sets s run.front more (outside run.start)) (ap (λ (n : ℕ). record b.start { left = n }) (sym b.ends.1)) (in_mode_from u.level sets more b.start.dictionary run.start run.front run.carried);
     ends = later run.start run.rest run.ends;
   })
 

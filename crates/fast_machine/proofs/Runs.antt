@@ -40,7 +40,7 @@ module _ {G : Dictionary → (List ℕ → Reading) → Type 0} {t : Traversal} 
   ]
 
 -- between two messages
-pub unfinished_between : {R : Type 0} (has : Having R) (stands keeps : Standing R) (t : Traversal) (r : R) (d : Dictionary) (before : List Content) (unread : List ℕ) (start : Dictionary) (rest : List ℕ) → t.stage ≡ Stage.Map
+unfoldable pub unfinished_between : {R : Type 0} (has : Having R) (stands keeps : Standing R) (t : Traversal) (r : R) (d : Dictionary) (before : List Content) (unread : List ℕ) (start : Dictionary) (rest : List ℕ) → t.stage ≡ Stage.Map
     → stands r (templates_in t.set.now) before d → start ≡ d → rest ≡ unread → IsBytes rest → Unfinished (ReadsOn has stands keeps t r d before) t unread start rest
 unfinished_between has stands keeps t r d before unread start rest at h is same fits = record {
   read = message_at t.level (templates_in t.set.now) d;

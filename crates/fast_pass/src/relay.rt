@@ -4,7 +4,7 @@ ghost use Rattle.std.specs.Prelude.{◌≡◌, ◌≤◌, ◌<◌, ◌+◌, ◌�
 ghost use Rattle.std.specs.FinMap as finite;
 ghost use Rattle.fast_template.specs.TemplateSets.{IsSound, templates_in};
 ghost use Rattle.fast_walk.specs.Received.{handed_on};
-ghost use Rattle.fast_decoder.specs.Inputs.{IsCaused, Reads, reader_by};
+ghost use Rattle.fast_decoder.specs.Inputs.{IsCaused, Reads, told_by};
 ghost use Rattle.fast_decoder.specs.declared.input.Reached.TheVariants as reached;
 ghost use Rattle.fast_pass.specs.Passed.{FlushesOnce, PassesBy, errors_after};
 ghost use Rattle.fast_pass.specs.Relays.{Goes, Hands, IsOfBytes, Relays, StandsStill, answer_of, errors_behind, outset};
@@ -114,13 +114,11 @@ fn read_on<O: Output, R: ByteInput, W: ByteOutput, E: Entries>(
     requires fault { machine.now.fault ≡ None }
     requires room { machine.now.fed + CHUNK ≤ 2 ^ 60 }
     ensures read { (got : List ℕ)
-        × Reads (reader_by R.left R.calls R.errors R.ends reader.old)
-        (reader_by R.left R.calls R.errors R.ends reader.new) 1 got
+        × Reads (told_by R.ByteInput reader.old) (told_by R.ByteInput reader.new) 1 got
         × Goes O.waiting O.makes result machine.old machine.new (R.left reader.old) (R.left reader.new)
         (W.taken writer.old) (W.taken writer.new) got
         (λ at. (at ≡ reached.Open → 0 < length got)
-        × IsCaused at ⊥ (reader_by R.left R.calls R.errors R.ends reader.old)
-        (reader_by R.left R.calls R.errors R.ends reader.new)) }
+        × IsCaused at ⊥ (told_by R.ByteInput reader.old) (told_by R.ByteInput reader.new)) }
     ensures failed { W.errors writer.new ≡ errors_behind result (W.errors writer.old) }
     ensures flushes { W.flushes writer.new ≡ W.flushes writer.old }
     ensures same { IsSameStream machine.old machine.new }
@@ -148,8 +146,7 @@ fn relay<O: Output, R: ByteInput, W: ByteOutput, E: Entries>(
     requires empty { O.waiting machine.now.receiver ≡ [] }
     requires relays { Relays O.waiting O.makes reached.Open machine.now turns (R.left reader.now) outset }
     ensures answer { PassesBy O.makes (mode_of machine.old) (templates_in machine.old.traversal.set.now) turns
-        (reader_by R.left R.calls R.errors R.ends reader.old)
-        (reader_by R.left R.calls R.errors R.ends reader.new) (W.taken writer.old) (W.taken writer.new)
+        (told_by R.ByteInput reader.old) (told_by R.ByteInput reader.new) (W.taken writer.old) (W.taken writer.new)
         (answer_of result machine.new) }
     ensures failed { W.errors writer.new ≡ errors_behind result (W.errors writer.old) }
     ensures flushes { W.flushes writer.new ≡ W.flushes writer.old }
@@ -185,8 +182,7 @@ fn pass_by<O: Output, R: ByteInput, W: ByteOutput, E: Entries>(
     requires empty { O.waiting machine.now.receiver ≡ [] }
     requires relays { Relays O.waiting O.makes reached.Open machine.now turns (R.left reader.now) outset }
     ensures answer { PassesBy O.makes (mode_of machine.old) (templates_in machine.old.traversal.set.now) turns
-        (reader_by R.left R.calls R.errors R.ends reader.old)
-        (reader_by R.left R.calls R.errors R.ends reader.new) (W.taken writer.old) (W.taken writer.new) result }
+        (told_by R.ByteInput reader.old) (told_by R.ByteInput reader.new) (W.taken writer.old) (W.taken writer.new) result }
     ensures write { W.errors writer.new ≡ errors_after result (W.errors writer.old) }
     ensures flush { FlushesOnce result (W.flushes writer.old) (W.flushes writer.new) }
 {
@@ -237,8 +233,7 @@ pub fn pass_through<O: Output, R: ByteInput, W: ByteOutput>(
     requires begins { O.stands output (templates_in set.now) (handed_on [] ∷ []) finite.empty }
     requires empty { O.waiting output ≡ [] }
     ensures answer { PassesBy O.makes mode (templates_in set.now) turns
-        (reader_by R.left R.calls R.errors R.ends reader.old)
-        (reader_by R.left R.calls R.errors R.ends reader.new) (W.taken writer.old) (W.taken writer.new) result }
+        (told_by R.ByteInput reader.old) (told_by R.ByteInput reader.new) (W.taken writer.old) (W.taken writer.new) result }
     ensures write { W.errors writer.new ≡ errors_after result (W.errors writer.old) }
     ensures flush { FlushesOnce result (W.flushes writer.old) (W.flushes writer.new) }
     ensures sound { OnOk result (IsSound set.now) }

@@ -1,5 +1,5 @@
 -- What is too short to be read stays so until what it lacks has come.
-use Rattle.fast_walk.proofs.Common.{◌≡◌, ℕ, zero, suc, ◌<◌, ◌≤◌, Bool, true, false, List, [], ◌∷◌, ◌++◌, length, Option, Some, None, Ok, Err, refl, sym, ap, subst, ◌∙◌, arith, length-append, inl, inr, ◌-◌, append-nil, nat_le, IfSome, pos, Instruction, Resolved, Instructions, then_instruction, list_of, part_needs_bit, group_of, no_instructions, entry_at, bit_for, Content, Items, Stop, Dictionary, Cursor, Reads, field_part_at, node_at, piece_at, stopped, Truncated, Reading, at_mantissa, cursor, message_of, Received, Continues, ContinuesAt, IsOpen, stop_of, HaltedBy, Stage, Traversal, next_of, reads_on, Walk, HasNoStop, judge, overlong_unsigned, entity_at, unsigned_at, signed_at, unsigned_nullable_at, signed_nullable_at, ascii_at, ascii_nullable_at, vector_at, behind_length, vector_nullable_at, Level, Usual, Strict, WireFault, Value, entity_goes, unsigned_goes, unsigned_nullable_goes, bytes_wait, Kind, Operator, Presence, Mandatory, Optional, FieldPart, Entry, FieldFault, field_fault, part_at, units_at, integer_at, integer_spelled_at, decimal_spelled_at, units_spelled_at, spelled_at, integer_delta_at, decimal_delta_at, unit_delta_at, delta_at, tail_at, whole_at, row_at, field_at, Lack, AreUnstopped, EntityLacks, FieldLacks, IsFirst, IsLacking, IsNextPart, IsVectorKind, Lacks, StopsShort, VectorLacks, WalkLacks, Wants, WantsByte, WholeLacks, WholeWaits, IsCount, first_limit, sends, whole_limit, is_unsigned, Part}
+use Rattle.fast_walk.proofs.Common.{◌≡◌, ℕ, zero, suc, ◌<◌, ◌≤◌, Bool, true, false, List, [], ◌∷◌, ◌++◌, length, Option, Some, None, Ok, Err, refl, sym, ap, subst, ◌∙◌, arith, length-append, inl, inr, ◌-◌, append-nil, nat_le, IfSome, Instruction, Resolved, Instructions, then_instruction, list_of, part_needs_bit, group_of, no_instructions, entry_at, bit_for, Content, Items, Stop, Dictionary, Cursor, Reads, field_part_at, node_at, piece_at, stopped, Truncated, Reading, cursor, message_of, Received, Continues, ContinuesAt, IsOpen, stop_of, HaltedBy, Stage, Traversal, next_of, reads_on, Walk, HasNoStop, judge, overlong_unsigned, entity_at, unsigned_at, signed_at, unsigned_nullable_at, signed_nullable_at, ascii_at, ascii_nullable_at, vector_at, behind_length, vector_nullable_at, Level, Usual, Strict, WireFault, Value, entity_goes, unsigned_goes, unsigned_nullable_goes, bytes_wait, Kind, Operator, Presence, Mandatory, Optional, FieldPart, Entry, FieldFault, field_fault, part_at, units_at, integer_at, integer_spelled_at, decimal_spelled_at, units_spelled_at, spelled_at, integer_delta_at, decimal_delta_at, unit_delta_at, delta_at, tail_at, whole_at, row_at, field_at, Lack, AreUnstopped, EntityLacks, FieldLacks, IsFirst, IsLacking, IsNextPart, IsVectorKind, Lacks, StopsShort, VectorLacks, WalkLacks, Wants, WantsByte, WholeLacks, WholeWaits, IsCount, first_limit, sends, whole_limit, is_unsigned, Part}
 use Rattle.fast_walk.proofs.Heads.{content_fails}
 use Rattle.fast_walk.specs.declared.walk.Next.TheVariants as next
 use Rattle.fast_walk.proofs.Pieces.{number_in}
@@ -75,16 +75,12 @@ unfolding delta_at decimal_delta_at unit_delta_at integer_delta_at
 delta_begins level Kind.Ascii i e bytes h = rw (integer_waits level false i.presence bytes h) refl
 delta_begins level k i e bytes h = rw (integer_waits level false i.presence bytes h) refl
 
-tail_waits : (level : Level) (i : FieldPart) (e : Entry) (bytes : List ℕ) → units_at level i.kind i.presence bytes ≡ Err FieldFault.NeedMore → tail_at level i e bytes ≡ Err FieldFault.NeedMore
-unfolding tail_at
-tail_waits level i e bytes h = rw h refl
-
 row_waits : (level : Level) (o : Operator) (i : FieldPart) (e : Entry) (bit : Bool) (bytes : List ℕ) → sends o bit ≡ true → (o ≡ Operator.Delta → ⊥) → WholeWaits level i.kind i.presence bytes → row_at level o i e bit bytes ≡ Err FieldFault.NeedMore
-unfolding row_at whole_at
+unfolding row_at whole_at tail_at
 row_waits level Operator.Delta i e bit bytes s d w = absurd (d refl)
 row_waits level Operator.Constant i e bit bytes s d w = absurd cc
 row_waits level Operator.Plain i e bit bytes s d w = spelled_waits level i.part i.kind i.presence bytes w
-row_waits level Operator.Tail i e true bytes s d w = tail_waits level i e bytes w.units
+row_waits level Operator.Tail i e true bytes s d w = rw (w.units) refl
 row_waits level o i e true bytes s d w = spelled_waits level i.part i.kind i.presence bytes w
 row_waits level o i e false bytes s d w = absurd cc
 
@@ -92,10 +88,6 @@ row_begins : (level : Level) (o : Operator) (i : FieldPart) (e : Entry) (bit : B
 unfolding row_at
 row_begins level Operator.Delta i e bit bytes s h = delta_begins level i.kind i e bytes h
 row_begins level o i e bit bytes s h = row_waits level o i e bit bytes s (λ d. absurd cc) (whole_waits level i.kind i.presence bytes h)
-
-field_begins : (level : Level) (i : FieldPart) (e : Entry) (bit : Bool) (bytes : List ℕ) → sends i.operator bit ≡ true → entity_at (first_limit i.operator i.kind) bytes ≡ Err WireFault.NeedMore → field_at level i e bit bytes ≡ Err FieldFault.NeedMore
-unfolding field_at
-field_begins level i e bit bytes s h = rw (row_begins level i.operator i e bit bytes s h) refl
 
 -- an entity that has not ended
 pub entity_wants : {of limit : ℕ} {bytes : List ℕ} {l : Lack} → EntityLacks of limit bytes l → Wants (entity_at limit) WireFault.NeedMore bytes l
@@ -111,7 +103,8 @@ vector_whole h = record { lacks = λ more lacking. record { units = h.lacks more
 
 -- a field whose first entity has not ended
 pub entity_lacks : {level : Level} {i : FieldPart} {e : Entry} {bit : Bool} {bytes : List ℕ} {l : Lack} → sends i.operator bit ≡ true → EntityLacks i.number (first_limit i.operator i.kind) bytes l → FieldLacks level i e bit bytes l
-entity_lacks {level} {i} {e} {bit} s lacks = record { lacks = λ more lacking. field_begins level i e bit _ s (entity_wants lacks more lacking); number = lacks.number }
+unfolding field_at
+entity_lacks {level} {i} {e} {bit} s lacks = record { lacks = λ more lacking. rw (row_begins level i.operator i e bit _ s (entity_wants lacks more lacking)) refl; number = lacks.number }
 
 -- a field that is no delta
 pub whole_lacks : {level : Level} {i : FieldPart} {e : Entry} {bit : Bool} {bytes : List ℕ} {l : Lack} → sends i.operator bit ≡ true → (i.operator ≡ Operator.Delta → ⊥) → WholeLacks level i.kind i.presence i.number bytes l → FieldLacks level i e bit bytes l
@@ -136,20 +129,15 @@ first_lacks level w d part (then_instruction i others) bytes l some is rest firs
     let stops = piece_stops_on level o.around o.next o.body i others (cursor d w.bits w.spare xs) _ (is_instruction o.next (at.next ∙ ap next_of is)) (at.rest ∙ rest) piece in
     subst (λ (r : Reads Items). StopsShort l.number (length xs) r) (sym stops) (refl, (sym h.number, refl))
 
--- where the mantissa that is next waits, all that is left to be read does
-mantissa_lacks : (level : Level) (w : Walk) (d : Dictionary) (mantissa : FieldPart) (bytes : List ℕ) (l : Lack) → next_of w.next ≡ at_mantissa (pos 0) mantissa
-    → FieldLacks level mantissa (entry_at d mantissa.key) (bit_for (part_needs_bit mantissa) w.bits) bytes l → WalkLacks level w d bytes l
-mantissa_lacks level w d mantissa bytes l is h = λ o more lacking here.
-    let xs = bytes ++ more in
-    let next = is_mantissa o.next _ mantissa (here.next ∙ is) in
-    let stops = mantissa_on_stops level o.around o.next next.exponent mantissa o.body (cursor d w.bits w.spare xs) _ next.is (part_stops level mantissa d w.bits w.spare xs FieldFault.NeedMore (h.lacks more lacking)) in
-    subst (λ (r : Reads Items). StopsShort l.number (length xs) r) (sym stops) (refl, (sym h.number, refl))
-
 pub next_lacks : (level : Level) (w : Walk) (d : Dictionary) (part : FieldPart) (bytes : List ℕ) (o : Option Lack) → IsNextPart w part
     → IfSome o (FieldLacks level part (entry_at d part.key) (bit_for (part_needs_bit part) w.bits) bytes) → IfSome o (WalkLacks level w d bytes)
 next_lacks level w d part bytes None first h = tt
 next_lacks level w d part bytes (Some l) (inl first) h = first_lacks level w d part (list_of w.rest.now) bytes l first.0 first.1 refl first.2 h
-next_lacks level w d part bytes (Some l) (inr first) h = mantissa_lacks level w d part bytes l first h
+next_lacks level w d part bytes (Some l) (inr first) h = λ o more lacking here.
+    let xs = bytes ++ more in
+    let next = is_mantissa o.next _ part (here.next ∙ first) in
+    let stops = mantissa_on_stops level o.around o.next next.exponent part o.body (cursor d w.bits w.spare xs) _ next.is (part_stops level part d w.bits w.spare xs FieldFault.NeedMore (h.lacks more lacking)) in
+    subst (λ (r : Reads Items). StopsShort l.number (length xs) r) (sym stops) (refl, (sym h.number, refl))
 
 -- a part that is sent lacks the stop bit of its first entity
 pub part_opens : (level : Level) (w : Walk) (d : Dictionary) (part : FieldPart) (l : Lack) → IsNextPart w part → sends part.operator (bit_for (part_needs_bit part) w.bits) ≡ true

@@ -1,8 +1,8 @@
 -- What a receiver is told has one proof at most.
 use Rattle.fast_walk.specs.Prelude.{Bool-set, Kind, Part, Scalar, Decimal, FieldPart, Entry, Assigned, Dictionary, entry_at, Reads, Items}
-use Rattle.std.specs.Prelude.{◌<◌, ℕ, Bool, true, List, [], ◌∷◌, Option, Some, None, IsSome, IsTrue, Ok, Err}
-use Rattle.std.specs.Coded.{×_prop, Π_prop, Unit-prop, le_prop}
-use Rattle.std.specs.List.{AllByRecursion}
+use Rattle.std.specs.Prelude.{ℕ, Bool, true, Option, Some, None, IsSome, IsTrue, Ok, Err}
+use Rattle.std.specs.Coded.{Π_prop, Unit-prop, le_prop}
+use Rattle.std.specs.List.{AllByRecursion-prop}
 use Rattle.std.proofs.Props.{props}
 use Rattle.fast_walk.specs.Lacks.{StopsShort}
 use Rattle.fast_walk.specs.Told.{IsKeptScalar, KeepsScalar, KeepScalars, KeepsInitial, IsTold}
@@ -10,13 +10,9 @@ use Rattle.fast_walk.specs.Told.{IsKeptScalar, KeepsScalar, KeepScalars, KeepsIn
 pub true-prop : (b : Bool) → IsProp (IsTrue b)
 true-prop b = Bool-set b true
 
-below-prop : (limit : ℕ) (s : List ℕ) → IsProp (AllByRecursion (λ c. c < limit) s)
-below-prop limit [] = Unit-prop
-below-prop limit (c ∷ s) = ×_prop le_prop (below-prop limit s)
-
 scalar-prop : (v : Scalar) → IsProp (IsKeptScalar v)
 scalar-prop (Decimal exponent mantissa) = hlevel props
-scalar-prop v = hlevel (props, le_prop, below-prop)
+scalar-prop v = hlevel (props, le_prop, AllByRecursion-prop)
 
 entry-prop : (e : Entry) → IsProp (KeepsScalar e)
 entry-prop (Assigned v) = scalar-prop v

@@ -64,6 +64,3 @@ fronts-preserved g c =
         },
       );
     }
-
-pub returns-clause-hands : goal.returns-clause-hands
-returns-clause-hands g c = let f = c.fronts.invariant.fronts in (f.0.front, f.1)

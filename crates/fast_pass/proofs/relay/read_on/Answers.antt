@@ -1,10 +1,6 @@
-use Rattle.fast_pass.proofs.Common.{◌<◌, ◌∷◌, [], take, sym, subst, arith, length-take, MatchResult-weaker, Reached, Reader, reader_by, caused_by_end, caused_by_feed, caused_by_read, empty_read, failed_read, one_read, refused_by_bytes, refused_by_read, handed_on, Relays}
+use Rattle.fast_pass.proofs.Common.{◌<◌, ◌∷◌, [], take, sym, subst, arith, length-take, MatchResult-weaker, Reached, told_by, caused_by_end, caused_by_feed, caused_by_read, empty_read, failed_read, one_read, refused_by_bytes, refused_by_read, handed_on, Relays}
 use Rattle.fast_pass.proofs.Relayings.{stays, stops}
-use Rattle.fast_pass.proofs.relay.read_on.Given as given
 use Rattle.fast_pass.proofs.relay.read_on.Goals as goal
-
-abbrev read_by : (g : given.Over) → g.row.R.Denot → Reader
-read_by g r = reader_by g.R.ByteInput.left g.R.ByteInput.calls g.R.ByteInput.errors g.R.ByteInput.ends r
 
 pub returns-in-Ok-finish-clause-read : goal.returns-in-Ok-finish-clause-read
 returns-in-Ok-finish-clause-read g c =
@@ -32,7 +28,7 @@ returns-in-Err-finish-clause-read g c =
           let after = t.1 (handed_on way.handed ∷ way.messages) way.input way.messages (omega (arith, few)) r.holds.follows in
           let at = (rw (c.in-Err-finish.ensures.answer) at after.at).0 in
           let refuses = refused_by_bytes c.in-Err-finish.fault _ _ turns (g.R.ByteInput.left c.pull.new.self) _ _ (λ e. p.bytes.2 zero (omega arith)) at in
-          stays _ (stops g.met.O.Output.made c.finish.new.self turns _ way c.in-Err-finish.fault refuses after) ((λ h. absurd cc), caused_by_end c.in-Err-finish.fault (read_by g c.args.reader.now) (read_by g c.pull.new.self) t.0 (p.end.0 zero (omega arith))),
+          stays _ (stops g.met.O.Output.made c.finish.new.self turns _ way c.in-Err-finish.fault refuses after) ((λ h. absurd cc), caused_by_end c.in-Err-finish.fault (told_by g.R.ByteInput c.args.reader.now) (told_by g.R.ByteInput c.pull.new.self) t.0 (p.end.0 zero (omega arith))),
     )
 
 pub returns-in-Ok-clause-read : goal.returns-in-Ok-clause-read
@@ -46,7 +42,7 @@ returns-in-Ok-clause-read g c =
       one_read _ _ _ _ p.call p.bytes.1 (omega arith),
       MatchResult-weaker c.take_in.result (c.take_in.ensures.takes (R.left c.args.reader.now) (R.left c.pull.new.self)) (λ x goes turns way r.
           let s = goes turns way r in
-          record { more = s.more; ended = s.ended; relays = s.relays; written = s.written; size_is = s.size_is; because = ((λ h. omega (arith, some, taken, few)), caused_by_feed x.0 (read_by g c.args.reader.now) (read_by g c.pull.new.self) s.because.0 s.because.1 p.error (p.end.1 some)) }) (λ e breaks. breaks),
+          record { more = s.more; ended = s.ended; relays = s.relays; written = s.written; size_is = s.size_is; because = ((λ h. omega (arith, some, taken, few)), caused_by_feed x.0 (told_by g.R.ByteInput c.args.reader.now) (told_by g.R.ByteInput c.pull.new.self) s.because.0 s.because.1 p.error (p.end.1 some)) }) (λ e breaks. breaks),
     )
 
 pub returns-in-Err-clause-read : goal.returns-in-Err-clause-read
@@ -60,5 +56,5 @@ returns-in-Err-clause-read g c =
           let go = r.holds in
           stays _ (stops g.met.O.Output.made c.cut.new.self turns _ way c.cut.result
           (rw (cut.same.set, cut.same.mode) (refused_by_read c.cut.result _ _ _ _ _ _ cut.cause (cut.place go.unrefused before way.input way.messages go.follows)))
-          (cut.follows go.unrefused before way.input way.messages go.follows)) ((λ h. absurd cc), caused_by_read c.cut.result (read_by g c.args.reader.now) (read_by g c.pull.new.self) cut.cause p.error),
+          (cut.follows go.unrefused before way.input way.messages go.follows)) ((λ h. absurd cc), caused_by_read c.cut.result (told_by g.R.ByteInput c.args.reader.now) (told_by g.R.ByteInput c.pull.new.self) cut.cause p.error),
     )

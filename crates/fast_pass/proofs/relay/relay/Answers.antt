@@ -1,11 +1,8 @@
-use Rattle.fast_pass.proofs.Common.{◌≡◌, ◌≤◌, ◌+◌, ◌++◌, ◌∷◌, [], length, length-append, arith, append-nil, refl, ◌∙◌, err_from_is_err_and, Reached, IsCaused, Reader, reader_by, causes_on, causes_weaker, more_read, refused_by_turns, handed_on, IsSameStream, same_on, Step, outset}
+use Rattle.fast_pass.proofs.Common.{◌≡◌, ◌≤◌, ◌+◌, ◌++◌, ◌∷◌, [], length, length-append, arith, append-nil, refl, ◌∙◌, err_from_is_err_and, Reached, IsCaused, told_by, causes_on, causes_weaker, more_read, refused_by_turns, handed_on, IsSameStream, same_on, Step, outset}
 use Rattle.fast_pass.proofs.Relayings.{behind, breaks, breaks_on, broke_off, front_of, goes_farther, hands_on}
 use Rattle.fast_pass.proofs.relay.relay.Given as given
 use Rattle.fast_pass.proofs.relay.relay.Goals as goal
 use Rattle.fast_pass.proofs.relay.relay.Goals.{After-saturating_add-written-in-reads}
-
-abbrev read_by : (g : given.Over) → g.row.R.Denot → Reader
-read_by g r = reader_by g.R.ByteInput.left g.R.ByteInput.calls g.R.ByteInput.errors g.R.ByteInput.ends r
 
 -- one read more, and what is made of it handed on
 stepped : (g : given.Over) (c : After-saturating_add-written-in-reads g) {Because : Type 0} → Because
@@ -15,10 +12,10 @@ stepped g c because =
     let s = c.reads.invariant.relays.2 in
     hands_on (goes_farther s (c.in_ok-came.ensures.read.2 c.args.turns (behind s) s.relays) c.saturating_add-written.ensures because) c.in_ok-hand_on.ensures.hands.1 c.saturating_add-written-in-reads.ensures
 
-caused : (g : given.Over) (c : After-saturating_add-written-in-reads g) → IsCaused c.in_ok-came.came ⊥ (read_by g c.args.reader.now) (read_by g c.read_on.new.reader)
+caused : (g : given.Over) (c : After-saturating_add-written-in-reads g) → IsCaused c.in_ok-came.came ⊥ (told_by g.R.ByteInput c.args.reader.now) (told_by g.R.ByteInput c.read_on.new.reader)
 caused g c =
     let s = c.reads.invariant.relays.2 in
-    causes_on Reached.Open Reached.Open c.in_ok-came.came (read_by g c.args.reader.now) (read_by g c.reads.reader) (read_by g c.read_on.new.reader) refl s.because.1 (c.in_ok-came.ensures.read.2 c.args.turns (behind s) s.relays).because.1
+    causes_on Reached.Open Reached.Open c.in_ok-came.came (told_by g.R.ByteInput c.args.reader.now) (told_by g.R.ByteInput c.reads.reader) (told_by g.R.ByteInput c.read_on.new.reader) refl s.because.1 (c.in_ok-came.ensures.read.2 c.args.turns (behind s) s.relays).because.1
 
 same : (g : given.Over) (c : After-saturating_add-written-in-reads g) → IsSameStream c.args.machine.now c.hand_on.new.machine
 same g c = same_on c.reads.invariant.same (same_on c.in_ok-came.ensures.same c.in_ok-hand_on.ensures.still.same)
@@ -32,7 +29,7 @@ reads-preserved g c =
     let i = v.relays in
     let size = length-append i.0 r.read.0 in
     let some = (r.read.2 c.args.turns (behind i.2) i.2.relays).because.0 c.in-Open.is in
-    let because : (c.reads.reads + 1 ≤ length (i.0 ++ r.read.0)) × IsCaused Reached.Open ⊥ (read_by g c.args.reader.now) (read_by g c.read_on.new.reader) = (omega (arith, some, size), rw (c.in-Open.is) at (caused g at)) in
+    let because : (c.reads.reads + 1 ≤ length (i.0 ++ r.read.0)) × IsCaused Reached.Open ⊥ (told_by g.R.ByteInput c.args.reader.now) (told_by g.R.ByteInput c.read_on.new.reader) = (omega (arith, some, size), rw (c.in-Open.is) at (caused g at)) in
     record {
       few = omega arith;
       empty = h.empty;
@@ -97,7 +94,7 @@ returns-in-Fault-clause-answer g c =
       more_read _ _ _ c.reads.reads i.0 r.read.0 i.1 r.read.1,
       omega arith,
       rw (← all.mode, ← all.set) (record { messages = s.ended; out = s.more; refuses = s.relays.holds; made = rw (c.in_ok-hand_on.ensures.empty, append-nil s.more) at s.relays.made; written = s.written }),
-      causes_weaker Reached.Open (Reached.Fault c.in-Fault.fault) (c.reads.reads + 1 ≡ c.args.turns) (read_by g c.args.reader.now) (read_by g c.read_on.new.reader) s.because,
+      causes_weaker Reached.Open (Reached.Fault c.in-Fault.fault) (c.reads.reads + 1 ≡ c.args.turns) (told_by g.R.ByteInput c.args.reader.now) (told_by g.R.ByteInput c.read_on.new.reader) s.because,
     )
 
 pub returns-clause-answer : goal.returns-clause-answer

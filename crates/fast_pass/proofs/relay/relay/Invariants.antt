@@ -1,4 +1,4 @@
-use Rattle.fast_pass.proofs.Common.{◌≡◌, ◌≤◌, ◌-◌, ℕ, List, [], length, IsCaused, Reads, reader_by, Reached, IsSameStream, Step, outset}
+use Rattle.fast_pass.proofs.Common.{◌≡◌, ◌≤◌, ◌-◌, ℕ, List, [], length, IsCaused, Reads, told_by, Reached, IsSameStream, Step, outset}
 use Rattle.fast_pass.proofs.relay.relay.Given as goal
 
 abbrev pub invariant-reads : goal.invariant-reads
@@ -6,8 +6,8 @@ invariant-reads g l =
     let R = g.R.ByteInput in
     let W = g.W.ByteOutput in
     let O = g.O.Output in
-    let a = reader_by R.left R.calls R.errors R.ends l.fn.reader in
-    let b = reader_by R.left R.calls R.errors R.ends l.reader in
+    let a = told_by R l.fn.reader in
+    let b = told_by R l.reader in
     record {
       few : l.reads ≤ l.turns;
       empty : O.waiting l.machine.receiver ≡ [];

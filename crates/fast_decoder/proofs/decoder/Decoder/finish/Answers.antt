@@ -1,9 +1,5 @@
-use Rattle.fast_decoder.proofs.Common.{[], ap, IfErr-weaker, on_ok_weaker}
+use Rattle.fast_decoder.proofs.Common.{[], ap, on_ok_weaker}
 use Rattle.fast_decoder.proofs.decoder.Decoder.finish.Goals as goal
-
-pub returns-clause-truncated : goal.returns-clause-truncated
-returns-clause-truncated g c = λ none.
-    IfErr-weaker c.finish.result _ _ (λ f t. (t.0, λ fed messages few follows. t.1 [] fed messages few follows)) (c.finish.ensures.truncated none)
 
 pub returns-clause-ok : goal.returns-clause-ok
 returns-clause-ok g c =

@@ -1,6 +1,6 @@
-use Rattle.fast_decoder.proofs.Common.{◌≡◌, ◌++◌, ◌+◌, length, refl, sym, ap, ◌∙◌, rules, append-nil, nil_from_length, Reached}
+use Rattle.fast_decoder.proofs.Common.{◌≡◌, ◌++◌, ◌+◌, length, refl, sym, ap, ◌∙◌, rules, append-nil, nil_from_length}
 use Rattle.fast_decoder.proofs.Calls.{reads_none, reads_on, same_as, same_on}
-use Rattle.fast_decoder.proofs.Inputs.{causes_end, causes_weaker, repeats_kept, stands_popped}
+use Rattle.fast_decoder.proofs.Inputs.{causes_end, causes_weaker, stands_popped}
 use Rattle.fast_decoder.proofs.input.MessageInputStream.read_message.Goals as goal
 
 pub reads-init : goal.reads-init
@@ -62,11 +62,3 @@ returns-in-None-clause-closed g c = λ shut none.
       ap (λ x. x.decoder) stays ∙ ap (λ x. x.decoder) same,
       ap (λ x. x.reader) stays ∙ ap (λ x. x.reader) same,
     )
-
-pub returns-in-None-clause-again : goal.returns-in-None-clause-again
-returns-in-None-clause-again g c = λ none.
-    repeats_kept _ c.reads.self.reached _ (λ shut. ap (λ x. x.reached) (c.reads.invariant.closed shut)) c.outcome.ensures.again
-
-pub returns-in-Some-clause-again : goal.returns-in-Some-clause-again
-returns-in-Some-clause-again g c = λ none.
-    repeats_kept c.args.self.now.reached Reached.Open _ (λ shut. let same = ap (λ x. x.waiting.items) (c.reads.invariant.closed shut) ∙ none in let some = c.in-Some.ensures.items in absurd (search rules)) tt

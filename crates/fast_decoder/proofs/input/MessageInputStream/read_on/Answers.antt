@@ -1,10 +1,6 @@
-use Rattle.fast_decoder.proofs.Common.{Reached, ℕ, ◌<◌, ◌++◌, [], take, refl, arith, append-nil, length-append, length-take, reader_of, Reader, reader_by, waiting_in}
+use Rattle.fast_decoder.proofs.Common.{Reached, ℕ, ◌<◌, ◌++◌, [], take, refl, arith, append-nil, length-append, length-take, reader_of, told_by, waiting_in}
 use Rattle.fast_decoder.proofs.Inputs.{caused_by_end, caused_by_feed, caused_by_read, empty_read, failed_read, of_bytes, one_read, pushed_waits, refused_by_bytes, refused_by_read}
-use Rattle.fast_decoder.proofs.input.MessageInputStream.read_on.Given as given
 use Rattle.fast_decoder.proofs.input.MessageInputStream.read_on.Goals as goal
-
-abbrev read_by : (g : given.Over) → g.row.R.Denot → Reader
-read_by g r = reader_by g.R.ByteInput.left g.R.ByteInput.calls g.R.ByteInput.errors g.R.ByteInput.ends r
 
 pub returns-in-Ok-finish-clause-reads : goal.returns-in-Ok-finish-clause-reads
 returns-in-Ok-finish-clause-reads g c =
@@ -34,7 +30,7 @@ returns-in-Err-finish-clause-reads g c =
           let t = c.in-Err-finish.ensures.truncated at.0.goes_on in
           let after = t.1 bytes (answered ++ waiting_in old.waiting.items) (omega (arith, old.fits, old.limited, old.bounded)) at.0.follows in
           let refused = (rw (c.in-Err-finish.ensures.answer) at after.at).0 in
-          rw (append-nil bytes, c.requires.reached) (refused_by_bytes c.in-Err-finish.fault _ _ old.turns _ bytes _ (λ e. p.bytes.2 zero (omega arith)) refused, caused_by_end c.in-Err-finish.fault (reader_of old) (read_by g c.pull.new.self) t.0 (p.end.0 zero (omega arith)));
+          rw (append-nil bytes, c.requires.reached) (refused_by_bytes c.in-Err-finish.fault _ _ old.turns _ bytes _ (λ e. p.bytes.2 zero (omega arith)) refused, caused_by_end c.in-Err-finish.fault (reader_of old) (told_by g.R.ByteInput c.pull.new.self) t.0 (p.end.0 zero (omega arith)));
     }
 
 pub returns-in-Ok-fed-clause-reads : goal.returns-in-Ok-fed-clause-reads
@@ -70,7 +66,7 @@ returns-in-Err-fed-clause-reads g c =
           let refused = (rw (c.in-Err-fed.ensures.answer) at e.2.at).0 in
           rw (c.requires.reached, same) (
             refused_by_bytes f _ _ c.args.self.now.turns _ _ _ (λ is. absurd (more is)) refused,
-            caused_by_feed (Reached.Fault f) (reader_of c.args.self.now) (read_by g c.pull.new.self) (λ e. absurd cc) (of_bytes f _ _ _ refused.2 more) p.error (p.end.1 some),
+            caused_by_feed (Reached.Fault f) (reader_of c.args.self.now) (told_by g.R.ByteInput c.pull.new.self) (λ e. absurd cc) (of_bytes f _ _ _ refused.2 more) p.error (p.end.1 some),
           );
     }
 
@@ -86,5 +82,5 @@ returns-in-Err-clause-reads g c =
           let at = rw (c.requires.reached) at stands in
           let e = c.cut.ensures in
           let cut = e.place at.0.goes_on [] bytes (answered ++ waiting_in old.waiting.items) at.0.follows in
-          rw (append-nil bytes, c.requires.reached, e.same.set, e.same.mode) (refused_by_read c.cut.result _ _ _ _ _ _ e.cause cut, caused_by_read c.cut.result (reader_of old) (read_by g c.pull.new.self) e.cause p.error);
+          rw (append-nil bytes, c.requires.reached, e.same.set, e.same.mode) (refused_by_read c.cut.result _ _ _ _ _ _ e.cause cut, caused_by_read c.cut.result (reader_of old) (told_by g.R.ByteInput c.pull.new.self) e.cause p.error);
     }
