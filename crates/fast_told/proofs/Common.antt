@@ -45,3 +45,5 @@ pub use Rattle.fast_gaps.specs.Gaps.{filled, no_texts}
 pub use Rattle.fast_gaps.specs.declared.gap.Gap.{Gap}
 pub use Rattle.fast_told.specs.Taking.{CanTake, TakesFields, TellsFields, TellsNext}
 pub use Rattle.fast_told.specs.Told.{HasTold, IsBehind, Line, Opening, Said, Says, Tells, TellsElements, Waits, Within, behind_brace, behind_text, line_as, line_now, line_of_set, lines_of_set, name_if, whole_text, written_of}
+pub use Rattle.std.specs.Borrow.{Bor}
+pub use Rattle.fast_template.specs.declared.resolved.Flat.{Flat}
