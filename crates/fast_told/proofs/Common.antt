@@ -1,5 +1,5 @@
 -- What the proofs of this crate cite from elsewhere, passed on from one place. Declares nothing.
-pub use Rattle.std.proofs.Common.{Bool, Fits, List, None, Ok, Option, Some, [], ap, append-nil, append_assoc, ap₂, arith, codes, drop, false, find, get_or, if◌then◌else◌, length, map, option_map, refl, subst, sym, take, true, w8, ℕ, ℤ, ◌*◌, ◌++◌, ◌+◌, ◌-◌, ◌<◌, ◌∙◌, ◌∷◌, ◌≡◌, ◌≤◌}
+pub use Rattle.std.proofs.Common.{Bool, Fits, List, None, Ok, Option, Some, [], ap, append-nil, append_assoc, ap₂, arith, codes, drop, false, find, get_or, if◌then◌else◌, length, map, option_map, refl, subst, sym, take, true, unwrap_or, w8, ℕ, ℤ, ◌*◌, ◌++◌, ◌+◌, ◌-◌, ◌<◌, ◌∙◌, ◌∷◌, ◌≡◌, ◌≤◌}
 pub use Rattle.std.proofs.lemmas.Result.{err_from_is_err_and}
 pub use Rattle.std.specs.List.{flat_map}
 pub use Rattle.std.specs.Result.{is_ok}
