@@ -20,7 +20,8 @@ tells_on bytes l k m f g h one two out own z o next first here =
     passes_on p (two out own z p.received p.next_is p.left_is p.has)
 
 -- a field
-pub tells_one : {form : Form} {level : Level} {d e : Dictionary} {bits later : List Bool} {name : List ℕ} {number : ℕ} {presence : Presence} {p : FieldPart} {v : Option Scalar} (bytes : List ℕ) (l k : LineNow) (f : Fields) (others : Bor (List Flat)) (next : ℕ)
+pub tells_one : {form : Form} {level : Level} {d e : Dictionary} {bits later : List Bool} {name : List ℕ} {number : ℕ} {presence : Presence} {p : FieldPart} {v : Option Scalar}
+    (bytes : List ℕ) (l k : LineNow) (f : Fields) (others : Bor (List Flat)) (next : ℕ)
     → 0 < f.spare → list_of f.rest.now ≡ then_instruction (whole_field name number presence p) (list_of others.now)
     → Took level p (bit_for (part_needs_bit p) bits) d e v (drop f.place bytes) (drop next bytes) → later ≡ after_bit (part_needs_bit p) bits
     → Said form name (field_text form p.kind presence (single v)) (line_now form l) (line_now form k)
