@@ -1,6 +1,6 @@
 //! Messages of any template set as lines, and what a check says.
 
-ghost use Rattle.std.specs.Prelude.{◌≡◌, ◌++◌, ◌≤◌, [], Some, None, IfSome, OnOk, codes, map};
+ghost use Rattle.std.specs.Prelude.{◌≡◌, ◌++◌, ◌≤◌, [], Some, None, IfSome, map};
 ghost use Rattle.fast_lines.specs.Pieces.{laid};
 ghost use Rattle.std.specs.Option.{option_copied};
 ghost use Rattle.fast_template.specs.Resolved.{instruction_of, list_of, resolved_of};

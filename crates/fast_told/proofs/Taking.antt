@@ -1,5 +1,5 @@
 -- Fields that are taken one after the other.
-use Rattle.fast_told.proofs.Common.{◌≡◌, ◌<◌, ◌-◌, ℕ, Bor, Flat, Bool, List, Option, drop, refl, sym, ◌∙◌, arith, Presence, Scalar, FieldPart, Instructions, whole_field, then_instruction, list_of, part_needs_bit, Dictionary, Level, bit_for, after_bit, single, Fields, Received, Took, passes_field, passes_on, passes_one, is_instruction, Form, field_text, TakesFields, TellsFields, HasTold, Said, line_now}
+use Rattle.fast_told.proofs.Common.{◌≡◌, ◌<◌, ◌-◌, ℕ, Bor, Flat, Bool, List, Option, drop, refl, ◌∙◌, Presence, Scalar, FieldPart, whole_field, then_instruction, list_of, part_needs_bit, Dictionary, Level, bit_for, after_bit, single, Fields, Received, Took, passes_field, passes_on, passes_one, is_instruction, Form, field_text, TakesFields, TellsFields, HasTold, Said, line_now}
 use Rattle.fast_told.specs.declared.line.Line.{Line as LineNow}
 use Rattle.fast_told.proofs.Writing.{has_said}
 

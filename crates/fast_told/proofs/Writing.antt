@@ -1,6 +1,6 @@
 -- What has been received of a message is told, call by call.
-use Rattle.fast_told.proofs.Common.{◌≡◌, ℕ, Bool, true, false, List, [], ◌∷◌, ◌++◌, Option, Some, None, option_map, refl, sym, ap, ap₂, subst, ◌∙◌, append_assoc, append-nil, ℤ, codes, find, I32, Decimal, Presence, Optional, FieldPart, Instructions, Resolved, TemplateList, field_in_parts, group_of, sequence_of, no_instructions, then_instruction, is_optional, Instruction, has_id, single, Items, items_of, Content, Item, elements_of, no_elements, sequence_elements, then_item, members_of, fewer, Sequel, Inside, in_group, in_sequence, Waiting, Next, at_instruction, at_mantissa, at_element, Body, items_before, with_item, Received, passed, entered, after_exponent, after_length, in_element, after_sequence, ended_in, content_received, bytes_in, moved, Form, ending, head_text, is_led, label_text, lead, between, absent_text, decimal_text, joined, members_text, elements_text, label, node_text, elements_before-end, items_before-more}
-use Rattle.fast_told.specs.Told.{HasLines, HasTold, Waits, IsTold, line_as, line_of_set, lines_of_set, Line, Opening, Tells, IsTop, IsBehind, Within, IsOpened, head_in, message_opening, name_if, Puts, Said, behind_text, whole_text}
+use Rattle.fast_told.proofs.Common.{◌≡◌, ℕ, Bool, true, false, List, [], ◌∷◌, ◌++◌, Option, Some, None, option_map, refl, sym, ap, ap₂, subst, ◌∙◌, append_assoc, append-nil, ℤ, codes, find, I32, Decimal, Presence, Optional, FieldPart, Instructions, Resolved, TemplateList, field_in_parts, group_of, sequence_of, no_instructions, then_instruction, is_optional, Instruction, has_id, single, Items, items_of, Content, Item, elements_of, no_elements, sequence_elements, then_item, members_of, fewer, Sequel, Inside, in_group, in_sequence, Waiting, Next, at_instruction, at_mantissa, at_element, Body, items_before, Received, passed, entered, after_exponent, after_length, in_element, after_sequence, ended_in, content_received, bytes_in, moved, Form, ending, head_text, is_led, label_text, lead, between, absent_text, decimal_text, joined, members_text, elements_text, label, node_text, elements_before-end, items_before-more}
+use Rattle.fast_told.specs.Told.{HasLines, HasTold, Waits, IsTold, line_as, line_of_set, lines_of_set, Line, Opening, Tells, IsTop, IsBehind, Within, message_opening, name_if, Puts, Said, behind_text, whole_text}
 use Rattle.fast_told.proofs.Telling.{body_is, bracket_behind, item_told, joined_behind, within_on, within_push, Inner, begun, element_waits, ended, group_waits, new_segment, segment_left}
 
 abbrev message_of : Form → Received → Opening

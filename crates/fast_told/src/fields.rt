@@ -1,6 +1,6 @@
 //! Fields that are told one after the other, with no step of the walk between them.
 
-ghost use Rattle.std.specs.Prelude.{◌≡◌, ◌≤◌, ◌<◌, ◌+◌, ℕ, true, false, None, IsSome, IfOk, OnOk, length, drop};
+ghost use Rattle.std.specs.Prelude.{◌≡◌, ◌≤◌, ◌<◌, ℕ, true, false, None, IsSome, IfOk, OnOk, length, drop};
 ghost use Rattle.fast_template.specs.Resolved.{list_of, then_instruction, whole_field};
 ghost use Rattle.fast_walk.specs.Passing.{next_behind};
 ghost use Rattle.fast_walk.specs.Told.{KeepScalars};

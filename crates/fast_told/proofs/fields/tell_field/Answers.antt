@@ -1,4 +1,4 @@
-use Rattle.fast_told.proofs.Common.{ap, arith, list_of, Part, asked_for, told_keeps}
+use Rattle.fast_told.proofs.Common.{arith, Part, asked_for, told_keeps}
 use Rattle.fast_told.proofs.Taking.{tells_none, tells_one}
 use Rattle.fast_told.proofs.fields.tell_field.Goals as goal
 
