@@ -29,6 +29,7 @@ impl Texts {
     }
 
     /// The text of a slot.
+    #[tactic(auto, using(crate::proofs::SlotTexts::text_at_read, crate::proofs::SlotTexts::text_at_past))]
     pub fn get(&self, slot: u32) -> &[u8]
         ensures { result.now ≡ texts_in self.now slot }
     {
@@ -39,6 +40,7 @@ impl Texts {
     }
 
     /// Sees that there is room for the text of a slot.
+    #[tactic(auto, using(crate::proofs::SlotTexts::text_at_push))]
     pub fn make_room(&mut self, alloc: Global, slot: u32) -> Result<(), AllocError>
         ensures same { (other : ℕ) → texts_in self.new other ≡ texts_in self.old other }
         ensures room { OnOk result (slot < length self.new.by_slot.items) }
@@ -50,6 +52,7 @@ impl Texts {
     }
 
     /// Puts the text of a slot, for which there is room.
+    #[tactic(auto, using(crate::proofs::SlotTexts::text_at_set))]
     pub fn put(&mut self, slot: u32, text: Vec<u8>)
         requires { slot < length self.now.by_slot.items }
         ensures { (other : ℕ) → texts_in self.new other ≡ with_text slot text.items (texts_in self.old) other }

@@ -1,5 +1,5 @@
 -- From the masks of bytes that are looked at in one step to the bytes that stand as they are.
-use Rattle.fast_lines.proofs.Common.{◌≡◌, ℕ, ◌+◌, ◌%◌, ◌^◌, ◌<◌, ◌≤◌, suc, [], ◌∷◌, cases_lt, eqb, cond, Bool, true, false, List, map, length, get_or, replicate, refl, sym, ap, ◌∙◌, arith, slice_index, inl, inr, ◌⊎◌, nat_tests, zip2_splat, zip2_splat_left, bitmask_splat, length-chunk, none_from_empty_mask, list_all, is_plain, ltb, chunk, zip2, mask_l, top, w8}
+use Rattle.fast_lines.proofs.Common.{◌≡◌, ℕ, ◌+◌, ◌%◌, ◌^◌, ◌<◌, ◌≤◌, suc, [], ◌∷◌, cases_lt, eqb, cond, Bool, true, false, List, map, length, get_or, replicate, refl, sym, ap, ◌∙◌, arith, slice_index, inl, inr, nat_tests, zip2_splat, zip2_splat_left, bitmask_splat, length-chunk, none_from_empty_mask, list_all, is_plain, ltb, chunk, zip2, mask_l, top, w8}
 
 abbrev mark : (ℕ → ℕ → Bool) → ℕ → ℕ → ℕ
 mark t a b = cond (t a b) 255 0

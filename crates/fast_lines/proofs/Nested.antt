@@ -1,7 +1,7 @@
 -- Texts of lists of nodes, from their front on.
-use Rattle.fast_lines.proofs.Common.{◌≡◌, ◌≢◌, ◌<◌, ◌≤◌, ◌+◌, ℕ, suc, List, [], ◌∷◌, ◌++◌, Option, Some, None, length, drop, get_or, map, option_map, Result, Ok, Err, refl, sym, subst, ap, ◌∙◌, codes, append-nil, drop_all, drop_more, Vec, Global, mapped, this, Flat, fold-roll-Flat, Flat-F, rolls-Sequence, FieldPart, Presence, Instruction, flat_step, instruction_of, list_of, Node, fold_out-Node, Sequence, outs-Sequence, Item, Items, sequence_elements, item_of, items_of, items_in, elements_of, node_step, Form, between, braced, bracketed, elements_text, joined, member_text, members_text, node_text, sequence_text, Adds, Shows, ShowFault}
+use Rattle.fast_lines.proofs.Common.{◌≡◌, ◌≢◌, ◌<◌, ◌+◌, ℕ, suc, List, [], ◌∷◌, ◌++◌, Option, Some, None, length, drop, get_or, map, Result, Ok, Err, refl, sym, ap, ◌∙◌, codes, append-nil, drop_more, Vec, Global, mapped, this, Flat, fold-roll-Flat, Flat-F, rolls-Sequence, FieldPart, Presence, Instruction, flat_step, instruction_of, list_of, Node, fold_out-Node, Sequence, outs-Sequence, Item, Items, sequence_elements, item_of, items_of, items_in, elements_of, node_step, Form, between, bracketed, elements_text, joined, member_text, members_text, node_text, sequence_text, Adds, Shows, ShowFault}
 use Rattle.fast_template.specs.declared.resolved.Flat.TheVariants as flat
-use Rattle.fast_lines.proofs.Written.{extends_by, joined_none, shows_behind, shows_err, shows_no_first, shows_then}
+use Rattle.fast_lines.proofs.Written.{extends_by, joined_none, shows_err, shows_no_first, shows_then}
 
 -- one list is longer than the other
 pub lengths_differ : (form : Form) (before : List ℕ) (flats : List Flat) (nodes : List Node) → length nodes ≢ length flats → members_text form before (list_of flats) (items_in nodes) ≡ None

@@ -1,5 +1,5 @@
 -- What calls one after the other have put behind an output.
-use Rattle.fast_lines.proofs.Common.{◌≡◌, ◌<◌, ◌≤◌, ◌+◌, ◌-◌, drop, arith, ◌/◌, ◌%◌, ℕ, List, [], ◌∷◌, ◌++◌, Option, Some, None, Ok, Err, Result, length, take, get_or, option_map, true≢false, true, refl, sym, ap, ap₂, ◌∙◌, slice_index, IsErr, take-append-add, take-length, AllocError, flat_map, list_all, flat_map-cons, and_parts, nat_tests, flat_map-append, encode_with, encode_lower, lower_digits, ShowFault, Mismatch, Memory, Form, Text, Json, joined, is_plain, unit_text, Extends, Writes, Adds, Shows}
+use Rattle.fast_lines.proofs.Common.{◌≡◌, ◌<◌, ◌≤◌, ◌+◌, ◌-◌, drop, arith, ◌/◌, ◌%◌, ℕ, List, [], ◌∷◌, ◌++◌, Option, Some, None, Ok, Err, Result, length, take, get_or, option_map, true, refl, sym, ap, ap₂, ◌∙◌, slice_index, take-append-add, take-length, AllocError, flat_map, list_all, flat_map-cons, and_parts, nat_tests, flat_map-append, encode_with, encode_lower, lower_digits, ShowFault, Mismatch, Memory, Form, Text, Json, joined, is_plain, unit_text, Extends, Writes, Adds, Shows}
 use Rattle.std.proofs.lemmas.List.{append-nil, append_assoc, drop_more, take_more, take-append-drop, length-drop, length-take-le}
 
 -- ---- more behind an output

@@ -1,7 +1,5 @@
 //! The forms of a line.
 
-ghost use Rattle.std.specs.Prelude.{◌≡◌, ◌++◌, ◌∷◌, [], codes};
-ghost use Rattle.hex.specs.Hex.{encode_lower};
 ghost use Rattle.fast_lines.specs.declared.form.Form.TheVariants.{Text, Json};
 
 use crate::bytes::{push, push_byte, push_hex, push_unsigned};

@@ -1,12 +1,12 @@
 //! Messages of any template set as lines, and what a check says.
 
-ghost use Rattle.std.specs.Prelude.{◌≡◌, ◌++◌, ◌≤◌, [], Some, None, IfSome, OnOk, codes, map};
+ghost use Rattle.std.specs.Prelude.{◌≡◌, ◌++◌, ◌≤◌, [], Some, None, IfSome, map};
 ghost use Rattle.fast_lines.specs.Pieces.{laid};
 ghost use Rattle.std.specs.Option.{option_copied};
 ghost use Rattle.fast_template.specs.Resolved.{instruction_of, list_of, resolved_of};
 ghost use Rattle.fast_stream.specs.Nodes.{single, item_of, items_in, elements_of, content_of};
 ghost use Rattle.fast_lines.specs.declared.form.Form.{Form as FormOf};
-ghost use Rattle.fast_lines.specs.Lines.{absent_text, braced, elements_text, field_text, group_text, sequence_text, label, line_by, line_in, member_text, members_text, scalar_text, value_text, ok_text, said_text};
+ghost use Rattle.fast_lines.specs.Lines.{absent_text, braced, elements_text, field_text, group_text, sequence_text, label, line_by, line_in, member_text, members_text, scalar_text, ok_text, said_text};
 ghost use Rattle.fast_lines.specs.Signs.{label_text};
 ghost use Rattle.fast_lines.specs.Written.{Writes, Shows};
 ghost use Rattle.fast_lines.specs.declared.lines.ShowFault.TheVariants as fault;
@@ -85,22 +85,6 @@ pub fn lay_scalar<S: Signs>(signs: S, value: Option<&Scalar>, piece: &mut Piece)
     }
 }
 
-/// Appends a value of a type.
-fn show_value<S: Signs>(
-    signs: S,
-    kind: Kind,
-    value: &Scalar,
-    out: &mut Vec<u8>,
-) -> Result<(), ShowFault>
-    ensures { Shows (value_text S.form kind value.now) result out.old.items out.new.items }
-{
-    if !is_of_kind(kind, value) || !is_spellable(value) {
-        return Err(ShowFault::Mismatch);
-    }
-    push_scalar(signs, value, out)?;
-    Ok(())
-}
-
 /// Appends what stands for an absent field, group or sequence.
 fn show_absent<S: Signs>(signs: S, presence: Presence, out: &mut Vec<u8>) -> Result<(), ShowFault>
     ensures { Shows (absent_text S.form presence) result out.old.items out.new.items }
@@ -126,7 +110,13 @@ fn show_field<S: Signs>(
         out.old.items out.new.items }
 {
     match node {
-        Node::Value(value) => show_value(signs, kind, value, out),
+        Node::Value(value) => {
+            if !is_of_kind(kind, value) || !is_spellable(value) {
+                return Err(ShowFault::Mismatch);
+            }
+            push_scalar(signs, value, out)?;
+            Ok(())
+        }
         Node::Absent => show_absent(signs, presence, out),
         Node::Group(_) | Node::Sequence(_) => Err(ShowFault::Mismatch),
     }

@@ -106,12 +106,8 @@ fn put_node<'a, E: Entries>(
             Node::Sequence(elements) => {
                 let members: &'a [Flat] = members;
                 let elements: &[Vec<Node>] = elements;
-                journal.put(
-                    alloc,
-                    length,
-                    Some(&Scalar::U32(elements.len() as u32)),
-                    level,
-                )?;
+                let count = Scalar::U32(elements.len() as u32);
+                journal.put(alloc, length, Some(&count), level)?;
                 tell_elements(members, elements, journal);
                 put_elements(members, elements, alloc, journal, &mut level.bytes.out)
             }

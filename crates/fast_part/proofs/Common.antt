@@ -1,5 +1,5 @@
 -- What the proofs of this crate cite from elsewhere, passed on from one place. Declares nothing.
-pub use Rattle.std.proofs.Common.{Bool, Err, Fits, IfSome, IsTrue, List, None, Ok, Option, Result, Some, ap, arith, drop, get_or, inl, inr, refl, subst, sym, true, w8, ℕ, ◌++◌, ◌<◌, ◌∙◌, ◌≡◌, ◌≢◌}
+pub use Rattle.std.proofs.Common.{Bool, Err, Fits, IfSome, IsTrue, List, None, Ok, Option, Result, Some, ap, arith, drop, get_or, inl, inr, refl, sym, true, w8, ℕ, ◌++◌, ◌∙◌, ◌≡◌, ◌≢◌}
 pub use Rattle.std.proofs.lemmas.Result.{err_from_is_err_and}
 pub use Rattle.std.specs.Result.{is_ok}
 pub use Rattle.fast_wire.specs.Reading.{Fails}

@@ -63,7 +63,7 @@ impl<'a, S: Signs> LineWriter<'a, S> {
     }
 
     // Begins the line of a message of the template of an identifier; of one that the set has not, there is no name.
-    #[tactic(auto, using(fast_told::proofs::SameLines::name_is, fast_told::proofs::SameLines::name_is_not))]
+    #[tactic(auto, using(fast_told::proofs::SameLines::name_is))]
     #[inline(always)]
     fn open_line(&mut self, id: u32) -> Result<(), AllocError>
         ensures line { OnOk result (line_now S.form self.new.line

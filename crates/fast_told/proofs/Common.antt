@@ -1,5 +1,5 @@
 -- What the proofs of this crate cite from elsewhere, passed on from one place. Declares nothing.
-pub use Rattle.std.proofs.Common.{Bool, Fits, List, None, Ok, Option, Some, [], ap, append-nil, append_assoc, ap₂, arith, codes, drop, false, find, get_or, if◌then◌else◌, length, map, option_map, refl, subst, sym, take, true, w8, ℕ, ℤ, ◌*◌, ◌++◌, ◌+◌, ◌-◌, ◌<◌, ◌∙◌, ◌∷◌, ◌≡◌, ◌≤◌}
+pub use Rattle.std.proofs.Common.{Bool, Fits, List, None, Ok, Option, Some, [], ap, append-nil, append_assoc, ap₂, arith, codes, drop, false, find, get_or, if◌then◌else◌, length, map, option_map, refl, subst, sym, take, true, unwrap_or, w8, ℕ, ℤ, ◌++◌, ◌-◌, ◌<◌, ◌∙◌, ◌∷◌, ◌≡◌, ◌≤◌}
 pub use Rattle.std.proofs.lemmas.Result.{err_from_is_err_and}
 pub use Rattle.std.specs.List.{flat_map}
 pub use Rattle.std.specs.Result.{is_ok}
@@ -29,7 +29,7 @@ pub use Rattle.fast_walk.proofs.Passings.{passes_field, passes_on, passes_one, t
 pub use Rattle.fast_walk.proofs.Steps.{elements_before-end, elements_before-more, items_before-end, items_before-more}
 pub use Rattle.fast_walk.proofs.Telling.{asked_for, form_taken, kept_hold, told_keeps, told_part, told_there}
 pub use Rattle.fast_walk.proofs.Walking.{is_instruction}
-pub use Rattle.fast_walk.specs.OpenSegments.{Body, Inside, Next, Sequel, Waiting, at_element, at_instruction, at_mantissa, fewer, in_group, in_sequence, items_before, with_item}
+pub use Rattle.fast_walk.specs.OpenSegments.{Body, Inside, Next, Sequel, Waiting, at_element, at_instruction, at_mantissa, fewer, in_group, in_sequence, items_before}
 pub use Rattle.fast_walk.specs.Received.{Received, Took, TookFrom, after_exponent, after_length, after_sequence, bytes_in, content_received, ended_in, entered, in_element, moved, passed}
 pub use Rattle.fast_walk.specs.Told.{IsTold, KeepScalars}
 pub use Rattle.fast_walk.specs.Walks.{AreServed}
@@ -37,11 +37,12 @@ pub use Rattle.fast_walk.specs.declared.receiver.Fields.{Fields}
 pub use Rattle.fast_part.proofs.TakenKinds.{took_as_usual}
 pub use Rattle.fast_lines.proofs.Written.{appended_more, flat_map_piece, flat_map_rest}
 pub use Rattle.fast_lines.specs.Lines.{absent_text, braced, bracketed, decimal_text, elements_text, field_text, joined, label, labelled, line_if, line_in, lines_in, members_text, node_text, said_text}
-pub use Rattle.fast_lines.specs.Pieces.{laid}
 pub use Rattle.fast_lines.specs.Signs.{between, ending, head_text, is_led, label_text, lead, unit_text}
 pub use Rattle.fast_lines.specs.declared.form.Form.{Form}
-pub use Rattle.fast_gaps.proofs.Filled.{filled_behind, filled_by_one}
+pub use Rattle.fast_gaps.proofs.Filled.{filled_by_one}
 pub use Rattle.fast_gaps.specs.Gaps.{filled, no_texts}
 pub use Rattle.fast_gaps.specs.declared.gap.Gap.{Gap}
 pub use Rattle.fast_told.specs.Taking.{CanTake, TakesFields, TellsFields, TellsNext}
 pub use Rattle.fast_told.specs.Told.{HasTold, IsBehind, Line, Opening, Said, Says, Tells, TellsElements, Waits, Within, behind_brace, behind_text, line_as, line_now, line_of_set, lines_of_set, name_if, whole_text, written_of}
+pub use Rattle.std.specs.Borrow.{Bor}
+pub use Rattle.fast_template.specs.declared.resolved.Flat.{Flat}

@@ -1,5 +1,5 @@
 -- Lines told of a resolved set are the lines of the set.
-use Rattle.fast_told.proofs.Common.{◌≡◌, ℕ, Bool, true, false, List, [], ◌∷◌, Option, Some, None, option_map, refl, sym, ap, ap₂, ◌∙◌, find, map, if◌then◌else◌, FlatTemplate, Resolved, resolved_of, TemplateList, has_id, template_of, templates_in, Content, Form, joined, line_if, line_in, lines_in, line_as, line_of_set, lines_of_set, name_if}
+use Rattle.fast_told.proofs.Common.{◌≡◌, ℕ, Bool, true, false, List, [], ◌∷◌, Option, Some, None, option_map, unwrap_or, refl, sym, ap, ap₂, ◌∙◌, find, map, if◌then◌else◌, FlatTemplate, Resolved, resolved_of, TemplateList, has_id, template_of, templates_in, Content, Form, joined, line_if, line_in, lines_in, line_as, line_of_set, lines_of_set, name_if}
 
 found_if : (b : Bool) (t : FlatTemplate) (o : Option FlatTemplate) (p : Option Resolved) → p ≡ option_map resolved_of o
     → (if b then Some (resolved_of t) else p) ≡ option_map resolved_of (if b then Some t else o)
@@ -21,19 +21,11 @@ pub same_lines : (form : Form) (set : TemplateList) (ms : List Content) → line
 same_lines form set [] = refl
 same_lines form set (m ∷ ms) = ap₂ joined (same_line form set m) (same_lines form set ms)
 
-name_found : (o : Option FlatTemplate) (name : List ℕ) → Some name ≡ option_map (λ t. t.name) o → name_if (option_map resolved_of o) ≡ name
-name_found None name e = absurd cc
-name_found (Some t) name e = (let same : name ≡ t.name = cc in sym same)
-
-name_not_found : (o : Option FlatTemplate) → None ≡ option_map (λ t. t.name) o → name_if (option_map resolved_of o) ≡ []
-name_not_found None e = refl
-name_not_found (Some t) e = absurd cc
+name_found : (o : Option FlatTemplate) → name_if (option_map resolved_of o) ≡ unwrap_or (option_map (λ t. t.name) o) []
+name_found None = refl
+name_found (Some t) = refl
 
 -- the name that a set gives, or nothing where it gives none
-pub name_is : (set : TemplateList) (id : ℕ) (name : List ℕ) → Some name ≡ option_map (λ t. t.name) (template_of id set)
-    → name_if (find (λ t. has_id id t.id) (templates_in set)) ≡ name
-name_is set id name e = ap name_if (found_in set.templates id) ∙ name_found (template_of id set) name e
-
-pub name_is_not : (set : TemplateList) (id : ℕ) → None ≡ option_map (λ t. t.name) (template_of id set)
-    → name_if (find (λ t. has_id id t.id) (templates_in set)) ≡ []
-name_is_not set id e = ap name_if (found_in set.templates id) ∙ name_not_found (template_of id set) e
+pub name_is : (set : TemplateList) (id : ℕ) (o : Option (List ℕ)) → o ≡ option_map (λ t. t.name) (template_of id set)
+    → name_if (find (λ t. has_id id t.id) (templates_in set)) ≡ unwrap_or o []
+name_is set id o e = ap name_if (found_in set.templates id) ∙ name_found (template_of id set) ∙ ap (λ x. unwrap_or x []) (sym e)

@@ -1,5 +1,5 @@
 -- Fields that are taken one after the other.
-use Rattle.fast_told.proofs.Common.{◌≡◌, ◌-◌, ◌+◌, ℕ, Bool, List, Option, drop, refl, sym, ◌∙◌, arith, Presence, Scalar, FieldPart, Instructions, whole_field, then_instruction, list_of, part_needs_bit, Dictionary, Level, bit_for, after_bit, single, Fields, Received, Took, passes_field, passes_on, passes_one, is_instruction, Form, field_text, TakesFields, TellsFields, HasTold, Said, line_now}
+use Rattle.fast_told.proofs.Common.{◌≡◌, ◌<◌, ◌-◌, ℕ, Bor, Flat, Bool, List, Option, drop, refl, ◌∙◌, Presence, Scalar, FieldPart, whole_field, then_instruction, list_of, part_needs_bit, Dictionary, Level, bit_for, after_bit, single, Fields, Received, Took, passes_field, passes_on, passes_one, is_instruction, Form, field_text, TakesFields, TellsFields, HasTold, Said, line_now}
 use Rattle.fast_told.specs.declared.line.Line.{Line as LineNow}
 use Rattle.fast_told.proofs.Writing.{has_said}
 
@@ -20,11 +20,12 @@ tells_on bytes l k m f g h one two out own z o next first here =
     passes_on p (two out own z p.received p.next_is p.left_is p.has)
 
 -- a field
-pub tells_one : {form : Form} {level : Level} {d e : Dictionary} {bits later : List Bool} {name : List ℕ} {number : ℕ} {presence : Presence} {p : FieldPart} {is : Instructions} {v : Option Scalar} (bytes : List ℕ) (l k : LineNow) (f g : Fields) (next : ℕ)
-    → list_of f.rest.now ≡ then_instruction (whole_field name number presence p) is → list_of g.rest.now ≡ is → g.spare + 1 ≡ f.spare → g.place ≡ next
+pub tells_one : {form : Form} {level : Level} {d e : Dictionary} {bits later : List Bool} {name : List ℕ} {number : ℕ} {presence : Presence} {p : FieldPart} {v : Option Scalar}
+    (bytes : List ℕ) (l k : LineNow) (f : Fields) (others : Bor (List Flat)) (next : ℕ)
+    → 0 < f.spare → list_of f.rest.now ≡ then_instruction (whole_field name number presence p) (list_of others.now)
     → Took level p (bit_for (part_needs_bit p) bits) d e v (drop f.place bytes) (drop next bytes) → later ≡ after_bit (part_needs_bit p) bits
-    → Said form name (field_text form p.kind presence (single v)) (line_now form l) (line_now form k) → TellsFields form level bytes l d bits f k e later g
-tells_one {name} {number} {presence} {p} {is} {v} bytes l k f g next first rest spare place took map said out own z o at left here =
-    let begins = left ∙ first in
-    let less : f.spare - 1 ≡ g.spare = omega (arith, spare) in
-    rw (sym less, place, rest) (passes_field o name number presence is at begins (omega (arith, spare)) took map (has_said (whole_field name number presence p) (single v) (is_instruction o.next at) begins refl said here))
+    → Said form name (field_text form p.kind presence (single v)) (line_now form l) (line_now form k)
+    → TellsFields form level bytes l d bits f k e later (record { mantissa = f.mantissa; rest = others; spare = f.spare - 1; place = next })
+tells_one {name} {number} {presence} {p} {v} bytes l k f others next some first took map said out own z o at left here =
+    passes_field o name number presence (list_of others.now) at (left ∙ first) some took map
+    (has_said (whole_field name number presence p) (single v) (is_instruction o.next at) (left ∙ first) refl said here)

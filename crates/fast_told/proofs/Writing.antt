@@ -1,13 +1,14 @@
 -- What has been received of a message is told, call by call.
-use Rattle.fast_told.proofs.Common.{◌≡◌, ℕ, Bool, true, false, List, [], ◌∷◌, ◌++◌, Option, Some, None, option_map, refl, sym, ap, ap₂, subst, ◌∙◌, append_assoc, append-nil, ℤ, codes, find, I32, Decimal, Presence, Optional, FieldPart, Instructions, Resolved, TemplateList, field_in_parts, group_of, sequence_of, no_instructions, then_instruction, is_optional, Instruction, has_id, single, Items, items_of, Content, Item, elements_of, no_elements, sequence_elements, then_item, members_of, fewer, Sequel, Inside, in_group, in_sequence, Waiting, Next, at_instruction, at_mantissa, at_element, Body, items_before, with_item, Received, passed, entered, after_exponent, after_length, in_element, after_sequence, ended_in, content_received, bytes_in, moved, Form, ending, head_text, is_led, label_text, lead, between, absent_text, decimal_text, joined, members_text, elements_text, label, node_text, elements_before-end, items_before-more}
-use Rattle.fast_told.specs.Told.{HasLines, HasTold, Waits, IsTold, line_as, line_of_set, lines_of_set, Line, Opening, Tells, IsTop, IsBehind, Within, IsOpened, head_in, message_opening, name_if, Puts, Said, behind_text, whole_text}
+use Rattle.fast_told.proofs.Common.{◌≡◌, ℕ, Bool, true, false, List, [], ◌∷◌, ◌++◌, Option, Some, None, option_map, refl, sym, ap, ap₂, subst, ◌∙◌, append_assoc, append-nil, ℤ, codes, find, I32, Decimal, Presence, Optional, FieldPart, Instructions, Resolved, TemplateList, field_in_parts, group_of, sequence_of, no_instructions, then_instruction, is_optional, Instruction, has_id, single, Items, items_of, Content, Item, elements_of, no_elements, sequence_elements, then_item, members_of, fewer, Sequel, Inside, in_group, in_sequence, Waiting, Next, at_instruction, at_mantissa, at_element, Body, items_before, Received, passed, entered, after_exponent, after_length, in_element, after_sequence, ended_in, content_received, bytes_in, moved, Form, ending, head_text, is_led, label_text, lead, between, absent_text, decimal_text, joined, members_text, elements_text, label, node_text, elements_before-end, items_before-more}
+use Rattle.fast_told.specs.Told.{HasLines, HasTold, Waits, IsTold, line_as, line_of_set, lines_of_set, Line, Opening, Tells, IsTop, IsBehind, Within, message_opening, name_if, Puts, Said, behind_text, whole_text}
 use Rattle.fast_told.proofs.Telling.{body_is, bracket_behind, item_told, joined_behind, within_on, within_push, Inner, begun, element_waits, ended, group_waits, new_segment, segment_left}
 
 abbrev message_of : Form → Received → Opening
 message_of form o = message_opening form o.set o.template o.members
 
 -- what is innermost goes on, whatever is open around it
-on_top : {form : Form} {out : List ℕ} {own : TemplateList} {z y : ℤ} {l k : Line} {o : Received} {next after : Next} {b : Body} → o.next ≡ next → ((g : Opening) → IsTop form z next g l o.body → IsTop form y after g k b)
+on_top : {form : Form} {out : List ℕ} {own : TemplateList} {z y : ℤ} {l k : Line} {o : Received} {next after : Next} {b : Body}
+    → o.next ≡ next → ((g : Opening) → IsTop form z next g l o.body → IsTop form y after g k b)
     → HasTold form out own z l o → HasTold form out own y k (moved o after b o.around)
 on_top {form} {z = z} {y} {l} {k} {o} {next} {after} {b} is f has = record {
   before = has.before;
@@ -17,7 +18,8 @@ on_top {form} {z = z} {y} {l} {k} {o} {next} {after} {b} is f has = record {
 -- ---- fields
 
 -- an item behind its label
-pub has_said : {form : Form} {out : List ℕ} {own : TemplateList} {z : ℤ} {l k : Line} {name : List ℕ} {o : Received} {is : Instructions} (i : Instruction) (n : Item) → o.next ≡ at_instruction → o.body.rest ≡ then_instruction i is
+pub has_said : {form : Form} {out : List ℕ} {own : TemplateList} {z : ℤ} {l k : Line} {name : List ℕ} {o : Received} {is : Instructions} (i : Instruction) (n : Item)
+    → o.next ≡ at_instruction → o.body.rest ≡ then_instruction i is
     → label form i ≡ label_text form name → Said form name (node_text form i n) l k → HasTold form out own z l o → HasTold form out own z k (passed o is n)
 has_said {form} {l = l} {k} {o = o} {is} i n next first named s = on_top next
     (λ g t. item_told form g l k i is o.body.done n s.text s.there (rw named s.told) s.led (body_is form g l o.body _ first t))
@@ -41,7 +43,8 @@ has_exponent {form} {e = e} {l} {k} {o} {name} {is = is} next first put same = o
   },
 ))
 
-pub has_mantissa : {form : Form} {out : List ℕ} {own : TemplateList} {z e : ℤ} {l k : Line} {o : Received} {q : FieldPart} (m : ℤ) → o.next ≡ at_mantissa e q → k.text ≡ l.text ++ decimal_text m z → k.led ≡ l.led
+pub has_mantissa : {form : Form} {out : List ℕ} {own : TemplateList} {z e : ℤ} {l k : Line} {o : Received} {q : FieldPart} (m : ℤ)
+    → o.next ≡ at_mantissa e q → k.text ≡ l.text ++ decimal_text m z → k.led ≡ l.led
     → HasTold form out own z l o → HasTold form out own z k (passed o o.body.rest (single (Some (Decimal e m))))
 has_mantissa {form} {e = e} {l} {o = o} m next told led = on_top next (λ g t. record {
   so_far = λ ns.
@@ -70,7 +73,8 @@ has_left_out {name = name} {number} {presence = Optional} {members} next first o
 has_left_out next first optional s = absurd cc
 
 -- in a segment that has just begun
-has_inner : {form : Form} {out : List ℕ} {own : TemplateList} {z : ℤ} {l k : Line} {o : Received} {next : Next} (w : Waiting) (members : Instructions) → o.next ≡ next → k.led ≡ false → ((g : Opening) → IsTop form z next g l o.body → Waits form g w (begun k members))
+has_inner : {form : Form} {out : List ℕ} {own : TemplateList} {z : ℤ} {l k : Line} {o : Received} {next : Next} (w : Waiting) (members : Instructions)
+    → o.next ≡ next → k.led ≡ false → ((g : Opening) → IsTop form z next g l o.body → Waits form g w (begun k members))
     → HasTold form out own z l o → HasTold form out own z k (moved o at_instruction (record { rest = members; done = [] }) (o.around ++ w ∷ []))
 has_inner {form} {z = z} {l} {k} {o} {next} w members is led waits has =
     let J : Opening → Type 0 = λ h. Tells form h k (record { rest = members; done = [] }) in

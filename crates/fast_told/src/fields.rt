@@ -1,6 +1,6 @@
 //! Fields that are told one after the other, with no step of the walk between them.
 
-ghost use Rattle.std.specs.Prelude.{◌≡◌, ◌≤◌, ◌<◌, ◌+◌, ℕ, true, false, None, IsSome, IfOk, OnOk, length, drop};
+ghost use Rattle.std.specs.Prelude.{◌≡◌, ◌≤◌, ◌<◌, ℕ, true, false, None, IsSome, IfOk, OnOk, length, drop};
 ghost use Rattle.fast_template.specs.Resolved.{list_of, then_instruction, whole_field};
 ghost use Rattle.fast_walk.specs.Passing.{next_behind};
 ghost use Rattle.fast_walk.specs.Told.{KeepScalars};
@@ -16,20 +16,6 @@ use fast_template::{FieldPart, Flat, Name, Presence, part_needs_bit};
 use fast_walk::{Fields, first_for, take_for};
 use fast_wire::{Bits, Level};
 use std::alloc::{AllocError, Global};
-
-// Goes on behind a field, whose node is counted.
-#[inline(always)]
-fn pass<'a>(fields: &mut Fields<'a>, others: &'a [Flat], next: usize)
-    requires { 0 < fields.now.spare }
-    ensures mantissa { fields.new.mantissa ≡ fields.old.mantissa }
-    ensures rest { fields.new.rest ≡ others.entry }
-    ensures spare { fields.new.spare + 1 ≡ fields.old.spare }
-    ensures place { fields.new.place ≡ next }
-{
-    fields.rest = others;
-    fields.spare -= 1;
-    fields.place = next;
-}
 
 // Takes the field that is next, with its node and its bit. False: nothing has changed, since it has no reading.
 #[inline(always)]
@@ -76,7 +62,9 @@ fn tell_field<'a, S: Signs, E: Entries>(
         },
         Ok(next) => {
             take_for(bits, needs);
-            pass(fields, others, next);
+            fields.rest = others;
+            fields.spare -= 1;
+            fields.place = next;
             Ok(true)
         }
     }

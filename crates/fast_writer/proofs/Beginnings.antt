@@ -1,6 +1,6 @@
 -- A field whose numbers show by two bytes that they are not overlong is read at the strict level as at the usual one.
-use Rattle.fast_writer.proofs.Common.{◌≡◌, ◌≤◌, ℕ, Bool, true, false, nat_le, List, [], ◌∷◌, ◌++◌, Result, Ok, Err, refl, sym, arith, ◌⊎◌, inl, inr, ℤ, ◌+ℤ◌, Option, if◌then◌else◌, le-leb, signed_of, verdict, received_signed, ◌>>=◌, entity_at, signed_at, signed_nullable_at, WireFault, Usual, Strict, Nullable, Null, Value, exponent_in_range, Kind, Operator, Part, Presence, Mandatory, Optional, FieldPart, Scalar, Entry, FieldFault, ReadsAsUsual, delta_base, field_fault, in_field, check, unless_null, integer_at, integer_usually_at, mantissa_entity_at, mantissa_behind, mantissa_delta_behind, integer_spelled_at, decimal_spelled_at, spelled_at, integer_delta_at, decimal_delta_at, delta_at, whole_at, row_at, field_at, overlong_number, integer_starts, mantissa_starts, integer_as_usual, BeginsField, BeginsShort, BeginsShortBehind, BeginsNumber}
-use Rattle.fast_field.specs.Values.{is_unsigned, exponent_of}
+use Rattle.fast_writer.proofs.Common.{◌≡◌, ◌≤◌, ℕ, Bool, true, false, nat_le, List, [], ◌∷◌, ◌++◌, Result, Ok, Err, refl, sym, arith, ◌⊎◌, inl, inr, ℤ, Option, if◌then◌else◌, le-leb, signed_of, verdict, received_signed, ◌>>=◌, entity_at, signed_at, signed_nullable_at, WireFault, Usual, Strict, Nullable, Null, Value, Kind, Operator, Part, Presence, Mandatory, Optional, FieldPart, Scalar, Entry, FieldFault, ReadsAsUsual, field_fault, in_field, unless_null, integer_at, integer_usually_at, mantissa_entity_at, mantissa_behind, mantissa_delta_behind, integer_spelled_at, decimal_spelled_at, spelled_at, integer_delta_at, decimal_delta_at, delta_at, whole_at, row_at, field_at, overlong_number, integer_starts, mantissa_starts, integer_as_usual, BeginsField, BeginsShort, BeginsShortBehind, BeginsNumber}
+use Rattle.fast_field.specs.Values.{is_unsigned}
 
 -- ---- judging an entity that begins with two such bytes changes nothing
 

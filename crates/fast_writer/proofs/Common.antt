@@ -1,5 +1,5 @@
 -- What the proofs of this crate cite from elsewhere, passed on from one place. Declares nothing.
-pub use Rattle.std.proofs.Common.{Bool, Err, IfSome, IsTrue, List, MatchOption, None, Ok, Option, Result, Some, [], ap, append-nil, arith, codes, cond, drop, false, if◌then◌else◌, inl, inr, length, length-append, length-drop, lit<, lit≤, map, nat_le, nat_lt, negsuc, not, pos, refl, rules, slice_index, slice_index_or, slice_set, subst, suc, sym, take, true, true≢false, zero, ℕ, ℤ, ◌&&◌, ◌++◌, ◌+ℤ◌, ◌+◌, ◌-◌, ◌<◌, ◌^◌, ◌∙◌, ◌∷◌, ◌≡◌, ◌≤◌, ◌⊎◌}
+pub use Rattle.std.proofs.Common.{Bool, Err, IfSome, IsTrue, List, None, Ok, Option, Result, Some, [], ap, append-nil, arith, codes, cond, drop, false, if◌then◌else◌, inl, inr, length, length-append, length-drop, lit<, lit≤, map, nat_le, nat_lt, negsuc, not, pos, refl, rules, slice_index, slice_index_or, slice_set, subst, suc, sym, take, true, true≢false, zero, ℕ, ℤ, ◌&&◌, ◌++◌, ◌+ℤ◌, ◌+◌, ◌-◌, ◌<◌, ◌^◌, ◌∙◌, ◌∷◌, ◌≡◌, ◌≤◌, ◌⊎◌}
 pub use Rattle.std.proofs.Math.IntN.{+ℤ_idl}
 pub use Rattle.std.proofs.Math.ListN.{drop_of_length-le}
 pub use Rattle.std.proofs.Math.Seq.{take-suc}
@@ -32,7 +32,7 @@ pub use Rattle.fast_wire.specs.declared.level.Level.TheVariants.{Strict, Usual}
 pub use Rattle.fast_wire.specs.declared.nullable.Nullable.{Nullable}
 pub use Rattle.fast_wire.specs.declared.nullable.Nullable.TheVariants.{Null, Value}
 pub use Rattle.fast_value.specs.Key.{key_cmp, key_cmp-total}
-pub use Rattle.fast_value.specs.Scalar.{exponent_in_range, is_of}
+pub use Rattle.fast_value.specs.Scalar.{is_of}
 pub use Rattle.fast_value.specs.declared.key.Key.{Key}
 pub use Rattle.fast_value.specs.declared.key.Scope.TheVariants.{Global}
 pub use Rattle.fast_value.specs.declared.kind.Kind.{Kind}
@@ -63,7 +63,7 @@ pub use Rattle.fast_field.specs.Bases.{delta_base}
 pub use Rattle.fast_field.specs.Best.{IsBest, NoLater}
 pub use Rattle.fast_field.specs.Deltas.{Cut, SpellsDeltas, uncut}
 pub use Rattle.fast_field.specs.Faults.{field_fault}
-pub use Rattle.fast_field.specs.FieldReading.{check, in_field, integer_usually_at, mantissa_entity_at, unless_null}
+pub use Rattle.fast_field.specs.FieldReading.{in_field, integer_usually_at, mantissa_entity_at, unless_null}
 unfoldable pub use Rattle.fast_field.specs.FieldReading.{decimal_delta_at, decimal_spelled_at, delta_at, field_at, integer_at, integer_delta_at, integer_spelled_at, mantissa_behind, mantissa_delta_behind, row_at, spelled_at, whole_at}
 pub use Rattle.fast_field.specs.Fields.{Form, FormBy, FormOf}
 pub use Rattle.fast_field.specs.Found.{value_found}

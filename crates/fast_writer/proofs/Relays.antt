@@ -1,5 +1,5 @@
 -- A part that was read and written at once.
-use Rattle.fast_writer.proofs.Common.{◌≡◌, ◌<◌, ℕ, ◌+◌, Bool, List, ◌++◌, ◌∷◌, Option, Some, None, true, false, [], drop, length, refl, sym, ap, subst, ◌∙◌, append-nil, arith, MatchOption, slice_index, FieldPart, Scalar, part_needs_bit, Entry, Dictionary, entry_at, set_entry, set_entry-there, Level, ReadsAsUsual, Judges, RelaysByte, Run, length_of, Passes as FieldPasses, Relayed, RelaysEntry, RelaysPart, StopsEntry, StopsPart, took_of, FieldFault, Segment, AppendsForm, Asked, Spelt, Operator, operator_needs_bit, Usual, IsBest, Cut, FormOf}
+use Rattle.fast_writer.proofs.Common.{◌≡◌, ◌<◌, ℕ, ◌+◌, Bool, List, ◌++◌, ◌∷◌, Option, Some, None, true, false, [], drop, length, refl, sym, ap, subst, ◌∙◌, append-nil, arith, slice_index, FieldPart, Scalar, part_needs_bit, Entry, Dictionary, entry_at, set_entry, set_entry-there, Level, ReadsAsUsual, Judges, RelaysByte, Run, length_of, Passes as FieldPasses, Relayed, RelaysEntry, RelaysPart, StopsEntry, StopsPart, took_of, FieldFault, Segment, AppendsForm, Asked, Spelt, Operator, operator_needs_bit, Usual, IsBest, Cut, FormOf}
 use Rattle.fast_writer.specs.Runs.{written}
 use Rattle.fast_writer.proofs.Runs.{settled}
 use Rattle.fast_writer.proofs.MapRoom.{asked_room}

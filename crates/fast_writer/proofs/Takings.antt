@@ -1,5 +1,5 @@
 -- Fields that are taken one after the other into the segment that is open.
-use Rattle.fast_writer.proofs.Common.{◌≡◌, ◌≤◌, ◌<◌, ◌-◌, ◌+◌, ℕ, suc, ℤ, pos, Bool, false, List, [], ◌∷◌, ◌++◌, length, Option, Some, None, drop, take, refl, sym, ap, ◌∙◌, subst, arith, drop-drop, take_all, is_some, slice_get, Bor, Scalar, I64, Decimal, Presence, FieldPart, Flat, Instruction, Instructions, instruction_of, whole_field, field_in_parts, group_of, sequence_of, then_instruction, list_of, part_needs_bit, Dictionary, entry_at, set_entry, set_entry-there, Entry, Level, single, bit_for, after_bit, at_instruction, at_mantissa, cursor, with_item, Took, exponent_of, next_behind, AreServed, IsNextServed, IsServed, Key, passes_field, passes_on, passes_one, count_goes, part_goes, exponent_on, no_exponent_on, mantissa_on_goes, is_instruction, is_mantissa, Segment, Spelt, BeginsWith, EndsPart, Front, MatchTaken, Takes, TakesPart, TakesUnder, TookFields, TookUnder, behind, level_in, level_of, Relayed, RelaysPart, Taken, IsThere, Run, IsFieldPart, KeepScalars}
+use Rattle.fast_writer.proofs.Common.{◌≡◌, ◌≤◌, ◌<◌, ◌-◌, ◌+◌, ℕ, suc, ℤ, pos, Bool, false, List, [], ◌∷◌, ◌++◌, length, Option, Some, None, drop, take, refl, sym, ap, ◌∙◌, subst, arith, drop-drop, take_all, is_some, slice_get, Bor, Scalar, I64, Decimal, Presence, FieldPart, Flat, Instruction, Instructions, instruction_of, whole_field, field_in_parts, group_of, sequence_of, then_instruction, list_of, part_needs_bit, Dictionary, entry_at, set_entry, Entry, Level, single, bit_for, after_bit, at_instruction, at_mantissa, cursor, with_item, Took, exponent_of, next_behind, AreServed, IsNextServed, IsServed, Key, passes_field, passes_on, passes_one, count_goes, part_goes, exponent_on, no_exponent_on, mantissa_on_goes, is_instruction, is_mantissa, Segment, Spelt, BeginsWith, EndsPart, Front, MatchTaken, Takes, TakesPart, TakesUnder, TookFields, TookUnder, behind, level_in, level_of, Relayed, RelaysPart, Taken, IsThere, Run, IsFieldPart, KeepScalars}
 use Rattle.fast_writer.specs.declared.segment.Segment.{Segment as LevelNow}
 use Rattle.fast_writer.specs.declared.fields.Taken.TheVariants.{Part, Elsewhere, Refused}
 use Rattle.fast_writer.specs.Runs.{IsRun, written}

@@ -54,8 +54,10 @@ has_exponent {l = l} {k} {o} {name} {number} {presence} {p} {q} {is} {d} {e} (So
 pub has_mantissa : {out : List ℕ} {outer : List Segment} {l k : Segment} {o : Received} {z m : ℤ} {q : FieldPart} {d e : Dictionary}
     → o.next ≡ at_mantissa z q → e ≡ written q d (Some (I64 m)) → Spelt q (entry_at d q.key) (Some (I64 m)) l k
     → IsOpened out outer l o d → IsOpened out outer k (passed o o.body.rest (single (Some (Decimal z m)))) e
-has_mantissa {l = l} {k} {o} {z} {m} {q} {d} next entry s = on_top next (λ g w. rw entry
-    (level_is g (more_of l (bits_for (part_needs_bit q) s.bit) s.form) k (with_item o.body (single (Some (Decimal z m)))) (written q d (Some (I64 m))) (sym s.bits) (sym s.own) (sym s.bytes) (w.then s.bit s.form m s.needs s.best)))
+has_mantissa {l = l} {k} {o} {z} {m} {q} {d} next entry s = on_top next (λ g w.
+    let b = with_item o.body (single (Some (Decimal z m))) in
+    rw entry
+    (level_is g (more_of l (bits_for (part_needs_bit q) s.bit) s.form) k b (written q d (Some (I64 m))) (sym s.bits) (sym s.own) (sym s.bytes) (w.then s.bit s.form m s.needs s.best)))
 
 pub has_length : {out : List ℕ} {outer : List Segment} {l k : Segment} {o : Received} {name : List ℕ} {number : ℕ} {presence : Presence} {p : FieldPart} {members is : Instructions} {d e : Dictionary} (n : Option ℕ)
     → o.next ≡ at_instruction → o.body.rest ≡ then_instruction (sequence_of name number presence p members) is → e ≡ written p d (length_of n) → Spelt p (entry_at d p.key) (length_of n) l k
@@ -110,7 +112,8 @@ pub has_element : {out : List ℕ} {outer later : List Segment} {l j : Segment} 
     → o.next ≡ at_element s → own ≡ s.own_map → 0 < s.left → later ≡ outer ++ l ∷ [] → IsEmpty own j
     → IsOpened out outer l o d → IsOpened out later j (in_element o bits s) d
 has_element {l = l} {o = o} {s} {d} bits next is some pushed empty has =
-    has_inner l (record { bits = bits; number = s.number; body = o.body; inside = in_sequence (fewer s) }) s.members next pushed (λ g top. (rw (is, top.own) at empty, element_waits g l o.body s d bits some top)) has
+    has_inner l (record { bits = bits; number = s.number; body = o.body; inside = in_sequence (fewer s) }) s.members next pushed
+    (λ g top. (rw (is, top.own) at empty, element_waits g l o.body s d bits some top)) has
 
 -- the segment around has what ended
 ends_in : {out : List ℕ} {later : List Segment} {next : Segment} {d : Dictionary} (o : Received) (inside : Inside) (ws : List Waiting) (w : Waiting)
@@ -132,7 +135,8 @@ has_ended {outer = outer} {later} {l} {k} {o} {d} {inside} ws w next rest is ins
     rw (closes.next_is, closes.ended.bytes)
     (ends_in {next = m} o inside ws w has.before (subst (λ (n : Inside). Chain (message_of o) ws later (Left n)) inside_is left))
 
-pub has_elements : {out : List ℕ} {outer : List Segment} {l : Segment} {o : Received} {d : Dictionary} {s : Sequel} → o.next ≡ at_element s → s.left ≡ 0 → IsOpened out outer l o d → IsOpened out outer l (after_sequence o s) d
+pub has_elements : {out : List ℕ} {outer : List Segment} {l : Segment} {o : Received} {d : Dictionary} {s : Sequel} → o.next ≡ at_element s → s.left ≡ 0
+    → IsOpened out outer l o d → IsOpened out outer l (after_sequence o s) d
 has_elements {l = l} {s = s} next none = on_top next (λ g w.
     rw (append-nil l.bytes, elements_before-end s.done) at (w.then [] no_elements _ (sym none) (refl, refl)))
 

@@ -36,7 +36,7 @@ impl Writer {
     ghost use Rattle.fast_walk.specs.Room.{HasRoomInside, HasRoomOutside};
     ghost use Rattle.fast_writer.specs.Levels.{HasWritten, level_of};
     ghost use Rattle.fast_writer.specs.Room.{writer_room};
-    ghost use Rattle.fast_writer.specs.Written.{ClosesIn, IsEmpty};
+    ghost use Rattle.fast_writer.specs.Written.{IsEmpty};
 
     /// With no message, and nothing handed on. Takes no memory.
     #[inline(always)]
@@ -76,20 +76,6 @@ impl Writer {
         ensures out { self.new.out ≡ self.old.out }
     {
         self.outer.close(&mut self.inner)?;
-        Ok(())
-    }
-
-    // Ends the segment that is open, in the one around it, and begins another in the same memory.
-    #[inline(always)]
-    fn close_and_open(&mut self, own: bool) -> Result<(), AllocError>
-        requires room { HasRoomInside (writer_room self.now) }
-        ensures closed { OnOk result (ClosesIn (map level_of self.old.outer)
-            (level_of self.old.inner) (map level_of self.new.outer)) }
-        ensures begun { OnOk result (IsEmpty own (level_of self.new.inner)) }
-        ensures out { self.new.out ≡ self.old.out }
-    {
-        self.outer.end(&self.inner)?;
-        self.inner.begin(own);
         Ok(())
     }
 }
@@ -292,7 +278,9 @@ impl Receiver for Writer {
         own_map: bool,
         _size: usize,
     ) -> Result<(), AllocError> {
-        self.close_and_open(own_map)?;
+        self.outer.end(&self.inner)?;
+        // (the next one in the same memory)
+        self.inner.begin(own_map);
         Ok(())
     }
 

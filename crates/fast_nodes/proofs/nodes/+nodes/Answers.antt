@@ -73,8 +73,8 @@ put_node-returns-in_ok-put-in-Decimal g t c =
 
 -- ---- one sequence
 
-pub put_node-overflow_cast-elements : goal.put_node-overflow_cast-elements
-put_node-overflow_cast-elements g t c =
+pub put_node-overflow_cast-count : goal.put_node-overflow_cast-count
+put_node-overflow_cast-count g t c =
     let ready = rw (is_sequence c.in-Sequence.members c.in-Sequence.is, is_elements c.in-Sequence-node.elements c.in-Sequence-node.is) at c.requires in
     let few = rw (count_seen c.in-Sequence-node.elements.items) at ready.small.0 in
     rw (c.deref-elements.ensures.value) (omega (arith, few))

@@ -1,4 +1,4 @@
-use Rattle.fast_told.proofs.Common.{ap, arith, list_of, Part, asked_for, told_keeps}
+use Rattle.fast_told.proofs.Common.{arith, Part, asked_for, told_keeps}
 use Rattle.fast_told.proofs.Taking.{tells_none, tells_one}
 use Rattle.fast_told.proofs.fields.tell_field.Goals as goal
 
@@ -11,8 +11,8 @@ pub returns-in-Ok-clause-takes : goal.returns-in-Ok-clause-takes
 returns-in-Ok-clause-takes g c =
     let told = c.in-Ok.ensures.told in
     let took = rw (c.first_for-bit.ensures, c.part_needs_bit-needs.ensures) at told.1 in
-    tells_one c.args.bytes.now c.args.line.now c.tell.new.line c.args.fields.now c.pass.new.fields c.in-Ok.next
-    c.requires.first.1 (ap (λ r. list_of r.now) c.pass.ensures.rest) c.pass.ensures.spare c.pass.ensures.place took (rw (c.part_needs_bit-needs.ensures) at c.take_for.ensures) told.2
+    tells_one c.args.bytes.now c.args.line.now c.tell.new.line c.args.fields.now c.args.others c.in-Ok.next
+    c.requires.spare c.requires.first.1 took (rw (c.part_needs_bit-needs.ensures) at c.take_for.ensures) told.2
 
 pub returns-in-Ok-clause-kept : goal.returns-in-Ok-clause-kept
 returns-in-Ok-clause-kept g c =
