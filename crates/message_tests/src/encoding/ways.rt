@@ -282,7 +282,7 @@ fn generated_streams_go_the_same_both_ways(rt: HostRuntime) -> Result<(), AllocE
         bytes = bytes.saturating_add(stream.len());
         goes_both_ways(&rt, alloc, &set, &stream)?;
         for _ in 0..6u8 {
-            let at = stream.len() * usize::from(numbers.below(255)) / 255;
+            let at = stream.len().saturating_mul(usize::from(numbers.below(255))) / 255;
             goes_on_both_ways(&rt, alloc, &mut numbers, &set, &stream, at)?;
         }
     }
