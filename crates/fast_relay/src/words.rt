@@ -1,5 +1,5 @@
 //! The end of an ASCII string, looked for in sixteen bytes at once. Most strings have fewer: to look at these costs less than
-//! the call, which is made for what is longer or stands near the end of the bytes.
+//! the call, which is made for what is longer or stands near the end of the bytes, as the last strings of a block do.
 
 ghost use Rattle.std.specs.Prelude.{◌<◌, ◌≤◌, ◌+◌, length, drop, slice_range, IfSome};
 ghost use Rattle.fast_wire.specs.Entity.{IsRun};
@@ -40,8 +40,8 @@ fn plain_end_by_call(bytes: &[u8], at: usize) -> Option<usize>
     plain_ascii_end(bytes, at)
 }
 
-/// Where the ASCII string that begins at a place ends within sixteen bytes which are there, if its bytes are the shortest form
-/// of it, with NULL and without; none of another one.
+/// Where the ASCII string that begins at a place ends within sixteen bytes, if its bytes are the shortest form of it, with
+/// NULL and without; none of another one. Near the end of the bytes a call tells.
 #[inline(always)]
 pub(crate) fn short_plain_end(bytes: &[u8], at: usize) -> Option<usize>
     requires { at ≤ length bytes.now }
@@ -50,7 +50,7 @@ pub(crate) fn short_plain_end(bytes: &[u8], at: usize) -> Option<usize>
         (slice_range bytes.now at next) (drop next bytes.now)) }
 {
     if bytes.len() - at < LANES {
-        return None;
+        return plain_end_by_call(bytes, at);
     }
     let run = stop_free_run(bytes, at);
     if run == LANES {
