@@ -12,3 +12,6 @@ pub use fast_lines::{Form, ShowFault};
 pub use fast_stream::{Framing, Mode};
 pub use fast_wire::Level;
 pub use line::show_line;
+
+/// The version of the program and of the library.
+pub const VERSION: &str = "0.1.0";

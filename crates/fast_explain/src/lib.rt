@@ -6,11 +6,16 @@
 
 mod hex_text;
 mod json;
+mod looks;
 mod meaning;
+mod misfit;
+mod misfit_text;
 mod names;
 mod notes;
+mod place;
 mod said;
 mod seen;
+mod template_text;
 
 pub use notes::Notes;
 pub use said::{Files, explain};

@@ -87,6 +87,24 @@ fn name_at(alloc: Global, object: &Value) -> Result<Option<String>, AllocError> 
     }
 }
 
+/// The template of this place in a text, from 1.
+pub fn template_in_text(text: &Value, place: u32) -> Option<&Value> {
+    list_at(text, "templates").get((place as usize).saturating_sub(1))
+}
+
+/// The instruction of a template of a text, both as they are written, from 1.
+pub fn member_in_text(
+    alloc: Global,
+    text: &Value,
+    place: u32,
+    number: u32,
+) -> Result<Option<&Value>, AllocError> {
+    match template_in_text(text, place) {
+        Some(template) => member(alloc, template.members(), number),
+        None => Ok(None),
+    }
+}
+
 /// The names in a template text, by the places of the template in it and of the instruction as it is written, both
 /// from 1.
 pub fn names_in_text(
@@ -95,16 +113,15 @@ pub fn names_in_text(
     template: u32,
     instruction: u32,
 ) -> Result<Names, AllocError> {
-    let templates = list_at(text, "templates");
-    let Some(template) = templates.get((template as usize).saturating_sub(1)) else {
+    let Some(named) = template_in_text(text, template) else {
         return Ok(Names::unknown());
     };
-    let instruction = match member(alloc, template.members(), instruction)? {
+    let instruction = match member_in_text(alloc, text, template, instruction)? {
         Some(instruction) => name_at(alloc, instruction)?,
         None => None,
     };
     Ok(Names {
-        template: name_at(alloc, template)?,
+        template: name_at(alloc, named)?,
         instruction,
     })
 }

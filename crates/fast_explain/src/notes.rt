@@ -1,16 +1,17 @@
 //! What is known of a refusal beside its line.
 
-use crate::hex_text::{Stray, is_hex, stray_in};
-use crate::json::{NoJson, no_json};
-use crate::names::{Names, names_in_set, names_in_text};
+use crate::hex_text::{Stray, stray_in};
+use crate::looks::{StreamLook, look_of_stream};
+use crate::names::{Names, names_in_set};
 use crate::seen::Seen;
+use crate::template_text::{TextNotes, notes_of_text};
+use fast_host::FileState;
 use fast_pass::CanonFault;
-use fast_stream::{Cause, Fault};
+use fast_stream::{Cause, Fault, Framing};
 use fast_template::TemplateSet;
 use fast_wire::read_u64;
 use fast_written::LoadFault;
-use serde_json::Value;
-use std::alloc::{AllocError, Global};
+use std::alloc::Global;
 
 /// Which input is at hand.
 #[derive(Clone, Copy)]
@@ -25,31 +26,21 @@ pub(crate) enum Reading {
 pub struct Notes {
     is_asked: bool,
     pub(crate) reading: Reading,
+    pub(crate) framing: Framing,
     pub(crate) load: Option<LoadFault>,
-    pub(crate) no_json: Option<NoJson>,
+    /// What is known of the text of refused templates.
+    pub(crate) text: TextNotes,
     pub(crate) fault: Option<Fault>,
+    /// The names at a fault of the stream.
     pub(crate) names: Names,
     /// The identifier of no template.
     pub(crate) identifier: Option<u64>,
     /// What keeps the input from being hex text.
     pub(crate) stray: Option<Stray>,
-    /// Whether the bytes of the stream look like hex text.
-    pub(crate) looks_like_hex: bool,
-}
-
-/// The names of refused templates, and where their text is no JSON.
-fn names_of(
-    alloc: Global,
-    fault: LoadFault,
-    text: &[u8],
-) -> Result<(Names, Option<NoJson>), AllocError> {
-    match Value::from_slice(alloc, text) {
-        Ok(value) => {
-            let names = names_in_text(alloc, &value, fault.template, fault.instruction)?;
-            Ok((names, None))
-        }
-        Err(error) => Ok((Names::unknown(), Some(no_json(text, &error)))),
-    }
+    /// What the first bytes of the stream look like.
+    pub(crate) look: Option<StreamLook>,
+    /// What a look at a file found that cannot be opened or read.
+    pub(crate) file: FileState,
 }
 
 /// The number that stands at a place of a stream, of which these are the bytes from `before` on.
@@ -65,18 +56,20 @@ fn number_at(bytes: &[u8], before: u64, offset: u64) -> Option<u64> {
 }
 
 impl Notes {
-    /// No notes.
-    pub fn new(is_asked: bool) -> Notes {
+    /// No notes of a stream in this framing.
+    pub fn new(is_asked: bool, framing: Framing) -> Notes {
         Notes {
             is_asked,
             reading: Reading::Templates,
+            framing,
             load: None,
-            no_json: None,
+            text: TextNotes::unknown(),
             fault: None,
             names: Names::unknown(),
             identifier: None,
             stray: None,
-            looks_like_hex: false,
+            look: None,
+            file: FileState::Unknown,
         }
     }
 
@@ -89,9 +82,8 @@ impl Notes {
     pub fn templates_refused(&mut self, alloc: Global, fault: LoadFault, text: &[u8]) {
         if self.is_asked {
             self.load = Some(fault);
-            if let Ok((names, no_json)) = names_of(alloc, fault, text) {
-                self.names = names;
-                self.no_json = no_json;
+            if let Ok(text) = notes_of_text(alloc, fault, text) {
+                self.text = text;
             }
         }
     }
@@ -99,6 +91,19 @@ impl Notes {
     /// Notes that the templates are loaded, and the stream is at hand.
     pub fn templates_loaded(&mut self) {
         self.reading = Reading::Stream;
+    }
+
+    /// Which of two inputs is at hand.
+    pub fn at_hand<T>(&self, templates: T, stream: T) -> T {
+        match self.reading {
+            Reading::Templates => templates,
+            Reading::Stream => stream,
+        }
+    }
+
+    /// Notes what a look at the file at hand found.
+    pub fn file_looked_at(&mut self, state: FileState) {
+        self.file = state;
     }
 
     /// Notes that a text is to be hex.
@@ -151,7 +156,7 @@ impl Notes {
     /// Notes what is to be known of a stream's bytes as they were read.
     pub fn stream_seen<I>(&mut self, input: &Seen<I>) {
         if let Some(kept) = input.kept() {
-            self.looks_like_hex = is_hex(&kept.first);
+            self.look = look_of_stream(&kept.first);
             self.identifier_in(&kept.last, kept.before);
         }
     }

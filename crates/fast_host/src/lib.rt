@@ -12,4 +12,4 @@ pub use hex_text::{HexFault, hex_line, is_blank, read_hex};
 pub use input::{TEXT_LIMIT, TextFault, read_text};
 pub use memory::MemoryOutput;
 pub use refusal::Refusal;
-pub use source::{Host, Source};
+pub use source::{FileState, Host, Source};

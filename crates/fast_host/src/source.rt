@@ -4,7 +4,20 @@ ghost use Rattle.std.specs.Prelude.{◌≡◌, ℕ, List, None, Option, IfSome};
 
 use fast_io::{ByteInput, Counted};
 use std::fs::{self, File};
-use std::io::Stdin;
+use std::io::{self, ErrorKind, Stdin};
+
+/// What a look at a file finds that cannot be opened, or read to its end.
+#[derive(Clone, Copy, Debug, PartialEq, Eq)]
+pub enum FileState {
+    /// No file has the name.
+    Missing,
+    /// It is a folder.
+    Folder,
+    /// It may not be read.
+    Forbidden,
+    /// Nothing that would tell why.
+    Unknown,
+}
 
 /// Where the program's files and its standard input come from.
 pub trait Source {
@@ -28,7 +41,11 @@ pub trait Source {
 
     /// The standard input.
     fn standard(&mut self) -> Self::Standard
-        ensures gives { Self.Standard.left result ≡ input self.old };
+        ensures gives { Self.Standard.left result ≡ input self.old }
+        ensures files { file self.new ≡ file self.old };
+
+    /// What a look at the file of this name finds, for people alone: no answer of the program stands on it.
+    fn look(&self, name: &str) -> FileState;
 }
 
 /// The files and the standard input of the machine, which tells of neither what it gives.
@@ -41,6 +58,16 @@ impl<'a> Host<'a> {
     /// Those of this process. Takes no memory.
     pub fn new(rt: &'a HostRuntime) -> Host<'a> {
         Host { rt }
+    }
+}
+
+/// What an error says of a file.
+fn state_of(error: &io::Error) -> FileState {
+    match error.kind() {
+        ErrorKind::NotFound => FileState::Missing,
+        ErrorKind::IsADirectory => FileState::Folder,
+        ErrorKind::PermissionDenied => FileState::Forbidden,
+        _ => FileState::Unknown,
     }
 }
 
@@ -62,5 +89,16 @@ impl Source for Host<'_> {
 
     fn standard(&mut self) -> Counted<Stdin> {
         Counted::new(self.rt.stdin())
+    }
+
+    fn look(&self, name: &str) -> FileState {
+        match fs::metadata(self.rt, name) {
+            Ok(found) if found.is_dir() => FileState::Folder,
+            Ok(_) => match fs::open(self.rt, name) {
+                Ok(_) => FileState::Unknown,
+                Err(error) => state_of(&error),
+            },
+            Err(error) => state_of(&error),
+        }
     }
 }

@@ -1,6 +1,6 @@
 -- What a command line asks for: the words that the program knows, as its parser has them, and what the parser finds of
 -- each in a line (our own).
-use Rattle.std.specs.Prelude.{◌≡◌, ℕ, List, Bool, true, false, codes, Option, None, Some, option_map, if◌then◌else◌}
+use Rattle.std.specs.Prelude.{◌≡◌, ◌≢◌, ℕ, List, Bool, true, false, codes, Option, None, Some, option_and_then, option_map, if◌then◌else◌}
 use Rattle.std.specs.Str.{bytes_eq}
 use Rattle.clap.specs.Words.{App, Row, Rule, Text, first_of, matches_of, new_app, new_rule, one_of, with_rule}
 use Rattle.clap.specs.Simple.{on_top}
@@ -57,10 +57,10 @@ rows_among among words = matches_of (line_among among) words
 
 -- ---- what is asked for
 
--- with how the stream is read, what is shown of a message and the names of the files; without one the input is the standard input
+-- with how the stream is read, what is shown of a message and the names of the files; the one without a name is the standard input
 pub record Asked : Type 0 where
   pub command : Command
-  pub templates : List ℕ
+  pub templates : Option (List ℕ)
   pub hex : Bool
   pub mode : Mode
   pub form : Form
@@ -70,7 +70,7 @@ pub record Asked : Type 0 where
 abbrev pub asked_by : Request → Asked
 asked_by r = record {
   command = r.command;
-  templates = r.templates.now;
+  templates = option_map (λ name. name.now) r.templates;
   hex = r.hex;
   mode = r.mode;
   form = r.form;
@@ -86,6 +86,10 @@ command_named word =
     else if bytes_eq word (codes "check") then Some Check
     else if bytes_eq word (codes "canon") then Some Canon
     else None
+
+-- the file of a word; - is none, but the standard input
+abbrev pub file_named : Text → Option Text
+file_named word = if bytes_eq word (codes "-") then None else Some word
 
 -- whether a flag is set
 abbrev pub IsFlag : Option Text → Bool → Type 0
@@ -108,13 +112,16 @@ pub record Finds (rows : List Row) (asked : Asked) : Type 0 where
   pub word : Text
   pub command_word : first_of (codes "command") rows ≡ Some word
   pub command_is : command_named word ≡ Some asked.command
-  pub templates_are : first_of (codes "templates") rows ≡ Some asked.templates
+  pub templates_word : Text
+  pub templates_given : first_of (codes "templates") rows ≡ Some templates_word
+  pub templates_are : file_named templates_word ≡ asked.templates
   pub hex_is : IsFlag (one_of (codes "hex") rows) asked.hex
   pub strict_is : IsFlag (one_of (codes "strict") rows) (is_strict asked.mode.level)
   pub blocks_is : IsFlag (one_of (codes "blocks") rows) (is_blocks asked.mode.framing)
   pub json_is : IsFlag (one_of (codes "json") rows) (is_json asked.form)
   pub explain_is : IsFlag (one_of (codes "explain") rows) asked.explain
-  pub input_is : first_of (codes "input") rows ≡ asked.input
+  pub input_is : option_and_then file_named (first_of (codes "input") rows) ≡ asked.input
+  pub one_is_a_file : asked.templates ≡ None → asked.input ≢ None
 
 -- the words ask for this
 abbrev pub AsksFor : List Text → Asked → Type 0

@@ -1,20 +1,20 @@
 //! What a command line asks for.
 
-ghost use Rattle.std.specs.Prelude.{◌≡◌, None, Some, IfNone, IfOk, IfSome, codes, false, map, option_and_then, option_map};
+ghost use Rattle.std.specs.Prelude.{◌≡◌, None, Some, IfNone, IfOk, codes, false, map, option_and_then, option_map};
 ghost use Rattle.clap.specs.Words.{app_of, first_of, found_of, one_of, rows_of, rule_of};
-ghost use Rattle.fast_request.specs.CommandLine.{AsksFor, Finds, IsFlag, asked_by, bare_app, command_named, command_rule, flag_rule, input_rule, is_blocks, is_json, is_strict, line_among, templates_rule, with_files_lem, with_flags_lem};
+ghost use Rattle.fast_request.specs.CommandLine.{AsksFor, Finds, IsFlag, asked_by, bare_app, command_named, command_rule, file_named, flag_rule, input_rule, is_blocks, is_json, is_strict, line_among, templates_rule, with_files_lem, with_flags_lem};
 
 use clap::error::ErrorKind;
 use clap::{Arg, ArgAction, ArgMatches};
-use fast_command::{Command, Form, Framing, Level, Mode};
+use fast_command::{Command, Form, Framing, Level, Mode, VERSION};
 use std::alloc::{AllocError, Global};
 
 /// What a command line asks for.
 #[derive(Clone, Copy)]
 pub struct Request<'a> {
     pub command: Command,
-    /// The name of the file with the templates.
-    pub templates: &'a str,
+    /// The name of the file with the templates; without one they come from the standard input.
+    pub templates: Option<&'a str>,
     /// Whether the input is hex text, and with it what `canon` writes.
     pub hex: bool,
     /// How the stream is read.
@@ -75,7 +75,7 @@ fn input_word<'a>(alloc: Global) -> Arg<'a>
 {
     Arg::new(alloc, "input")
         .value_name("FILE")
-        .help("The stream; without a name it is standard input")
+        .help("The stream; - or no name is standard input")
 }
 
 /// The word for the file of the templates, which has to be there.
@@ -87,7 +87,7 @@ fn templates_word<'a>(alloc: Global) -> Arg<'a>
         .long("templates")
         .value_name("FILE")
         .required(true)
-        .help("The templates of the stream, a JSON text")
+        .help("The templates of the stream, a JSON text; - is standard input")
 }
 
 /// A flag: a word that is there or is not.
@@ -106,7 +106,7 @@ fn bare_line<'a>(alloc: Global) -> clap::Command<'a>
     ensures { app_of result ≡ bare_app }
 {
     clap::Command::new(alloc, "fastcat")
-        .version("0.1.0")
+        .version(VERSION)
         .about("Reads, checks and canonicalises FAST 1.1 streams")
         .after_help(MORE)
 }
@@ -166,11 +166,29 @@ fn mode_by(strict: bool, blocks: bool) -> Mode
     Mode { level, framing }
 }
 
+/// The name of a file that a word gives; none where the word is that of the standard input.
+fn file_of(word: &str) -> Option<&str>
+    ensures { option_map (λ w. w.now) result ≡ file_named word.now }
+{
+    if word == "-" { None } else { Some(word) }
+}
+
 /// The first value of a word that a parser found.
 fn word_of<'a>(matches: &ArgMatches<'a>, id: &str) -> Option<&'a str>
     ensures { option_map (λ w. w.now) result ≡ first_of id.now (rows_of (found_of matches.now)) }
 {
     matches.get_str(id)
+}
+
+/// The name of the stream's file that a parser found; none where it is the standard input.
+fn input_of<'a>(matches: &ArgMatches<'a>) -> Option<&'a str>
+    ensures { option_map (λ w. w.now) result
+        ≡ option_and_then file_named (first_of (codes "input") (rows_of (found_of matches.now))) }
+{
+    match word_of(matches, "input") {
+        Some(word) => file_of(word),
+        None => None,
+    }
 }
 
 /// Whether a parser found a flag.
@@ -202,23 +220,39 @@ fn form_of(matches: &ArgMatches<'_>) -> Form
     form_by(is_set(matches, "json"))
 }
 
-/// What is asked for by what a parser found; none where a word is not there that has to be.
-fn request_of<'a>(matches: &ArgMatches<'a>) -> Option<Request<'a>>
-    ensures { IfSome result (λ r. Finds (rows_of (found_of matches.now)) (asked_by r)) }
+/// Why a command line that the parser lets through asks for nothing.
+#[derive(Clone, Copy)]
+enum Unasked {
+    /// A word is not there that has to be. (The parser lets no such line through.)
+    Missing,
+    /// The standard input is to be the templates and the stream.
+    InputTwice,
+}
+
+/// What is asked for by what a parser found.
+fn request_of<'a>(matches: &ArgMatches<'a>) -> Result<Request<'a>, Unasked>
+    ensures { IfOk result (λ r. Finds (rows_of (found_of matches.now)) (asked_by r)) }
 {
-    let command = command_of(word_of(matches, "command"));
-    match (command, word_of(matches, "templates")) {
-        (Some(command), Some(templates)) => Some(Request {
-            command,
-            templates,
-            hex: is_set(matches, "hex"),
-            mode: mode_of(matches),
-            form: form_of(matches),
-            explain: is_set(matches, "explain"),
-            input: word_of(matches, "input"),
-        }),
-        (_, _) => None,
+    let Some(command) = command_of(word_of(matches, "command")) else {
+        return Err(Unasked::Missing);
+    };
+    let Some(word) = word_of(matches, "templates") else {
+        return Err(Unasked::Missing);
+    };
+    let templates = file_of(word);
+    let input = input_of(matches);
+    if templates.is_none() && input.is_none() {
+        return Err(Unasked::InputTwice);
     }
+    Ok(Request {
+        command,
+        templates,
+        hex: is_set(matches, "hex"),
+        mode: mode_of(matches),
+        form: form_of(matches),
+        explain: is_set(matches, "explain"),
+        input,
+    })
 }
 
 /// Reads a command line, of which the first word is the program's name.
@@ -228,11 +262,14 @@ pub fn parse_words<'a>(alloc: Global, words: &'a [&'a str]) -> Result<Request<'a
     let mut line = line(alloc)?;
     let matches = line.try_get_matches_from_mut(words)?;
     match request_of(&matches) {
-        Some(request) => Ok(request),
-        // The parser lets no other line through.
-        None => Err(line.error(
+        Ok(request) => Ok(request),
+        Err(Unasked::Missing) => Err(line.error(
             ErrorKind::MissingRequiredArgument,
             "COMMAND and --templates are required",
+        )?),
+        Err(Unasked::InputTwice) => Err(line.error(
+            ErrorKind::ArgumentConflict,
+            "standard input is the templates or the stream, not both: give one of them a FILE",
         )?),
     }
 }

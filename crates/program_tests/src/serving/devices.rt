@@ -2,7 +2,7 @@
 
 ghost use Rattle.std.specs.Prelude.{None};
 
-use fast_host::Source;
+use fast_host::{FileState, Source};
 use fast_io::Counted;
 use std::io::{self, Read, Write};
 
@@ -52,6 +52,11 @@ pub const TEMPLATES: &str = "templates.json";
 
 pub const STREAM: &str = "stream.fast";
 
+/// The names of a folder, and of a file that may not be read.
+pub const FOLDER: &str = "folder";
+
+pub const FORBIDDEN: &str = "forbidden";
+
 /// Two files and a standard input.
 #[derive(Drop)]
 pub struct Shelf<'a> {
@@ -81,6 +86,15 @@ impl<'a> Source for Shelf<'a> {
 
     fn standard(&mut self) -> Counted<Feed<'a>> {
         Counted::new(self.standard)
+    }
+
+    fn look(&self, name: &str) -> FileState {
+        match name {
+            FOLDER => FileState::Folder,
+            FORBIDDEN => FileState::Forbidden,
+            TEMPLATES | STREAM => FileState::Unknown,
+            _ => FileState::Missing,
+        }
     }
 }
 
