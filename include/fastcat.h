@@ -14,6 +14,12 @@
 extern "C" {
 #endif
 
+/* The version of this header, as a text and as a number (10,000 for each major version, 100 for each minor one, 1 for each
+ * patch), and that of the library. */
+#define FASTCAT_VERSION "0.1.0"
+#define FASTCAT_VERSION_NUMBER 100
+uint32_t fastcat_version(void);
+
 /* How a stream is read: the sum of these. A mode with any other bit is refused. */
 enum {
   /* Refuse entities that are longer than they need to be, and map bits that no instruction asked for (R6 to R9). */
@@ -29,7 +35,7 @@ enum fastcat_status {
   FASTCAT_STREAM_REFUSED = 1,
   /* The templates are refused: cause, template and instruction say why and where. */
   FASTCAT_TEMPLATES_REFUSED = 2,
-  /* What is to be written is more than the room, which is as it was. */
+  /* What is to be written is more than the room, which is as it was: written says how many bytes it is. */
   FASTCAT_ROOM_TOO_SHORT = 3,
   /* Memory was refused. The room is as it was. */
   FASTCAT_NO_MEMORY = 4,
@@ -77,7 +83,7 @@ enum fastcat_cause {
 struct fastcat_answer {
   uint64_t messages;    /* the messages of the stream, or of a refused one those before its fault */
   uint64_t read;        /* the bytes of a stream that was read to its end */
-  uint64_t written;     /* the bytes that were put into the room's front; of fastcat_check the canonical bytes */
+  uint64_t written;     /* the bytes that were put into the room's front, or are needed; of fastcat_check the canonical bytes */
   uint64_t message;     /* the message at which the stream is refused, from 1 */
   uint64_t offset;      /* how many bytes of the stream stand before the piece that is refused */
   uint32_t status;      /* enum fastcat_status, which the call also returns */
@@ -97,7 +103,7 @@ uint32_t fastcat_check(const uint8_t *templates, size_t templates_length, uint32
                        size_t stream_length, struct fastcat_answer *answer);
 
 /* Puts a line of text for each message of a stream into the front of the room, as fastcat_canon does its bytes. No
- * length is known to be enough: where the room is too short, try again with a longer one. */
+ * length is known to be enough: where the room is too short, try again with one of as many bytes as it says. */
 uint32_t fastcat_show(const uint8_t *templates, size_t templates_length, uint32_t mode, const uint8_t *stream,
                       size_t stream_length, uint8_t *room, size_t room_length, struct fastcat_answer *answer);
 

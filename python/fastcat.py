@@ -63,7 +63,8 @@ class Answer:
     """What a call answers. What it says nothing of is 0.
 
     `messages`, of a refused stream those before the fault; `read`, the bytes of a stream that was read to its end;
-    `written`, the bytes that were written, of a check the canonical bytes. Where a stream is refused: `message`, from 1,
+    `written`, the bytes that were written, of a check the canonical bytes, of a room that is too short those that are
+    needed. Where a stream is refused: `message`, from 1,
     `offset`, the bytes before the piece that is refused, `template`, its identifier, and `instruction`. Where templates
     are: `template`, the place in the list, from 1, and `instruction`.
     """
@@ -85,7 +86,10 @@ class FastcatError(Exception):
     def __init__(self, answer: Answer, written: bytes = b""):
         self.answer = answer
         self.written = written
-        super().__init__(answer, written)
+        super().__init__(answer)
+
+    def __reduce__(self):
+        return type(self), (self.answer, self.written)
 
     def __str__(self):
         answer = self.answer
@@ -127,6 +131,7 @@ def _load():
         (library.fastcat_check, slice_in + [ctypes.c_uint32] + slice_in + answer),
         (library.fastcat_show, slice_in + [ctypes.c_uint32] + slice_in + room + answer),
         (library.fastcat_templates, slice_in + answer),
+        (library.fastcat_version, []),
     ):
         function.argtypes = arguments
         function.restype = ctypes.c_uint32
@@ -134,6 +139,14 @@ def _load():
 
 
 _library = _load()
+
+
+def _version() -> str:
+    number = _library.fastcat_version()
+    return f"{number // 10_000}.{number // 100 % 100}.{number % 100}"
+
+
+__version__ = _version()
 
 
 def _call(function, *arguments) -> Answer:
@@ -145,8 +158,18 @@ def _call(function, *arguments) -> Answer:
     return Answer(**values)
 
 
-def _bytes(data) -> bytes:
-    return data.encode() if isinstance(data, str) else bytes(data)
+def _text(templates) -> bytes:
+    """The text of templates: given as `str` or bytes, or in a file that an `os.PathLike` names."""
+    if isinstance(templates, os.PathLike):
+        return pathlib.Path(templates).read_bytes()
+    return templates.encode() if isinstance(templates, str) else _bytes("templates", templates)
+
+
+def _bytes(what, data) -> bytes:
+    # bytes(5) would be five zeros, and a text has no bytes before it is encoded.
+    if isinstance(data, (str, int)):
+        raise TypeError(f"{what}: bytes are wanted, not {type(data).__name__}; of hex text bytes.fromhex makes them")
+    return bytes(data)
 
 
 def _mode(strict: bool, blocks: bool) -> int:
@@ -154,14 +177,14 @@ def _mode(strict: bool, blocks: bool) -> int:
 
 
 def _write(function, templates, stream, strict, blocks) -> bytes:
-    text, data = _bytes(templates), _bytes(stream)
+    text, data = _text(templates), _bytes("stream", stream)
     length = max(len(data), 64)
     while True:
         room = ctypes.create_string_buffer(length)
         answer = _call(function, text, len(text), _mode(strict, blocks), data, len(data), room, length)
         if answer.status is not Status.ROOM_TOO_SHORT:
             break
-        length *= 4
+        length = answer.written
     written = ctypes.string_at(room, answer.written)
     if answer.status is not Status.DONE:
         raise FastcatError(answer, written)
@@ -169,7 +192,7 @@ def _write(function, templates, stream, strict, blocks) -> bytes:
 
 
 def canon(templates, stream, strict: bool = False, blocks: bool = False) -> bytes:
-    """The canonical bytes of a stream. `templates` is a JSON text, as `str` or bytes."""
+    """The canonical bytes of a stream. `templates` is a JSON text, as `str` or bytes, or a file, as `os.PathLike`."""
     return _write(_library.fastcat_canon, templates, stream, strict, blocks)
 
 
@@ -180,7 +203,7 @@ def show(templates, stream, strict: bool = False, blocks: bool = False) -> str:
 
 def check(templates, stream, strict: bool = False, blocks: bool = False) -> Answer:
     """How many messages and bytes a stream has, and in `written` how many canonical bytes."""
-    text, data = _bytes(templates), _bytes(stream)
+    text, data = _text(templates), _bytes("stream", stream)
     answer = _call(_library.fastcat_check, text, len(text), _mode(strict, blocks), data, len(data))
     if answer.status is not Status.DONE:
         raise FastcatError(answer)
@@ -189,7 +212,7 @@ def check(templates, stream, strict: bool = False, blocks: bool = False) -> Answ
 
 def check_templates(templates) -> None:
     """Returns where a template text has templates, and raises where it is refused."""
-    text = _bytes(templates)
+    text = _text(templates)
     answer = _call(_library.fastcat_templates, text, len(text))
     if answer.status is not Status.DONE:
         raise FastcatError(answer)

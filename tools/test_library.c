@@ -58,7 +58,7 @@ static void streams(void) {
   expect(canon(spelled_out, sizeof spelled_out, 0, sizeof room, &a) == FASTCAT_DONE && says(&a, 0, 2, 16, 11, 0, 0, 0, 0, 0) &&
              holds(canonical, 11), "canon of two messages");
   expect(canon(spelled_out, sizeof spelled_out, 0, 11, &a) == FASTCAT_DONE && holds(canonical, 11), "a room that is just enough");
-  expect(canon(spelled_out, sizeof spelled_out, 0, 10, &a) == FASTCAT_ROOM_TOO_SHORT && says(&a, 3, 0, 0, 0, 0, 0, 0, 0, 0) &&
+  expect(canon(spelled_out, sizeof spelled_out, 0, 10, &a) == FASTCAT_ROOM_TOO_SHORT && says(&a, 3, 0, 0, 11, 0, 0, 0, 0, 0) &&
              holds("", 0), "a room that is one byte too short");
   expect(canon(overlong, sizeof overlong, 0, sizeof room, &a) == FASTCAT_DONE && says(&a, 0, 1, 9, 8, 0, 0, 0, 0, 0) &&
              holds(one, 8), "an overlong integer");
@@ -66,7 +66,8 @@ static void streams(void) {
              says(&a, 1, 0, 0, 0, FASTCAT_R6, 1, 2, 1, 1) && holds("", 0), "an overlong integer at the strict level");
   expect(canon(cut, sizeof cut, 0, sizeof room, &a) == FASTCAT_STREAM_REFUSED &&
              says(&a, 1, 1, 0, 8, FASTCAT_TRUNCATED, 2, 9, 1, 3) && holds(one, 8), "a stream that is cut");
-  expect(canon(cut, sizeof cut, 0, 7, &a) == FASTCAT_ROOM_TOO_SHORT && holds("", 0), "a stream that is cut, and a short room");
+  expect(canon(cut, sizeof cut, 0, 7, &a) == FASTCAT_ROOM_TOO_SHORT && says(&a, 3, 0, 0, 8, 0, 0, 0, 0, 0) && holds("", 0),
+         "a stream that is cut, and a short room");
   expect(canon(block, sizeof block, FASTCAT_BLOCKS, sizeof room, &a) == FASTCAT_DONE && says(&a, 0, 1, 9, 8, 0, 0, 0, 0, 0) &&
              holds(one, 8), "a block");
   expect(canon(block, sizeof block, FASTCAT_BLOCKS | FASTCAT_STRICT, sizeof room, &a) == FASTCAT_DONE && holds(one, 8),

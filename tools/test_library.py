@@ -3,6 +3,7 @@ and of the files of examples/."""
 
 import os
 import pathlib
+import pickle
 import resource
 import sys
 import threading
@@ -56,6 +57,21 @@ class Examples(unittest.TestCase):
         self.assertEqual(fastcat.canon(WORKED.encode(), bytearray(ONE)), ONE)
         self.assertIsNone(fastcat.check_templates(WORKED.encode()))
 
+    def test_templates_of_a_file(self):
+        self.assertEqual(fastcat.canon(EXAMPLES / "worked.json", ONE), ONE)
+        self.assertIsNone(fastcat.check_templates(EXAMPLES / "worked.json"))
+
+    def test_what_is_no_bytes(self):
+        for stream in ("f081", 5):
+            for call in (fastcat.canon, fastcat.check, fastcat.show):
+                with self.subTest(stream=stream), self.assertRaisesRegex(TypeError, "^stream: bytes are wanted"):
+                    call(WORKED, stream)
+        with self.assertRaisesRegex(TypeError, "^templates: bytes are wanted"):
+            fastcat.check_templates(5)
+
+    def test_version(self):
+        self.assertEqual(fastcat.__version__, "0.1.0")
+
 
 class Refusals(unittest.TestCase):
     def refusal(self, call, *arguments, **named):
@@ -74,6 +90,10 @@ class Refusals(unittest.TestCase):
         error = self.refusal(fastcat.canon, WORKED, ONE + b"\x80")
         self.assertEqual(str(error), "refused Truncated message=2 offset=9 template=1 instruction=3")
         self.assertEqual((error.written, error.answer.messages), (ONE, 1))
+        self.assertNotIn("written=b", repr(error))
+        self.assertNotIn("\\x", repr(error))
+        copied = pickle.loads(pickle.dumps(error))
+        self.assertEqual((copied.written, copied.answer), (error.written, error.answer))
         error = self.refusal(fastcat.show, WORKED, ONE + b"\x80")
         self.assertEqual(error.written, b'1 Quote Seq=1 Sym="AB" Px=100e-2 Qty=-\n')
 

@@ -4,7 +4,7 @@ ghost use Rattle.std.specs.Prelude.{◌≡◌, ◌≢◌, ◌≤◌, length};
 ghost use Rattle.fast_slices.specs.Answers.{answer_of};
 ghost use Rattle.fast_slices.specs.Calls.{Canons, Checks, ChecksText, Done, Shows};
 
-use fast_slices::{Answer, answer_of, canon, check_stream, check_templates, show};
+use fast_slices::{Answer, VERSION_NUMBER, answer_of, canon, check_stream, check_templates, show};
 use std::alloc::Global;
 
 /// Writes the canonical bytes of a stream into the front of a room, and answers the status. A room of as many bytes as
@@ -67,4 +67,12 @@ pub extern "C" fn fastcat_templates(alloc: Global, templates: &[u8], answer: &mu
 {
     *answer = answer_of(check_templates(alloc, templates));
     answer.status
+}
+
+/// The version of the library: 10,000 for each major version, 100 for each minor one, 1 for each patch.
+#[unsafe(no_mangle)]
+pub extern "C" fn fastcat_version() -> u32
+    ensures { result ≡ 100 }
+{
+    VERSION_NUMBER
 }

@@ -6,5 +6,5 @@
 
 mod exports;
 
-pub use exports::{fastcat_canon, fastcat_check, fastcat_show, fastcat_templates};
+pub use exports::{fastcat_canon, fastcat_check, fastcat_show, fastcat_templates, fastcat_version};
 pub use fast_slices::{Answer, Refusal};

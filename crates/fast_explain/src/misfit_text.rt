@@ -8,7 +8,7 @@ use strsim::levenshtein;
 /// Words that lie farther off than this are not named.
 const FAR: usize = 3;
 
-/// Of these words the one that is nearest to another, if it is near.
+/// Of these words the one that is nearest to another, if it is near; one that differs in case alone is the nearest.
 fn nearest<'a, I: Iterator<Item = &'a str>>(
     alloc: Global,
     word: &str,
@@ -17,7 +17,11 @@ fn nearest<'a, I: Iterator<Item = &'a str>>(
     let mut least = FAR.saturating_add(1).min(word.len());
     let mut found = None;
     for other in words {
-        let distance = levenshtein(alloc, word, other)?;
+        let distance = if word.eq_ignore_ascii_case(other) {
+            0
+        } else {
+            levenshtein(alloc, word, other)?
+        };
         if distance < least {
             least = distance;
             found = Some(other);

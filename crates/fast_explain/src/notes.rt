@@ -94,7 +94,7 @@ impl Notes {
     }
 
     /// Which of two inputs is at hand.
-    pub fn at_hand<T>(&self, templates: T, stream: T) -> T {
+    pub fn at_hand<T: Copy>(&self, templates: T, stream: T) -> T {
         match self.reading {
             Reading::Templates => templates,
             Reading::Stream => stream,

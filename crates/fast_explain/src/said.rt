@@ -2,30 +2,34 @@
 
 use crate::hex_text::Stray;
 use crate::json::{Look, NoJson};
+use crate::looks::StreamLook;
 use crate::meaning::{meaning_of, rule_of};
 use crate::notes::{Notes, Reading};
-use fast_host::Refusal;
-use fast_stream::{Cause, Fault};
+use crate::place::LineColumn;
+use fast_host::{FileState, Refusal};
+use fast_stream::{Cause, Fault, Framing};
 use fast_written::{LoadCause, LoadFault};
 use std::alloc::{AllocError, Global};
 
 /// The names of the files that a command line gives.
 #[derive(Clone, Copy)]
 pub struct Files<'a> {
-    pub templates: &'a str,
-    /// None: the stream is the standard input.
+    /// None: the templates come from the standard input.
+    pub templates: Option<&'a str>,
+    /// None: the stream does.
     pub stream: Option<&'a str>,
 }
 
 /// The input at hand, as it is called in a sentence.
 fn input_text(alloc: Global, files: Files<'_>, reading: Reading) -> Result<String, AllocError> {
-    match (reading, files.stream) {
-        (Reading::Templates, _) => {
-            let name = files.templates;
+    match (reading, files.templates, files.stream) {
+        (Reading::Templates, Some(name), _) => {
             format!(in alloc; "the templates' file {name:?}")
         }
-        (Reading::Stream, Some(name)) => format!(in alloc; "the stream's file {name:?}"),
-        (Reading::Stream, None) => String::from_str(alloc, "the standard input"),
+        (Reading::Stream, _, Some(name)) => format!(in alloc; "the stream's file {name:?}"),
+        (Reading::Templates, None, _) | (Reading::Stream, _, None) => {
+            String::from_str(alloc, "the standard input")
+        }
     }
 }
 
@@ -80,31 +84,59 @@ fn quoted(alloc: Global, name: Option<&String>) -> Result<String, AllocError> {
     }
 }
 
+/// Where an object stands, behind a comma, where that is known.
+fn line_text(alloc: Global, place: Option<LineColumn>) -> Result<String, AllocError> {
+    match place {
+        Some(LineColumn { line, column }) => format!(in alloc; ", line {line} column {column}"),
+        None => Ok(String::new(alloc)),
+    }
+}
+
 /// Where and why templates are refused whose text is JSON.
 fn load_text(alloc: Global, notes: &Notes, fault: LoadFault) -> Result<String, AllocError> {
-    let rule = rule_of(fault);
+    let why = match &notes.text.misfit {
+        Some(misfit) => misfit.as_str(),
+        None => rule_of(fault),
+    };
     let template = fault.template;
-    let name = quoted(alloc, notes.names.template.as_ref())?;
+    let name = quoted(alloc, notes.text.names.template.as_ref())?;
+    let line = line_text(alloc, notes.text.place)?;
     if fault.instruction == 0 {
-        return format!(in alloc; "explain: template {template}{name}: {rule}\n");
+        return format!(in alloc; "explain: template {template}{name}{line}: {why}\n");
     }
     let instruction = fault.instruction;
-    let field = quoted(alloc, notes.names.instruction.as_ref())?;
+    let field = quoted(alloc, notes.text.names.instruction.as_ref())?;
     format!(in alloc;
-        "explain: template {template}{name}, instruction {instruction}{field}: {rule}\n"
+        "explain: template {template}{name}, instruction {instruction}{field}{line}: {why}\n"
     )
+}
+
+/// What is wrong with the object that a template text is.
+fn top_text(alloc: Global, input: &str, notes: &Notes) -> Result<String, AllocError> {
+    match &notes.text.misfit {
+        Some(misfit) => {
+            let misfit = misfit.as_str();
+            format!(in alloc; "explain: {input}: {misfit}\n")
+        }
+        None => format!(in alloc;
+            "explain: {input} is no object with \"templates\", an array, perhaps \"dictionary\", a name, and no other key\n"
+        ),
+    }
 }
 
 /// Where and why templates are refused.
 fn templates_text(alloc: Global, input: &str, notes: &Notes) -> Result<String, AllocError> {
-    match (notes.no_json, notes.load) {
+    if let Some(LineColumn { line, column }) = notes.text.no_text {
+        return format!(in alloc;
+            "explain: {input} is not UTF-8 from line {line} column {column} on; save it as UTF-8\n"
+        );
+    }
+    match (notes.text.no_json, notes.load) {
         (Some(no_json), _) => no_json_text(alloc, input, no_json),
         (None, Some(fault)) if fault.template > 0 || fault.cause != LoadCause::S1 => {
             load_text(alloc, notes, fault)
         }
-        (None, _) => format!(in alloc;
-            "explain: {input} is no object with \"templates\", an array, perhaps \"dictionary\", a name, and no other key\n"
-        ),
+        (None, _) => top_text(alloc, input, notes),
     }
 }
 
@@ -138,6 +170,41 @@ fn why_text(alloc: Global, notes: &Notes, fault: Fault) -> Result<String, AllocE
     }
 }
 
+/// In how many of the first messages a stream is mostly refused that is read in another framing than its own.
+const FIRST_MESSAGES: u64 = 3;
+
+/// What else a stream may be that is refused so soon.
+fn framing_text(framing: Framing, fault: Fault) -> &'static str {
+    let is_early = fault.place.message <= FIRST_MESSAGES;
+    match (framing, fault.cause) {
+        (Framing::Plain, Cause::D5 | Cause::D9 | Cause::Truncated) if is_early => {
+            "explain: if the stream is in blocks, each behind its size, give --blocks; if other bytes stand before each message, take them out\n"
+        }
+        (Framing::Blocks, Cause::D5 | Cause::D9 | Cause::Truncated) if is_early => {
+            "explain: if the stream has no blocks, leave out --blocks; if other bytes stand before each block, take them out\n"
+        }
+        _ => "",
+    }
+}
+
+/// What the first bytes of a stream say of it.
+fn stream_look_text(alloc: Global, input: &str, look: StreamLook) -> Result<String, AllocError> {
+    match look {
+        StreamLook::Hex => format!(in alloc;
+            "explain: {input} begins with hex digits alone; for hex text give --hex\n"
+        ),
+        StreamLook::Pcap => format!(in alloc;
+            "explain: {input} is a capture file (pcap); take the streams out of its packets first\n"
+        ),
+        StreamLook::Pcapng => format!(in alloc;
+            "explain: {input} is a capture file (pcapng); take the streams out of its packets first\n"
+        ),
+        StreamLook::Gzip => format!(in alloc;
+            "explain: {input} is compressed (gzip); give what gzip -dc writes of it\n"
+        ),
+    }
+}
+
 /// Where and why a stream is refused.
 fn stream_text(alloc: Global, input: &str, notes: &Notes) -> Result<String, AllocError> {
     let Some(fault) = notes.fault else {
@@ -145,13 +212,11 @@ fn stream_text(alloc: Global, input: &str, notes: &Notes) -> Result<String, Allo
     };
     let place = place_text(alloc, notes, fault)?;
     let why = why_text(alloc, notes, fault)?;
-    if notes.looks_like_hex {
-        format!(in alloc;
-            "explain: {place}: {why}\nexplain: {input} begins with hex digits alone; for hex text give --hex\n"
-        )
-    } else {
-        format!(in alloc; "explain: {place}: {why}\n")
-    }
+    let more = match notes.look {
+        Some(look) => stream_look_text(alloc, input, look)?,
+        None => String::from_str(alloc, framing_text(notes.framing, fault))?,
+    };
+    format!(in alloc; "explain: {place}: {why}\n{more}")
 }
 
 /// Where a run stopped that met a fault of the machine: behind a sentence's last word.
@@ -162,6 +227,16 @@ fn stopped_text(alloc: Global, notes: &Notes) -> Result<String, AllocError> {
             format!(in alloc; " in message {message}")
         }
         None => Ok(String::new(alloc)),
+    }
+}
+
+// Why a file cannot be opened or read, or what to see to where that is not known.
+fn file_text(state: FileState, unknown: &'static str) -> &'static str {
+    match state {
+        FileState::Missing => "no file has this name",
+        FileState::Folder => "it is a folder",
+        FileState::Forbidden => "it may not be read by this user",
+        FileState::Unknown => unknown,
     }
 }
 
@@ -186,12 +261,16 @@ fn sentences(
             Some(stray) => stray_text(alloc, input, stray),
             None => Ok(String::new(alloc)),
         },
-        Refusal::Open => format!(in alloc;
-            "explain: {input} cannot be opened; see that it is there, is a file and may be read\n"
-        ),
-        Refusal::Read => format!(in alloc;
-            "explain: {input} cannot be read to its end: a read failed{stopped}\n"
-        ),
+        Refusal::Open => {
+            let why = file_text(notes.file, "see that it is there, is a file and may be read");
+            format!(in alloc; "explain: {input} cannot be opened; {why}\n")
+        }
+        Refusal::Read => {
+            let why = file_text(notes.file, "see that its disk or device is well");
+            format!(in alloc;
+                "explain: {input} cannot be read to its end: a read failed{stopped}; {why}\n"
+            )
+        }
         Refusal::Turns => format!(in alloc;
             "explain: {input} has no end within the reads that are made{stopped}; cut it into shorter ones\n"
         ),

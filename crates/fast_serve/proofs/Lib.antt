@@ -1,3 +1,4 @@
 mod Common
+mod Opened
 mod Sayings
 mod Texts

@@ -189,8 +189,8 @@ PerformsWith asked set inputs turns out_old out_new r =
 -- the templates are refused, and nothing was written; or they are loaded
 abbrev pub PerformsAsked : Asked → Inputs → ℕ → Writer → Writer → Answer → Type 0
 PerformsAsked asked inputs turns out_old out_new r =
-    (IsErrAnd r (RefusesTemplates (inputs.file asked.templates) turns) × (out_new ≡ out_old))
-    ⊎ ((set : TemplateList) × LoadsSet (inputs.file asked.templates) turns set × PerformsWith asked set inputs turns out_old out_new r)
+    (IsErrAnd r (RefusesTemplates (input_of inputs asked.templates) turns) × (out_new ≡ out_old))
+    ⊎ ((set : TemplateList) × LoadsSet (input_of inputs asked.templates) turns set × PerformsWith asked set inputs turns out_old out_new r)
 
 -- the command line is refused, and this was left untouched; or it asks for something
 abbrev pub Performs : List (List ℕ) → Inputs → ℕ → Type 0 → Writer → Writer → Answer → Type 0

@@ -1,9 +1,9 @@
 //! The program as a call: from a command line, files and streams to the exit status.
 
-ghost use Rattle.std.specs.Prelude.{◌≡◌, ◌≢◌, ◌≤◌, ◌⊎◌, ◌^◌, ◌++◌, ℕ, List, None, Ok, Err, IfErr, IfOk, map, string_bytes};
+ghost use Rattle.std.specs.Prelude.{◌≡◌, ◌≢◌, ◌≤◌, ◌⊎◌, ◌^◌, ◌++◌, ℕ, List, None, Ok, Err, IfErr, IfOk, map, option_map, string_bytes};
 ghost use Rattle.fast_decoder.specs.Inputs.{Reader, reader_by};
 ghost use Rattle.fast_template.specs.TemplateSets.{TemplateList};
-ghost use Rattle.fast_host.specs.Devices.{inputs_by, writer_by};
+ghost use Rattle.fast_host.specs.Devices.{input_of, inputs_by, writer_by};
 ghost use Rattle.fast_host.specs.Refusals.{status_of, text_of};
 ghost use Rattle.fast_request.specs.CommandLine.{asked_by};
 ghost use Rattle.fast_serve.specs.Served.{CanonInHex, LoadsSet, Performs, PerformsAsked, PerformsHexText, PerformsInHex, PerformsOver, PerformsWith, ReadsHex, RefusesHex, RefusesTemplates, RunsPlain, Says, SaysAsked, SaysText, WritesHex, status_after};
@@ -44,22 +44,27 @@ fn read_templates<I: ByteInput>(
     }
 }
 
-/// The templates of a file.
+/// The templates of a file, or of the standard input.
 fn load<S: Source>(
     alloc: Global,
-    name: &str,
+    name: Option<&str>,
     source: &mut S,
     turns: u64,
     notes: &mut Notes,
 ) -> Result<TemplateSet, Refusal>
-    ensures ok { IfOk result (λ set. LoadsSet (S.file source.old name.now) turns set) }
-    ensures refused { IfErr result (RefusesTemplates (S.file source.old name.now) turns) }
+    ensures ok { IfOk result (λ set. LoadsSet
+        (input_of (inputs_by S.file S.input source.old) (option_map (λ n. n.now) name)) turns set) }
+    ensures refused { IfErr result (RefusesTemplates
+        (input_of (inputs_by S.file S.input source.old) (option_map (λ n. n.now) name)) turns) }
     ensures files { S.file source.new ≡ S.file source.old }
-    ensures input { S.input source.new ≡ S.input source.old }
+    ensures input { option_map (λ n. n.now) name ≢ None → S.input source.new ≡ S.input source.old }
 {
-    match source.open(name) {
-        None => Err(Refusal::Open),
-        Some(mut file) => read_templates(alloc, &mut file, turns, notes),
+    match name {
+        None => read_templates(alloc, &mut source.standard(), turns, notes),
+        Some(name) => match source.open(name) {
+            None => Err(Refusal::Open),
+            Some(mut file) => read_templates(alloc, &mut file, turns, notes),
+        },
     }
 }
 
@@ -311,6 +316,7 @@ fn perform_asked<S: Source, O: ByteOutput>(
     notes: &mut Notes,
 ) -> Result<(), Refusal>
     requires turns { turns ≤ 2 ^ 40 }
+    requires one_is_a_file { (asked_by request.entry).templates ≡ None → (asked_by request.entry).input ≢ None }
     ensures { PerformsAsked (asked_by request.entry) (inputs_by S.file S.input source.old) turns
         (writer_by O.taken O.errors O.flushes out.old)
         (writer_by O.taken O.errors O.flushes out.new) result }
@@ -376,6 +382,21 @@ fn report_asked<E: ByteOutput>(
     }
 }
 
+/// Notes what a look at the file at hand finds, where it could not be opened or read and that is to be explained.
+fn look_at_file<S: Source>(
+    request: Request<'_>,
+    refusal: &Refusal,
+    source: &S,
+    notes: &mut Notes,
+) {
+    if request.explain
+        && matches!(refusal, Refusal::Open | Refusal::Read)
+        && let Some(name) = notes.at_hand(request.templates, request.input)
+    {
+        notes.file_looked_at(source.look(name));
+    }
+}
+
 /// Does what is asked, and says why not.
 fn serve_request<S: Source, O: ByteOutput, E: ByteOutput>(
     alloc: Global,
@@ -386,6 +407,7 @@ fn serve_request<S: Source, O: ByteOutput, E: ByteOutput>(
     turns: u64,
 ) -> u8
     requires turns { turns ≤ 2 ^ 40 }
+    requires one_is_a_file { (asked_by request.entry).templates ≡ None → (asked_by request.entry).input ≢ None }
     ensures status { result ≤ 3 }
     ensures quiet { result ≡ 0 → err.new ≡ err.old }
     ensures performed { (r : _) × (result ≡ status_after r)
@@ -395,10 +417,13 @@ fn serve_request<S: Source, O: ByteOutput, E: ByteOutput>(
         × Says request.entry.explain (writer_by E.taken E.errors E.flushes err.old)
         (writer_by E.taken E.errors E.flushes err.new) r }
 {
-    let mut notes = Notes::new(request.explain);
+    let mut notes = Notes::new(request.explain, request.mode.framing);
     match perform_asked(alloc, request, source, out, turns, &mut notes) {
         Ok(()) => 0,
-        Err(refusal) => report_asked(alloc, request, &refusal, &notes, err),
+        Err(refusal) => {
+            look_at_file(request, &refusal, source, &mut notes);
+            report_asked(alloc, request, &refusal, &notes, err)
+        }
     }
 }
 

@@ -1,5 +1,5 @@
 -- What was read of a stream in memory, and what its run wrote.
-use Rattle.std.proofs.Common.{◌≡◌, ◌≢◌, ◌<◌, ◌≤◌, ◌^◌, ℕ, List, [], ◌∷◌, ◌++◌, length, Option, Some, Result, Ok, Err, refl, sym, ap, subst, ◌∙◌, arith, append-nil, length-append, inl, inr}
+use Rattle.std.proofs.Common.{◌≡◌, ◌≢◌, ◌<◌, ◌≤◌, ◌^◌, ℕ, List, [], ◌∷◌, ◌++◌, length, Option, None, Some, Result, Ok, Err, refl, sym, ap, subst, ◌∙◌, arith, append-nil, length-append, inl, inr}
 use Rattle.std.specs.Io.KnownBytes.{IsAtEnd}
 use Rattle.fast_io.specs.Counts.{counted, counted_by}
 use Rattle.fast_wire.specs.Reader.{IsBytes}
@@ -25,9 +25,13 @@ use Rattle.fast_pass.specs.declared.fault.CanonFault.{CanonFault}
 use Rattle.fast_pass.specs.declared.summary.Summary.{Summary}
 use Rattle.fast_pass.proofs.Relayings.{carried_more, summary_by}
 use Rattle.fast_canon.proofs.CanonicalBytes.{no_longer}
+use Rattle.fast_command.specs.Run.{LinesOf, Runs}
+use Rattle.fast_command.specs.declared.command.Command.{Command}
+use Rattle.fast_command.specs.declared.command.Command.TheVariants.{Show, Check, Canon}
+use Rattle.fast_lines.specs.declared.form.Form.TheVariants.{Text}
 use Rattle.fast_slices.specs.declared.answer.Refusal.{Refusal}
 use Rattle.fast_slices.specs.Answers.{answer_of}
-use Rattle.fast_slices.specs.Calls.{Canons, Counts, Done, IsRefused, Overflows, RefusesCall, Settles, Writes}
+use Rattle.fast_slices.specs.Calls.{Canons, Counts, Done, IsRefused, Measures, Needs, Overflows, RefusesCall, Settles, Writes}
 
 -- ---- why a stream is refused
 
@@ -101,9 +105,42 @@ has_run set stream ran UsedUp old new Passed input rest sound fits few parts cau
 abbrev pub HasWritten : Making → Mode → TemplateList → List ℕ → List ℕ → Result Summary CanonFault → Type 0
 HasWritten makes mode set stream bytes ran = HasRun set stream ran (λ input rest. Passes makes mode (templates_in set) (2 ^ 40) (Some rest) (Some []) (Some bytes) input ran)
 
+-- how much is written of a stream that was read to its end
+needs_all : (makes : Making) (mode : Mode) (set : TemplateList) (stream : List ℕ) (summary : Summary) → HasRun set stream (Ok summary) (λ input rest. Passes makes mode (templates_in set) (2 ^ 40) (Some rest) None None input (Ok summary))
+    → Needs makes mode (templates_in set) stream summary.written
+needs_all makes mode set stream summary h =
+    let p = h.passes in
+    let all : stream ≡ h.input = h.parts ∙ ap (λ (xs : List ℕ). h.input ++ xs) p.ends.ended ∙ append-nil h.input in
+    inl (p.messages, p.out, subst (λ (xs : List ℕ). Carries mode (templates_in set) xs p.messages) (sym all) p.ends.carried, p.made, ap (λ (x : Summary). x.written) p.counts)
+
+-- of one that is refused it is not said
+needs_refused : (makes : Making) (mode : Mode) (set : TemplateList) (stream : List ℕ) (fault : Fault) (needed : ℕ) → fault.cause ≢ Cause.Memory
+    → HasRun set stream (Err (CanonFault.Stream fault)) (λ input rest. Passes makes mode (templates_in set) (2 ^ 40) (Some rest) None None input (Err (CanonFault.Stream fault)))
+    → Needs makes mode (templates_in set) stream needed
+needs_refused makes mode set stream fault needed memory h =
+    let p = h.passes in
+    inr (p.messages, fault, refused fault mode set (2 ^ 40) stream h.input h.rest p.messages h.sound h.fits h.parts h.few p.refuses memory (h.no_error fault refl))
+
+-- what a command wrote that nobody kept
+abbrev pub HasMeasured : Command → Mode → TemplateList → List ℕ → Result Summary CanonFault → Type 0
+HasMeasured command mode set stream ran = HasRun set stream ran (λ input rest. (length input < 2 ^ 40) × Runs command mode Text set (2 ^ 40) (Some rest) None None input ran)
+
+with_passes : (set : TemplateList) (stream : List ℕ) (ran : Result Summary CanonFault) (P Q : List ℕ → List ℕ → Type 0) → ((input rest : List ℕ) → P input rest → Q input rest) → HasRun set stream ran P → HasRun set stream ran Q
+with_passes set stream ran P Q f h = record { input = h.input; rest = h.rest; sound = h.sound; fits = h.fits; few = h.few; parts = h.parts; no_error = h.no_error; passes = f h.input h.rest h.passes }
+
+pub measured : (command : Command) (mode : Mode) (set : TemplateList) (stream : List ℕ) (summary : Summary) → HasMeasured command mode set stream (Ok summary) → Measures command mode set stream (Refusal.Room summary.written)
+measured Show mode set stream summary h = needs_all (LinesOf Text set) mode set stream summary (with_passes set stream (Ok summary) _ _ (λ input rest x. x.1) h)
+measured Canon mode set stream summary h = needs_all IsCanonical mode set stream summary (with_passes set stream (Ok summary) _ _ (λ input rest x. as_passes mode (templates_in set) (2 ^ 40) (Some rest) None None input (Ok summary) x.0 x.1) h)
+measured Check mode set stream summary h = tt
+
+pub not_measured : (command : Command) (mode : Mode) (set : TemplateList) (stream : List ℕ) (fault : Fault) (needed : ℕ) → fault.cause ≢ Cause.Memory → HasMeasured command mode set stream (Err (CanonFault.Stream fault)) → Measures command mode set stream (Refusal.Room needed)
+not_measured Show mode set stream fault needed memory h = needs_refused (LinesOf Text set) mode set stream fault needed memory (with_passes set stream (Err (CanonFault.Stream fault)) _ _ (λ input rest x. x.1) h)
+not_measured Canon mode set stream fault needed memory h = needs_refused IsCanonical mode set stream fault needed memory (with_passes set stream (Err (CanonFault.Stream fault)) _ _ (λ input rest x. x.1) h)
+not_measured Check mode set stream fault needed memory h = tt
+
 broken : (makes : Making) (mode : Mode) (set : TemplateList) (stream bytes old new input rest : List ℕ) → stream ≡ input ++ rest → PassesFront makes mode (templates_in set) (Some []) (Some bytes) input → length old < length bytes → new ≡ old
-    → Overflows makes mode (templates_in set) stream old new
-broken makes mode set stream bytes old new input rest parts p longer same =
+    → (needed : ℕ) → Needs makes mode (templates_in set) stream needed → Overflows makes mode (templates_in set) stream old new needed
+broken makes mode set stream bytes old new input rest parts p longer same needed needs =
     let sum = length-append p.front p.rest in
     let size = ap (λ (xs : List ℕ). length xs) p.written in record {
       messages = p.messages;
@@ -112,11 +149,12 @@ broken makes mode set stream bytes old new input rest parts p longer same =
       made = p.made;
       longer = omega (arith, longer, size, sum);
       same = same;
+      needs = needs;
     }
 
-overflows : (makes : Making) (mode : Mode) (set : TemplateList) (stream bytes old new : List ℕ) (ran : Result Summary CanonFault) → HasWritten makes mode set stream bytes ran → length old < length bytes → new ≡ old
-    → Overflows makes mode (templates_in set) stream old new
-overflows makes mode set stream bytes old new (Ok summary) h longer same =
+pub overflows : (makes : Making) (mode : Mode) (set : TemplateList) (stream bytes old new : List ℕ) (ran : Result Summary CanonFault) → HasWritten makes mode set stream bytes ran → length old < length bytes → new ≡ old
+    → (needed : ℕ) → Needs makes mode (templates_in set) stream needed → Overflows makes mode (templates_in set) stream old new needed
+overflows makes mode set stream bytes old new (Ok summary) h longer same needed needs =
     let p = h.passes in record {
       messages = p.messages;
       bytes = p.out;
@@ -124,8 +162,9 @@ overflows makes mode set stream bytes old new (Ok summary) h longer same =
       made = p.made;
       longer = subst (λ (xs : List ℕ). length old < length xs) p.written longer;
       same = same;
+      needs = needs;
     }
-overflows makes mode set stream bytes old new (Err (CanonFault.Stream fault)) h longer same =
+overflows makes mode set stream bytes old new (Err (CanonFault.Stream fault)) h longer same needed needs =
     let p = h.passes in record {
       messages = p.messages;
       bytes = p.out;
@@ -133,9 +172,10 @@ overflows makes mode set stream bytes old new (Err (CanonFault.Stream fault)) h 
       made = p.made;
       longer = subst (λ (xs : List ℕ). length old < length xs) p.written longer;
       same = same;
+      needs = needs;
     }
-overflows makes mode set stream bytes old new (Err CanonFault.Write) h longer same = broken makes mode set stream bytes old new h.input h.rest h.parts h.passes longer same
-overflows makes mode set stream bytes old new (Err CanonFault.Memory) h longer same = broken makes mode set stream bytes old new h.input h.rest h.parts h.passes longer same
+overflows makes mode set stream bytes old new (Err CanonFault.Write) h longer same needed needs = broken makes mode set stream bytes old new h.input h.rest h.parts h.passes longer same needed needs
+overflows makes mode set stream bytes old new (Err CanonFault.Memory) h longer same needed needs = broken makes mode set stream bytes old new h.input h.rest h.parts h.passes longer same needed needs
 
 pub settled : (makes : Making) (mode : Mode) (set : TemplateList) (stream bytes old new : List ℕ) (ran : Result Summary CanonFault) (r : Done) → length bytes < 2 ^ 64 → HasWritten makes mode set stream bytes ran → Settles ran bytes old new r
     → Writes makes mode (templates_in set) stream old new r
@@ -160,7 +200,6 @@ settled makes mode set stream bytes old new ran (Err (Refusal.Stream fault writt
       put = s.3;
       count = s.2;
     }
-settled makes mode set stream bytes old new ran (Err Refusal.Room) room h s = overflows makes mode set stream bytes old new ran h s.0 s.1
 settled makes mode set stream bytes old new ran (Err Refusal.Memory) room h s = s
 settled makes mode set stream bytes old new ran r room h s = absurd s
 
@@ -181,22 +220,21 @@ counted_all mode set stream old new ran (Ok summary) none h s =
 counted_all mode set stream old new ran (Err (Refusal.Stream fault written)) none h s =
     let p = subst (λ (x : Result Summary CanonFault). Checks mode (templates_in set) (2 ^ 40) (Some h.rest) h.input x) s.0 h.passes in
     ((p.messages, refused fault mode set (2 ^ 40) stream h.input h.rest p.messages h.sound h.fits h.parts h.few p.refuses s.1 (h.no_error fault s.0)), s.2)
-counted_all mode set stream old new ran (Err Refusal.Room) none h s = let more = s.0 in absurd (omega (arith, none, more))
 counted_all mode set stream old new ran (Err Refusal.Memory) none h s = tt
 counted_all mode set stream old new ran r none h s = absurd s
 
 -- ---- a room of as many bytes as the stream
 
 -- a call that is refused before its stream is looked at asks for no room
-no_room : (text : List ℕ) (word : ℕ) (stream : List ℕ) → RefusesCall text word stream Refusal.Room → ⊥
-no_room text word stream (inl h) = let e = h.0 in absurd cc
-no_room text word stream (inr (inl h)) = let e = h.0 in absurd cc
-no_room text word stream (inr (inr (some, few, inl e))) = absurd cc
-no_room text word stream (inr (inr (some, few, inr (fault, e, machine, loads)))) = absurd cc
+no_room : (text : List ℕ) (word : ℕ) (stream : List ℕ) (needed : ℕ) → RefusesCall text word stream (Refusal.Room needed) → ⊥
+no_room text word stream needed (inl h) = let e = h.0 in absurd cc
+no_room text word stream needed (inr (inl h)) = let e = h.0 in absurd cc
+no_room text word stream needed (inr (inr (some, few, inl e))) = absurd cc
+no_room text word stream needed (inr (inr (some, few, inr (fault, e, machine, loads)))) = absurd cc
 
 pub room_enough : (text : List ℕ) (word : ℕ) (stream old new : List ℕ) (r : Done) → Canons text word stream old new r → length stream ≤ length old → (answer_of r).status ≢ 3
-room_enough text word stream old new (Err Refusal.Room) (inl h) enough e = absurd (no_room text word stream h.0)
-room_enough text word stream old new (Err Refusal.Room) (inr (set, mode, given, over)) enough e =
+room_enough text word stream old new (Err (Refusal.Room needed)) (inl h) enough e = absurd (no_room text word stream needed h.0)
+room_enough text word stream old new (Err (Refusal.Room needed)) (inr (set, mode, given, over)) enough e =
     let less = no_longer mode set given.sound stream over.bytes over.messages over.carried over.made in
     let longer = over.longer in absurd (omega (arith, less, longer, enough))
 room_enough text word stream old new r h enough e = absurd cc

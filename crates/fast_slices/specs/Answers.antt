@@ -47,13 +47,13 @@ load_cause_number_of LoadCause.Memory = 0
 abbrev pub bare_of : ℕ → Answer
 bare_of status = record { messages = 0; read = 0; written = 0; message = 0; offset = 0; status = status; cause = 0; template = 0; instruction = 0 }
 
--- what C is answered: 0 done, 1 the stream is refused, 2 the templates are, 3 the room is too short, 4 memory was
+-- what C is answered: 0 done, 1 the stream is refused, 2 the templates are, 3 the room is too short for so many bytes, 4 memory was
 -- refused, 5 the mode is unknown, 6 the stream is too long
 abbrev pub answer_of : Result Summary Refusal → Answer
 answer_of (Ok s) = record { messages = s.messages; read = s.read; written = s.written; message = 0; offset = 0; status = 0; cause = 0; template = 0; instruction = 0 }
 answer_of (Err (Refusal.Stream f written)) = record { messages = f.place.message - 1; read = 0; written = written; message = f.place.message; offset = f.place.offset; status = 1; cause = cause_number_of f.cause; template = f.place.template; instruction = f.place.instruction }
 answer_of (Err (Refusal.Templates f)) = record { messages = 0; read = 0; written = 0; message = 0; offset = 0; status = 2; cause = load_cause_number_of f.cause; template = f.template; instruction = f.instruction }
-answer_of (Err Refusal.Room) = bare_of 3
+answer_of (Err (Refusal.Room needed)) = record { messages = 0; read = 0; written = needed; message = 0; offset = 0; status = 3; cause = 0; template = 0; instruction = 0 }
 answer_of (Err Refusal.Memory) = bare_of 4
 answer_of (Err Refusal.Mode) = bare_of 5
 answer_of (Err Refusal.TooLong) = bare_of 6

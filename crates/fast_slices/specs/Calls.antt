@@ -21,6 +21,9 @@ use Rattle.fast_pass.specs.Relays.{Making}
 use Rattle.fast_pass.specs.declared.fault.CanonFault.{CanonFault}
 use Rattle.fast_pass.specs.declared.summary.Summary.{Summary}
 use Rattle.fast_command.specs.Run.{LinesOf}
+use Rattle.fast_command.specs.declared.command.Command.{Command}
+use Rattle.fast_command.specs.declared.command.Command.TheVariants.{Show, Check, Canon}
+use Rattle.fast_io.specs.Counts.{counted_by}
 use Rattle.fast_lines.specs.declared.form.Form.TheVariants.{Text}
 use Rattle.fast_slices.specs.declared.answer.Refusal.{Refusal}
 
@@ -60,7 +63,6 @@ abbrev pub Settles : Result Summary CanonFault → List ℕ → List ℕ → Lis
 Settles ran bytes old new (Ok summary) = (ran ≡ Ok summary) × Puts bytes old new
 Settles ran bytes old new (Err (Refusal.Stream fault written)) =
     (ran ≡ Err (CanonFault.Stream fault)) × (fault.cause ≢ Cause.Memory) × (written ≡ length bytes) × Puts bytes old new
-Settles ran bytes old new (Err Refusal.Room) = (length old < length bytes) × (new ≡ old)
 Settles ran bytes old new (Err Refusal.Memory) = new ≡ old
 Settles ran bytes old new r = ⊥
 
@@ -90,20 +92,36 @@ pub record WritesBefore (makes : Making) (mode : Mode) (set : List Resolved) (st
   pub put : Puts bytes old new
   pub count : written ≡ length bytes
 
+-- So many bytes are made of the messages that the stream carries; or it is refused, and no clause says how many are made of
+-- those before its fault.
+abbrev pub Needs : Making → Mode → List Resolved → List ℕ → ℕ → Type 0
+Needs makes mode set stream needed =
+    ((messages : List Content) × (bytes : List ℕ) × Carries mode set stream messages × makes set messages bytes × (needed ≡ counted_by 0 (length bytes)))
+    ⊎ ((messages : List Content) × (fault : Fault) × IsRefused mode set stream messages fault)
+
+-- how many bytes a command writes of a stream
+abbrev pub Measures : Command → Mode → TemplateList → List ℕ → Refusal → Type 0
+Measures Show mode set stream (Refusal.Room needed) = Needs (LinesOf Text set) mode (templates_in set) stream needed
+Measures Canon mode set stream (Refusal.Room needed) = Needs IsCanonical mode (templates_in set) stream needed
+Measures Check mode set stream (Refusal.Room needed) = Unit {0}
+Measures command mode set stream Refusal.Memory = Unit {0}
+Measures command mode set stream r = ⊥
+
 -- A prefix of the stream carries messages of which more is made than the room holds, and the room stays.
-pub record Overflows (makes : Making) (mode : Mode) (set : List Resolved) (stream old new : List ℕ) : Type 0 where
+pub record Overflows (makes : Making) (mode : Mode) (set : List Resolved) (stream old new : List ℕ) (needed : ℕ) : Type 0 where
   pub messages : List Content
   pub bytes : List ℕ
   pub carried : Carried mode set stream messages
   pub made : makes set messages bytes
   pub longer : length old < length bytes
   pub same : new ≡ old
+  pub needs : Needs makes mode set stream needed
 
 -- what is answered of a stream of which something is written
 abbrev pub Writes : Making → Mode → List Resolved → List ℕ → List ℕ → List ℕ → Done → Type 0
 Writes makes mode set stream old new (Ok summary) = WritesAll makes mode set stream old new summary
 Writes makes mode set stream old new (Err (Refusal.Stream fault written)) = WritesBefore makes mode set stream old new fault written
-Writes makes mode set stream old new (Err Refusal.Room) = Overflows makes mode set stream old new
+Writes makes mode set stream old new (Err (Refusal.Room needed)) = Overflows makes mode set stream old new needed
 Writes makes mode set stream old new (Err Refusal.Memory) = new ≡ old
 Writes makes mode set stream old new r = ⊥
 

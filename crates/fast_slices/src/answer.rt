@@ -14,8 +14,8 @@ pub enum Refusal {
     Stream(Fault, u64),
     /// The templates are refused.
     Templates(LoadFault),
-    /// What is to be written is more than the room.
-    Room,
+    /// What is to be written is more than the room; how many bytes it is.
+    Room(u64),
     /// An allocation was refused.
     Memory,
     /// The mode has a bit that says nothing.
@@ -32,7 +32,8 @@ pub struct Answer {
     pub messages: u64,
     /// The bytes of a stream that was read to its end.
     pub read: u64,
-    /// The bytes that were put into the room, or of a check those that would be.
+    /// The bytes that were put into the room, or of a check those that would be; of a room that is too short those that
+    /// are needed.
     pub written: u64,
     /// The message at which the stream is refused, from 1.
     pub message: u64,
@@ -137,7 +138,10 @@ pub fn answer_of(done: Result<Summary, Refusal>) -> Answer
             instruction: fault.instruction,
             ..bare(2)
         },
-        Err(Refusal::Room) => bare(3),
+        Err(Refusal::Room(needed)) => Answer {
+            written: needed,
+            ..bare(3)
+        },
         Err(Refusal::Memory) => bare(4),
         Err(Refusal::Mode) => bare(5),
         Err(Refusal::TooLong) => bare(6),

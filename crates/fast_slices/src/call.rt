@@ -1,15 +1,16 @@
 //! What is done with a stream in memory.
 
-ghost use Rattle.std.specs.Prelude.{◌<◌, ◌≡◌, ◌^◌, length, IfErr, IfOk, Ok};
+ghost use Rattle.std.specs.Prelude.{◌<◌, ◌≡◌, ◌≤◌, ◌^◌, length, IfErr, IfOk, Ok};
 ghost use Rattle.fast_template.specs.TemplateSets.{IsSound, templates_in};
 ghost use Rattle.fast_writer.specs.Canonical.{IsCanonical};
 ghost use Rattle.fast_command.specs.Run.{LinesOf};
 ghost use Rattle.fast_lines.specs.declared.form.Form.TheVariants.{Text};
-ghost use Rattle.fast_slices.specs.Calls.{Canons, Checks, ChecksText, Counts, LoadsText, Prepares, RefusesCall, RefusesText, Settles, Shows, Writes, mode_of as mode_of_lem};
+ghost use Rattle.fast_slices.specs.Calls.{Canons, Checks, ChecksText, Counts, LoadsText, Measures, Prepares, RefusesCall, RefusesText, Settles, Shows, Writes, mode_of as mode_of_lem};
 
 use crate::answer::Refusal;
 use crate::input::SliceInput;
 use crate::kept::Kept;
+use crate::tally::Tally;
 use fast_build::Load;
 use fast_canon::{CanonFault, Summary, check};
 use fast_command::{Command, Form, run};
@@ -53,17 +54,47 @@ pub(crate) fn load(alloc: Global, text: &[u8]) -> Result<TemplateSet, Refusal>
     }
 }
 
-/// Puts the bytes that a run wrote into the room, where they fit and are what is asked for.
+/// How many bytes a run has that wrote more than the room holds. It is done once more.
+fn overflow(
+    alloc: Global,
+    command: Command,
+    set: &TemplateSet,
+    mode: Mode,
+    stream: &[u8],
+) -> Refusal
+    requires sound { IsSound set.now }
+    requires few { length stream.now < 2 ^ 40 }
+    ensures { Measures command mode set.now stream.now result }
+{
+    let mut input = SliceInput::new(stream);
+    let mut tally = Tally::new();
+    match run(
+        alloc,
+        command,
+        set,
+        mode,
+        Form::Text,
+        &mut input,
+        &mut tally,
+        TURNS,
+    ) {
+        Ok(summary) => Refusal::Room(summary.written),
+        Err(CanonFault::Stream(fault)) if fault.cause != Cause::Memory => {
+            Refusal::Room(tally.count)
+        }
+        Err(_) => Refusal::Memory,
+    }
+}
+
+/// Puts the bytes that a run wrote into the room, where they are what is asked for.
 fn settle(
     ran: Result<Summary, CanonFault>,
     bytes: &[u8],
     room: &mut [u8],
 ) -> Result<Summary, Refusal>
+    requires fits { length bytes.now ≤ length room.now }
     ensures { Settles ran bytes.now room.old room.new result }
 {
-    if bytes.len() > room.len() {
-        return Err(Refusal::Room);
-    }
     let done = match ran {
         Ok(summary) => Ok(summary),
         Err(CanonFault::Stream(fault)) if fault.cause != Cause::Memory => {
@@ -101,6 +132,9 @@ fn canon_with(
         &mut kept,
         TURNS,
     );
+    if kept.bytes.len() > room.len() {
+        return Err(overflow(alloc, Command::Canon, set, mode, stream));
+    }
     settle(ran, &kept.bytes, room)
 }
 
@@ -128,6 +162,9 @@ fn show_with(
         &mut kept,
         TURNS,
     );
+    if kept.bytes.len() > room.len() {
+        return Err(overflow(alloc, Command::Show, set, mode, stream));
+    }
     settle(ran, &kept.bytes, room)
 }
 

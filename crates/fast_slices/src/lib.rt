@@ -6,6 +6,8 @@ mod answer;
 mod call;
 mod input;
 mod kept;
+mod tally;
 
 pub use answer::{Answer, Refusal, answer_of};
 pub use call::{canon, check_stream, check_templates, show};
+pub use fast_command::VERSION_NUMBER;

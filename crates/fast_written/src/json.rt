@@ -21,7 +21,7 @@ use std::alloc::{AllocError, Global};
 
 /// What an instruction's `kind` says.
 #[derive(Clone, Copy)]
-pub(crate) enum Form {
+pub enum Form {
     Int32,
     UInt32,
     Int64,
@@ -81,7 +81,22 @@ fn name_at(alloc: Global, object: &Value) -> Result<String, AllocError>
     }
 }
 
-fn form_of_kind(text: &str) -> Option<Form>
+/// The words for kinds.
+pub const KINDS: [&str; 10] = [
+    "int32",
+    "uInt32",
+    "int64",
+    "uInt64",
+    "decimal",
+    "string",
+    "byteVector",
+    "group",
+    "sequence",
+    "templateRef",
+];
+
+/// What a word for a kind says.
+pub fn form_of_kind(text: &str) -> Option<Form>
     ensures { result ≡ form_named text.now }
 {
     match text {
@@ -108,7 +123,11 @@ fn form_at(object: &Value) -> Option<Form>
     }
 }
 
-fn presence_of_word(text: &str) -> Option<Presence>
+/// The words for presences.
+pub const PRESENCES: [&str; 2] = ["mandatory", "optional"];
+
+/// The presence of a word.
+pub fn presence_of_word(text: &str) -> Option<Presence>
     ensures { result ≡ presence_named text.now }
 {
     match text {
@@ -127,7 +146,11 @@ fn presence_at(object: &Value) -> Option<Presence>
     }
 }
 
-fn kind_of_charset(text: &str) -> Option<Kind>
+/// The words for charsets.
+pub const CHARSETS: [&str; 2] = ["ascii", "unicode"];
+
+/// The kind of a string with this charset.
+pub fn kind_of_charset(text: &str) -> Option<Kind>
     ensures { result ≡ charset_named text.now }
 {
     match text {
@@ -146,7 +169,11 @@ fn charset_at(object: &Value) -> Option<Kind>
     }
 }
 
-fn operator_named(text: &str) -> Option<Operator>
+/// The words for operators.
+pub const OPERATORS: [&str; 6] = ["constant", "default", "copy", "increment", "delta", "tail"];
+
+/// The operator of a word.
+pub fn operator_named(text: &str) -> Option<Operator>
     ensures { result ≡ operator_named_of text.now }
 {
     match text {
@@ -307,7 +334,8 @@ fn leaf_at(alloc: Global, form: Form, object: &Value) -> Result<Option<Instructi
     }
 }
 
-fn row_of_form(form: Form) -> Row
+/// The keys that an instruction of a kind has.
+pub fn row_of_form(form: Form) -> Row
     ensures { result ≡ row_of_form_of form }
 {
     match form {

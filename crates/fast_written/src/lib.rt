@@ -9,6 +9,7 @@ mod fault;
 mod json;
 mod name;
 mod profile;
+pub mod shape;
 mod written;
 
 pub use fault::{LoadCause, LoadFault, fault_at, want_of_memory};

@@ -11,7 +11,7 @@ pub(crate) const IDENTIFIERS: u64 = 1 << 32;
 
 /// A key.
 #[derive(Clone, Copy)]
-pub(crate) enum Word {
+pub enum Word {
     Templates,
     Dictionary,
     Name,
@@ -31,7 +31,7 @@ pub(crate) enum Word {
 
 /// What the value under a key is.
 #[derive(Clone, Copy)]
-pub(crate) enum Shape {
+pub enum Shape {
     Text,
     /// A whole number of 32 bits, in digits alone.
     Whole,
@@ -41,7 +41,7 @@ pub(crate) enum Shape {
 
 /// A kind of object.
 #[derive(Clone, Copy)]
-pub(crate) enum Row {
+pub enum Row {
     Top,
     Template,
     Field,
@@ -57,7 +57,7 @@ pub(crate) enum Row {
 
 /// Whether an object of a kind has to have a key.
 #[derive(Clone, Copy)]
-pub(crate) enum Need {
+pub enum Need {
     Needed,
     Allowed,
 }
@@ -147,8 +147,8 @@ const LENGTH: [(Word, Shape, Need); 5] = [
     (Word::Key, Shape::Text, Need::Allowed),
 ];
 
-// The keys of a kind of object.
-fn row_keys(row: Row) -> &'static [(Word, Shape, Need)]
+/// The keys of a kind of object, each with what stands under it and whether it has to be there.
+pub fn row_keys(row: Row) -> &'static [(Word, Shape, Need)]
     ensures { result.now ≡ row_of row }
 {
     match row {
@@ -166,7 +166,7 @@ fn row_keys(row: Row) -> &'static [(Word, Shape, Need)]
 }
 
 /// A key's text.
-pub(crate) fn text_of_word(word: Word) -> &'static str
+pub fn text_of_word(word: Word) -> &'static str
     ensures { result.now ≡ word_text word }
 {
     match word {
@@ -188,7 +188,8 @@ pub(crate) fn text_of_word(word: Word) -> &'static str
     }
 }
 
-fn is_shape(shape: Shape, value: &Value) -> bool
+/// Whether a value has a shape.
+pub fn is_shape(shape: Shape, value: &Value) -> bool
     ensures { result ≡ is_of shape (view value.now) }
 {
     match shape {

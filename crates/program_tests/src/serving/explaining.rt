@@ -1,6 +1,6 @@
 //! What refusals mean: the lines behind a refusal's own, with `--explain`.
 
-use crate::serving::devices::{After, Full, STREAM, TEMPLATES};
+use crate::serving::devices::{After, FOLDER, FORBIDDEN, Full, STREAM, TEMPLATES};
 use crate::serving::programs::{CASE, Case, Templates, cases_are_served, rows_are_served};
 use std::alloc::AllocError;
 
@@ -83,13 +83,15 @@ fn refused_streams(rt: HostRuntime) -> Result<(), AllocError> {
         Case {
             input: b"\x80",
             err: "refused D5 message=1 offset=1 template=0 instruction=0\n\
-                explain: message 1, offset 1: the message has no template identifier, and none came before; read the stream from its start\n",
+                explain: message 1, offset 1: the message has no template identifier, and none came before; read the stream from its start\n\
+                explain: if the stream is in blocks, each behind its size, give --blocks; if other bytes stand before each message, take them out\n",
             ..EXPLAINED
         },
         Case {
             input: b"\xc0\x90\x85",
             err: "refused D5 message=1 offset=3 template=16 instruction=2\n\
-                explain: message 1, offset 3, field \"B\" of template \"First\": the field is mandatory and left out, and no earlier value stands for it; read the stream from its start, or compare the field with the sender's templates\n",
+                explain: message 1, offset 3, field \"B\" of template \"First\": the field is mandatory and left out, and no earlier value stands for it; read the stream from its start, or compare the field with the sender's templates\n\
+                explain: if the stream is in blocks, each behind its size, give --blocks; if other bytes stand before each message, take them out\n",
             ..EXPLAINED
         },
         Case {
@@ -101,13 +103,15 @@ fn refused_streams(rt: HostRuntime) -> Result<(), AllocError> {
         Case {
             input: b"\xc0\xe4",
             err: "refused D9 message=1 offset=1 template=0 instruction=0\n\
-                explain: message 1, offset 1: no template has the identifier 100; add the template, or see that the stream begins where a message does\n",
+                explain: message 1, offset 1: no template has the identifier 100; add the template, or see that the stream begins where a message does\n\
+                explain: if the stream is in blocks, each behind its size, give --blocks; if other bytes stand before each message, take them out\n",
             ..EXPLAINED
         },
         Case {
             input: b"\xc0\x00\x00\x07\xe8",
             err: "refused D9 message=1 offset=1 template=0 instruction=0\n\
-                explain: message 1, offset 1: no template has the identifier 1000; add the template, or see that the stream begins where a message does\n",
+                explain: message 1, offset 1: no template has the identifier 1000; add the template, or see that the stream begins where a message does\n\
+                explain: if the stream is in blocks, each behind its size, give --blocks; if other bytes stand before each message, take them out\n",
             ..EXPLAINED
         },
         Case {
@@ -119,7 +123,8 @@ fn refused_streams(rt: HostRuntime) -> Result<(), AllocError> {
         Case {
             input: b"\xe0\x90",
             err: "refused Truncated message=1 offset=2 template=16 instruction=1\n\
-                explain: message 1, offset 2, field \"A\" of template \"First\": the stream ends inside a message or a block; see that it was copied whole\n",
+                explain: message 1, offset 2, field \"A\" of template \"First\": the stream ends inside a message or a block; see that it was copied whole\n\
+                explain: if the stream is in blocks, each behind its size, give --blocks; if other bytes stand before each message, take them out\n",
             ..EXPLAINED
         },
         Case {
@@ -134,7 +139,8 @@ fn refused_streams(rt: HostRuntime) -> Result<(), AllocError> {
             input: b"c0 e4",
             out: b"\n",
             err: "refused D9 message=1 offset=1 template=0 instruction=0\n\
-                explain: message 1, offset 1: no template has the identifier 100; add the template, or see that the stream begins where a message does\n",
+                explain: message 1, offset 1: no template has the identifier 100; add the template, or see that the stream begins where a message does\n\
+                explain: if the stream is in blocks, each behind its size, give --blocks; if other bytes stand before each message, take them out\n",
             ..EXPLAINED
         },
         Case {
@@ -212,17 +218,55 @@ fn refused_streams(rt: HostRuntime) -> Result<(), AllocError> {
         Case {
             input: b"\xc0\x86\x82\x85",
             err: "refused Truncated message=1 offset=4 template=6 instruction=3\n\
-                explain: message 1, offset 4, field \"E\" of template \"Nest\": the stream ends inside a message or a block; see that it was copied whole\n",
+                explain: message 1, offset 4, field \"E\" of template \"Nest\": the stream ends inside a message or a block; see that it was copied whole\n\
+                explain: if the stream is in blocks, each behind its size, give --blocks; if other bytes stand before each message, take them out\n",
             ..OVER_MANY
         },
         Case {
             input: b"\xc0\x86",
             err: "refused Truncated message=1 offset=2 template=6 instruction=2\n\
-                explain: message 1, offset 2, field \"L\" of template \"Nest\": the stream ends inside a message or a block; see that it was copied whole\n",
+                explain: message 1, offset 2, field \"L\" of template \"Nest\": the stream ends inside a message or a block; see that it was copied whole\n\
+                explain: if the stream is in blocks, each behind its size, give --blocks; if other bytes stand before each message, take them out\n",
             ..OVER_MANY
+        },
+        Case {
+            words: BLOCKS,
+            input: b"\x82\xc0\xe4",
+            err: "refused D9 message=1 offset=2 template=0 instruction=0\n\
+                explain: message 1, offset 2: no template has the identifier 100; add the template, or see that the stream begins where a message does\n\
+                explain: if the stream has no blocks, leave out --blocks; if other bytes stand before each block, take them out\n",
+            ..EXPLAINED
         },
     ];
     rows_are_served(&rt, rt.alloc(), ROWS)
+}
+
+#[test]
+fn files_of_other_kinds(rt: HostRuntime) -> Result<(), AllocError> {
+    const ROWS: &[Case] = &[
+        Case {
+            input: b"\xd4\xc3\xb2\xa1\x02\x00\x04\x00",
+            err: "refused D9 message=1 offset=1 template=0 instruction=0\n\
+                explain: message 1, offset 1: no template has the identifier 67; add the template, or see that the stream begins where a message does\n\
+                explain: the standard input is a capture file (pcap); take the streams out of its packets first\n",
+            ..EXPLAINED
+        },
+        Case {
+            input: b"\x0a\x0d\x0d\x0a",
+            err: "refused Truncated message=1 offset=0 template=0 instruction=0\n\
+                explain: message 1, offset 0: the stream ends inside a message or a block; see that it was copied whole\n\
+                explain: the standard input is a capture file (pcapng); take the streams out of its packets first\n",
+            ..EXPLAINED
+        },
+        Case {
+            input: b"\x1f\x8b\x08\x00",
+            err: "refused D5 message=1 offset=2 template=0 instruction=0\n\
+                explain: message 1, offset 2: the message has no template identifier, and none came before; read the stream from its start\n\
+                explain: the standard input is compressed (gzip); give what gzip -dc writes of it\n",
+            ..EXPLAINED
+        },
+    ];
+    cases_are_served(&rt, rt.alloc(), ROWS)
 }
 
 #[test]
@@ -285,19 +329,19 @@ fn refused_templates(rt: HostRuntime) -> Result<(), AllocError> {
         Case {
             templates: Templates::Text(r#"{"templates":{}}"#),
             err: "templates refused S1 template=0 instruction=0\n\
-            explain: the templates' file \"templates.json\" is no object with \"templates\", an array, perhaps \"dictionary\", a name, and no other key\n",
+            explain: the templates' file \"templates.json\": \"templates\" is to be an array\n",
             ..REFUSED
         },
         Case {
             templates: Templates::Text(r#"{"templates":[{"name":"T"}]}"#),
             err: "templates refused S1 template=1 instruction=0\n\
-            explain: template 1 \"T\": a template has \"name\" and \"instructions\", perhaps \"id\" (0 to 4294967295), \"dictionary\" and \"typeRef\", and no other key; a name is 1 to 255 characters from ! to ~\n",
+            explain: template 1 \"T\", line 1 column 15: the key \"instructions\" is missing\n",
             ..REFUSED
         },
         Case {
             templates: Templates::Text(r#"{"templates":[{"name":"T","instructions":[]},7]}"#),
             err: "templates refused S1 template=2 instruction=0\n\
-            explain: template 2: a template has \"name\" and \"instructions\", perhaps \"id\" (0 to 4294967295), \"dictionary\" and \"typeRef\", and no other key; a name is 1 to 255 characters from ! to ~\n",
+            explain: template 2, line 1 column 46: it is no object\n",
             ..REFUSED
         },
         Case {
@@ -305,7 +349,7 @@ fn refused_templates(rt: HostRuntime) -> Result<(), AllocError> {
                 r#"{"templates":[{"name":"T","id":1,"instructions":[{"kind":"group","name":"G","instructions":[{"kind":"uInt32","name":"A"},{"kind":"uint32","name":"B"}]}]}]}"#,
             ),
             err: "templates refused S1 template=1 instruction=3\n\
-            explain: template 1 \"T\", instruction 3 \"B\": a key is missing, unknown or of the wrong type, or a word or a name is none; a name is 1 to 255 characters from ! to ~\n",
+            explain: template 1 \"T\", instruction 3 \"B\", line 1 column 122: \"uint32\" is no kind; the nearest is \"uInt32\"\n",
             ..REFUSED
         },
         Case {
@@ -313,7 +357,7 @@ fn refused_templates(rt: HostRuntime) -> Result<(), AllocError> {
                 r#"{"templates":[{"name":"T","id":1,"instructions":[{"kind":"uInt32","name":"A"},{"kind":"uInt32"}]}]}"#,
             ),
             err: "templates refused S1 template=1 instruction=2\n\
-            explain: template 1 \"T\", instruction 2: a key is missing, unknown or of the wrong type, or a word or a name is none; a name is 1 to 255 characters from ! to ~\n",
+            explain: template 1 \"T\", instruction 2, line 1 column 79: the key \"name\" is missing\n",
             ..REFUSED
         },
         Case {
@@ -321,7 +365,7 @@ fn refused_templates(rt: HostRuntime) -> Result<(), AllocError> {
                 r#"{"templates":[{"name":"T","id":1,"instructions":[{"kind":"string","name":"A","operator":"increment"}]}]}"#,
             ),
             err: "templates refused S2 template=1 instruction=1\n\
-            explain: template 1 \"T\", instruction 1 \"A\": increment is for integers, tail for strings and byte vectors; take another operator or kind\n",
+            explain: template 1 \"T\", instruction 1 \"A\", line 1 column 50: increment is for integers, tail for strings and byte vectors; take another operator or kind\n",
             ..REFUSED
         },
         Case {
@@ -329,7 +373,7 @@ fn refused_templates(rt: HostRuntime) -> Result<(), AllocError> {
                 r#"{"templates":[{"name":"T","id":1,"instructions":[{"kind":"int32","name":"A","operator":"copy","value":"x"}]}]}"#,
             ),
             err: "templates refused S3 template=1 instruction=1\n\
-            explain: template 1 \"T\", instruction 1 \"A\": \"value\" spells no value of the kind; an integer is as -5, a decimal as 100e-2, a byte vector as 0a0b\n",
+            explain: template 1 \"T\", instruction 1 \"A\", line 1 column 50: \"value\" spells no value of the kind; an integer is as -5, a decimal as 100e-2, a byte vector as 0a0b\n",
             ..REFUSED
         },
         Case {
@@ -337,7 +381,7 @@ fn refused_templates(rt: HostRuntime) -> Result<(), AllocError> {
                 r#"{"templates":[{"name":"T","id":1,"instructions":[{"kind":"int32","name":"A","operator":"constant"}]}]}"#,
             ),
             err: "templates refused S4 template=1 instruction=1\n\
-            explain: template 1 \"T\", instruction 1 \"A\": a constant needs a \"value\"\n",
+            explain: template 1 \"T\", instruction 1 \"A\", line 1 column 50: a constant needs a \"value\"\n",
             ..REFUSED
         },
         Case {
@@ -345,7 +389,7 @@ fn refused_templates(rt: HostRuntime) -> Result<(), AllocError> {
                 r#"{"templates":[{"name":"T","id":1,"instructions":[{"kind":"uInt32","name":"A"},{"kind":"int32","name":"B","operator":"default"}]}]}"#,
             ),
             err: "templates refused S5 template=1 instruction=2\n\
-            explain: template 1 \"T\", instruction 2 \"B\": a mandatory default needs a \"value\"; give it one, or make the field optional\n",
+            explain: template 1 \"T\", instruction 2 \"B\", line 1 column 79: a mandatory default needs a \"value\"; give it one, or make the field optional\n",
             ..REFUSED
         },
         Case {
@@ -353,7 +397,7 @@ fn refused_templates(rt: HostRuntime) -> Result<(), AllocError> {
                 r#"{"templates":[{"name":"T","id":1,"instructions":[{"kind":"templateRef","name":"Other"}]}]}"#,
             ),
             err: "templates refused D8 template=1 instruction=1\n\
-            explain: template 1 \"T\", instruction 1 \"Other\": no template has the name of the reference; add the template, or mend the name\n",
+            explain: template 1 \"T\", instruction 1 \"Other\", line 1 column 50: no template has the name of the reference; add the template, or mend the name\n",
             ..REFUSED
         },
         Case {
@@ -361,7 +405,7 @@ fn refused_templates(rt: HostRuntime) -> Result<(), AllocError> {
                 r#"{"templates":[{"name":"T","instructions":[]},{"name":"T","instructions":[]}]}"#,
             ),
             err: "templates refused DuplicateName template=2 instruction=0\n\
-            explain: template 2 \"T\": an earlier template has the same name; give one of them another\n",
+            explain: template 2 \"T\", line 1 column 46: an earlier template has the same name; give one of them another\n",
             ..REFUSED
         },
         Case {
@@ -369,7 +413,7 @@ fn refused_templates(rt: HostRuntime) -> Result<(), AllocError> {
                 r#"{"templates":[{"name":"T","id":1,"instructions":[]},{"name":"U","id":1,"instructions":[]}]}"#,
             ),
             err: "templates refused DuplicateId template=2 instruction=0\n\
-            explain: template 2 \"U\": an earlier template has the same \"id\"; give one of them another\n",
+            explain: template 2 \"U\", line 1 column 53: an earlier template has the same \"id\"; give one of them another\n",
             ..REFUSED
         },
         Case {
@@ -377,7 +421,7 @@ fn refused_templates(rt: HostRuntime) -> Result<(), AllocError> {
                 r#"{"templates":[{"name":"T","id":1,"instructions":[{"kind":"templateRef","name":"T"}]}]}"#,
             ),
             err: "templates refused Cycle template=1 instruction=0\n\
-            explain: template 1 \"T\": its references lead back to itself; take one of them out\n",
+            explain: template 1 \"T\", line 1 column 15: its references lead back to itself; take one of them out\n",
             ..REFUSED
         },
         Case {
@@ -385,13 +429,83 @@ fn refused_templates(rt: HostRuntime) -> Result<(), AllocError> {
                 r#"{"templates":[{"name":"T","id":1,"instructions":[{"kind":"group","name":"G","instructions":[{"kind":"group","name":"G","instructions":[{"kind":"group","name":"G","instructions":[{"kind":"group","name":"G","instructions":[{"kind":"group","name":"G","instructions":[{"kind":"group","name":"G","instructions":[{"kind":"group","name":"G","instructions":[{"kind":"group","name":"G","instructions":[{"kind":"group","name":"G","instructions":[{"kind":"uInt32","name":"A"}]}]}]}]}]}]}]}]}]}]}]}"#,
             ),
             err: "templates refused TooDeep template=1 instruction=0\n\
-            explain: template 1 \"T\": groups and sequences nest in more than 8 levels; take some out\n",
+            explain: template 1 \"T\", line 1 column 15: groups and sequences nest in more than 8 levels; take some out\n",
             ..REFUSED
         },
         Case {
             templates: Templates::Text(DOUBLED),
             err: "templates refused TooMany template=1 instruction=0\n\
-            explain: template 1 \"N1\": up to here there are more than 65535 instructions, those behind references included; leave out templates that the stream does not need\n",
+            explain: template 1 \"N1\", line 1 column 15: up to here there are more than 65535 instructions, those behind references included; leave out templates that the stream does not need\n",
+            ..REFUSED
+        },
+        Case {
+            templates: Templates::Text(
+                "{\"templates\":[\n {\"name\":\"T\",\"id\":\"1\",\"instructions\":[]}]}",
+            ),
+            err: "templates refused S1 template=1 instruction=0\n\
+            explain: template 1 \"T\", line 2 column 2: \"id\" is to be a whole number from 0 to 4294967295, in digits alone\n",
+            ..REFUSED
+        },
+        Case {
+            templates: Templates::Text(
+                r#"{"templates":[{"name":"T","instructions":[{"kind":"uInt32","nmae":"A"}]}]}"#,
+            ),
+            err: "templates refused S1 template=1 instruction=1\n\
+            explain: template 1 \"T\", instruction 1, line 1 column 43: the key \"nmae\" is unknown there; the nearest is \"name\"\n",
+            ..REFUSED
+        },
+        Case {
+            templates: Templates::Text(
+                r#"{"templates":[{"name":"T","instructions":[{"kind":"string","name":"A","operator":"Copy"}]}]}"#,
+            ),
+            err: "templates refused S1 template=1 instruction=1\n\
+            explain: template 1 \"T\", instruction 1 \"A\", line 1 column 43: \"Copy\" is no operator; the nearest is \"copy\"\n",
+            ..REFUSED
+        },
+        Case {
+            templates: Templates::Text(
+                r#"{"templates":[{"name":"T","instructions":[{"kind":"string","name":"A","value":"x"}]}]}"#,
+            ),
+            err: "templates refused S1 template=1 instruction=1\n\
+            explain: template 1 \"T\", instruction 1 \"A\", line 1 column 43: \"value\" stands without \"operator\"\n",
+            ..REFUSED
+        },
+        Case {
+            templates: Templates::Text(
+                r#"{"templates":[{"name":"T","instructions":[{"kind":"string","name":"A B","presence":"must"}]}]}"#,
+            ),
+            err: "templates refused S1 template=1 instruction=1\n\
+            explain: template 1 \"T\", instruction 1 \"A B\", line 1 column 43: \"must\" is no presence\n",
+            ..REFUSED
+        },
+        Case {
+            templates: Templates::Text(
+                r#"{"templates":[{"name":"T","instructions":[{"kind":"string","name":"A B"}]}]}"#,
+            ),
+            err: "templates refused S1 template=1 instruction=1\n\
+            explain: template 1 \"T\", instruction 1 \"A B\", line 1 column 43: \"name\" is no name, which is 1 to 255 characters from ! to ~\n",
+            ..REFUSED
+        },
+        Case {
+            templates: Templates::Text(
+                r#"{"templates":[{"name":"T","instructions":[{"kind":"decimal","name":"A","operator":"copy","exponent":{}}]}]}"#,
+            ),
+            err: "templates refused S1 template=1 instruction=1\n\
+            explain: template 1 \"T\", instruction 1 \"A\", line 1 column 43: \"operator\" stands beside \"exponent\" or \"mantissa\", which have their own\n",
+            ..REFUSED
+        },
+        Case {
+            templates: Templates::Text(
+                r#"{"templates":[{"name":"T","instructions":[{"kind":"sequence","name":"A","instructions":[],"length":{"operator":"cpoy"}}]}]}"#,
+            ),
+            err: "templates refused S1 template=1 instruction=1\n\
+            explain: template 1 \"T\", instruction 1 \"A\", line 1 column 43: in \"length\", \"cpoy\" is no operator; the nearest is \"copy\"\n",
+            ..REFUSED
+        },
+        Case {
+            templates: Templates::Text(r#"{"templates":[],"dictionary":" "}"#),
+            err: "templates refused S1 template=0 instruction=0\n\
+            explain: the templates' file \"templates.json\": \"dictionary\" is no name, which is 1 to 255 characters from ! to ~\n",
             ..REFUSED
         },
     ];
@@ -430,26 +544,38 @@ fn refused_machines(rt: HostRuntime) -> Result<(), AllocError> {
         Case {
             words: NO_TEMPLATES,
             err: "fault open\n\
-                explain: the templates' file \"none\" cannot be opened; see that it is there, is a file and may be read\n",
+                explain: the templates' file \"none\" cannot be opened; no file has this name\n",
             ..FAILED
         },
         Case {
             words: NO_STREAM,
             err: "fault open\n\
-                explain: the stream's file \"none\" cannot be opened; see that it is there, is a file and may be read\n",
+                explain: the stream's file \"none\" cannot be opened; no file has this name\n",
+            ..FAILED
+        },
+        Case {
+            words: &["fastcat", "show", FOLDER, "--templates", TEMPLATES, "--explain"],
+            err: "fault open\n\
+                explain: the stream's file \"folder\" cannot be opened; it is a folder\n",
+            ..FAILED
+        },
+        Case {
+            words: &["fastcat", "show", "--templates", FORBIDDEN, "--explain"],
+            err: "fault open\n\
+                explain: the templates' file \"forbidden\" cannot be opened; it may not be read by this user\n",
             ..FAILED
         },
         Case {
             templates_end: After::Error,
             err: "fault read\n\
-                explain: the templates' file \"templates.json\" cannot be read to its end: a read failed\n",
+                explain: the templates' file \"templates.json\" cannot be read to its end: a read failed; see that its disk or device is well\n",
             ..FAILED
         },
         Case {
             input: b"\xe0",
             input_end: After::Error,
             err: "fault read\n\
-                explain: the standard input cannot be read to its end: a read failed in message 1\n",
+                explain: the standard input cannot be read to its end: a read failed in message 1; see that its disk or device is well\n",
             ..FAILED
         },
         Case {
@@ -457,7 +583,7 @@ fn refused_machines(rt: HostRuntime) -> Result<(), AllocError> {
             input: b"e0",
             input_end: After::Error,
             err: "fault read\n\
-                explain: the standard input cannot be read to its end: a read failed\n",
+                explain: the standard input cannot be read to its end: a read failed; see that its disk or device is well\n",
             ..FAILED
         },
         Case {

@@ -246,6 +246,19 @@ fn streams_are_served(rt: HostRuntime) -> Result<(), AllocError> {
             ..CASE
         },
         Case {
+            words: &["fastcat", "show", "-", "--templates", TEMPLATES],
+            input: TWO,
+            out: TWO_LINES,
+            ..CASE
+        },
+        Case {
+            words: &["fastcat", "show", STREAM, "--templates", "-"],
+            input: FIRST.as_bytes(),
+            stream: TWO,
+            out: TWO_LINES,
+            ..CASE
+        },
+        Case {
             words: SHOW,
             input: b"\x80",
             status: 1,
@@ -423,6 +436,8 @@ fn command_lines(rt: HostRuntime) -> Result<(), AllocError> {
         &["fastcat", "canon", "--templates"],
         &["fastcat", "canon", STREAM, STREAM, "--templates", TEMPLATES],
         &["fastcat", "canon", "--Hex", "--templates", TEMPLATES],
+        &["fastcat", "canon", "--templates", "-"],
+        &["fastcat", "canon", "-", "--templates", "-"],
         &["fastcat", "--help"],
         &["fastcat", "--version"],
     ];
