@@ -250,6 +250,11 @@ class Files(TestCase):
                      "record 1 was cut short by the recorder: 45 bytes were kept of 49; record with a longer snapshot "
                      "(tcpdump -s 0)", "--port", PORT)
 
+    def test_the_example(self):
+        answer = call("--port", PORT, "--preamble", 4, TOP / "examples" / "moex.pcap")
+        self.assertEqual((answer.returncode, answer.stderr.decode()), (0, counts(5, not_udp=1, others=1)))
+        self.assertEqual(answer.stdout, bytes.fromhex((TOP / "examples" / "moex.packets").read_text()))
+
     @unittest.skipUnless(shutil.which("tcpdump") and os.geteuid() == 0, "tcpdump may not record here")
     def test_what_tcpdump_records(self):
         with tempfile.TemporaryDirectory() as folder, socket.socket(socket.AF_INET, socket.SOCK_DGRAM) as ear:

@@ -889,10 +889,15 @@ class Programs(TestCase):
     """The program as a process."""
 
     def test_examples(self):
-        for name in ("book", "trade", "worked"):
-            answer = call(TOP / "examples" / f"{name}.xml")
-            self.assertEqual((answer.returncode, answer.stderr), (0, b""))
-            self.assertEqual(answer.stdout, (TOP / "examples" / f"{name}.json").read_bytes())
+        files = sorted((TOP / "examples").glob("*.xml"))
+        self.assertGreaterEqual(len(files), 7)
+        for file in files:
+            answer = call(file)
+            self.assertEqual(answer.returncode, 0)
+            self.assertEqual(answer.stdout, file.with_suffix(".json").read_bytes())
+            warnings = [f'{file}:7: warning: <template name="FASTReset">: scp:reset="yes" cannot be said in JSON, and fastcat '
+                        "keeps its entries across the template's messages; read datagrams with --packets"]
+            self.assertEqual(answer.stderr.decode().splitlines(), warnings if file.stem == "eurex" else [])
 
     def test_layout(self):
         file = templates('<template name="T" id="1"><typeRef name="M"/><sequence name="S" presence="optional">'
