@@ -478,7 +478,18 @@ class Records(TestCase):
         why = "line 2 is not hex text of one payload; tshark -T fields -e udp.payload prints such lines"
         for line in (b"0a0", b"0x0a", b"0a,0b", b"zz", "é".encode()):
             self.refused(b"0a\n" + line + b"\n", why, "--hex-lines", packets=[b"\x0a"])
-        self.refused(bytes(1 << 20), f"line 1 has {1 << 20} bytes or more; see that it is hex text", "--hex-lines")
+        self.refused(b"0" * (1 << 20), f"line 1 has {1 << 20} bytes or more; see that it is hex text", "--hex-lines")
+
+
+    @unittest.skipUnless(shutil.which("tshark"), "tshark is not there")
+    def test_what_tshark_prints(self):
+        for file in (CAPTURES / "nano.pcapng", CAPTURES / "cooked2.pcap"):
+            words = ["tshark", "-r", file, "-Y", f"udp.dstport == {PORT}", "-T", "fields", "-e", "udp.payload"]
+            lines = subprocess.run(words, stdout=subprocess.PIPE, stderr=subprocess.DEVNULL, check=True).stdout
+            wanted = call("--port", PORT, "--preamble", 4, file)
+            answer = call("--hex-lines", "--preamble", 4, given=lines)
+            self.assertEqual((answer.returncode, answer.stdout), (0, wanted.stdout))
+            self.assertEqual(answer.stderr.decode(), counts(2, empty=1))
 
 
 class Parts(TestCase):
