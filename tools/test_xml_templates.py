@@ -402,19 +402,65 @@ class Namespaces(TestCase):
                          '3: <uInt32 name="F">: f:presence="optional" has FAST\'s namespace; write it without a prefix')
 
     def test_reset(self):
-        for word in ("yes", "true", "1", "YES", "True", " yes "):
+        told = "and fastcat keeps its entries across the template's messages; read datagrams with --packets"
+        for word in ("yes", "true", "1", "YES", "True", " yes ", "Y", "T", "false", "0", ""):
+            warning = f'2: warning: <template name="T">: {{}}reset="{word}" cannot be said in JSON, {told}'
             self.gives(template("", f' xmlns:scp="urn:scp" name="T" id="1" scp:reset="{word}"'), of_template(),
-                       f'2: warning: <template name="T">: scp:reset="{word}" cannot be said in JSON, and fastcat keeps '
-                       "its entries across the template's messages; cut the stream at these messages")
-        for word in ("no", "false", "0", ""):
+                       warning.format("scp:"))
+            self.gives(template("", f' name="T" id="1" reset="{word}"'), of_template(), warning.format(""))
+        for word in ("no", "NO", " no "):
             self.gives(template("", f' xmlns:scp="urn:scp" name="T" id="1" scp:reset="{word}"'), of_template())
+            self.gives(template("", f' name="T" id="1" reset="{word}"'), of_template())
         self.gives(template('<uInt32 xmlns:scp="urn:scp" name="F" scp:reset="yes"/>'),
                    of_template({"kind": "uInt32", "name": "F"}))
-        self.refused(template("", ' name="T" reset="yes"'),
-                     '2: <template name="T">: reset="yes" is no attribute of template, which has name, id, ns, templateNs, '
-                     "dictionary; mend or remove it")
+        self.refused(template('<uInt32 name="F" reset="yes"/>'),
+                     '3: <uInt32 name="F">: reset="yes" is no attribute of uInt32, which has name, id, ns, presence; '
+                     "mend or remove it")
         self.refused(template("", f' xmlns:f="{STANDARD}" name="T" f:reset="yes"'),
                      '2: <template name="T">: f:reset="yes" has FAST\'s namespace; write it without a prefix')
+
+    def test_reset_messages(self):
+        told = "and fastcat keeps its entries across the template's messages; read datagrams with --packets"
+        for name in ("Reset", "FASTReset", "FAST_Reset", "scp:Reset", "RESET-MESSAGE"):
+            self.gives(template("", f' name="{name}" id="120"'), {"templates": [{"name": name, "id": 120, "instructions": []}]},
+                       f'2: warning: <template name="{name}">: is a reset message by its name, {told}')
+        self.gives(template('<typeRef name="Reset" ns="urn:scp"/>'), of_template(typeRef="Reset"),
+                   '2: warning: <template name="T">: is a reset message by <typeRef name="Reset"> of line 3, ' + told)
+        self.gives(templates('<template name="Reset"/><template name="T" id="1">\n<templateRef name="Reset"/></template>'),
+                   {"templates": [{"name": "Reset", "instructions": []}, *of_template(
+                       {"kind": "templateRef", "name": "Reset"})["templates"]]},
+                   f'2: warning: <template name="Reset">: is a reset message by its name, {told}',
+                   f'2: warning: <template name="T">: is a reset message by <templateRef name="Reset"> of line 3, {told}')
+        for name in ("SequenceReset", "Resets", "ResetTime", "BookReset"):
+            self.gives(template("", f' name="{name}" id="1"'), {"templates": [{"name": name, "id": 1, "instructions": []}]})
+        # (one warning is enough)
+        self.gives(template("", ' name="Reset" id="1" reset="Y"'), {"templates": [{"name": "Reset", "id": 1, "instructions": []}]},
+                   f'2: warning: <template name="Reset">: reset="Y" cannot be said in JSON, {told}')
+
+    def test_next_version(self):
+        following = "http://www.fixprotocol.org/ns/fast/td/1.2"
+        told = "is of FAST 1.2, which fastcat does not read; ask for the templates of FAST 1.1"
+        self.refused(f'<templates xmlns="{following}"><template name="T"/></templates>', f"1: <templates>: {told}")
+        self.refused(f'<x:template xmlns:x="{following}" name="T"/>', f'1: <x:template name="T">: {told}')
+        self.refused(template(f'<enum xmlns="{following}" name="F"/>'), f'3: <enum name="F">: {told}')
+
+    def test_dropped_attributes(self):
+        file = templates('<template name="T" id="1"><uInt32 name="F" description="a price" xmlns:x="urn:x" x:y="1"/></template>',
+                         ' version="1.6"')
+        self.refused(file, '1: <templates>: version="1.6" is no attribute of templates, which has ns, templateNs, dictionary; '
+                     "mend or remove it")
+        with tempfile.TemporaryDirectory() as folder:
+            Path(folder, "T.xml").write_text(file)
+            answer = call("--drop", "version", "--drop", "description", "T.xml", cwd=folder)
+            self.assertEqual((answer.returncode, answer.stderr), (0, b""))
+            self.assertEqual(json.loads(answer.stdout), of_template({"kind": "uInt32", "name": "F"}))
+            answer = call("T.xml", "--drop", "version", cwd=folder)
+            self.assertEqual((answer.returncode, answer.stdout), (2, b""))
+            self.assertIn(b'description="a price" is no attribute of uInt32', answer.stderr)
+            for name in ("presence", "name", "id", "value", "key", "dictionary", "reset", "charset", "ns", "templateNs"):
+                answer = call("--drop", name, "T.xml", cwd=folder)
+                self.assertEqual((answer.returncode, answer.stdout), (2, b""))
+                self.assertIn(f"{name} is FAST's own, and what it says would be lost".encode(), answer.stderr)
 
 
 class Names(TestCase):
@@ -567,7 +613,7 @@ class Names(TestCase):
                    {"templates": [{"name": "T", "instructions": []}, {"name": "U", "id": 2, "instructions": []}]},
                    '2: warning: <template name="T">: has no id and no templateRef names it; no message can use it',
                    '3: warning: <template name="U">: s:reset="1" cannot be said in JSON, and fastcat keeps its entries '
-                   "across the template's messages; cut the stream at these messages")
+                   "across the template's messages; read datagrams with --packets")
 
     def test_a_refusal_has_no_warnings(self):
         self.refused(templates('<template name="T"/>\n<template/>'), "3: <template>: has no name; give it one")
@@ -628,6 +674,19 @@ class Values(TestCase):
                 ("9223372036854775807", "9223372036854775807e0"), ("-922337203685477580.8", "-9223372036854775808e-1"),
                 ("9223372036854775807" + "0" * 63, "9223372036854775807e63"), ("1." + "0" * 5000, "1e0")):
             self.value("decimal", written, expected)
+
+    def test_bases_of_deltas(self):
+        for written, expected, kept in (("100.00", "1e2", "10000e-2"), ("100", "1e2", "100e0"), ("-12.50", "-125e-1", "-1250e-2"),
+                                        ("0.00", "0e0", "0e-2"), (" 010.0 ", "1e1", "100e-1")):
+            self.gives(operated("decimal", f'<delta value="{written}"/>'),
+                       of_template({"kind": "decimal", "name": "F", "operator": "delta", "value": expected}),
+                       f'4: warning: <delta>: value="{written}" becomes {expected}, and a delta is added to its exponent; where '
+                       f"the feed is of {kept}, write that in the JSON")
+        for written, expected in (("100.01", "10001e-2"), ("7", "7e0"), ("0", "0e0"), ("-.5", "-5e-1")):
+            self.field(operated("decimal", f'<delta value="{written}"/>'), operator="delta", value=expected)
+        for word in ("constant", "default", "copy"):
+            self.field(operated("decimal", f'<{word} value="100.00"/>'), operator=word, value="1e2")
+        self.field(operated("int32", '<delta value="100"/>'), operator="delta", value="100")
 
     def test_texts_that_are_no_decimals(self):
         for written in ("1e2", "1,5", "+1", "NaN", "INF", "", "-", ".", "-.", "1.2.3", "1 2", "१", "0x1", "1_0"):
@@ -830,10 +889,15 @@ class Programs(TestCase):
     """The program as a process."""
 
     def test_examples(self):
-        for name in ("book", "trade", "worked"):
-            answer = call(TOP / "examples" / f"{name}.xml")
-            self.assertEqual((answer.returncode, answer.stderr), (0, b""))
-            self.assertEqual(answer.stdout, (TOP / "examples" / f"{name}.json").read_bytes())
+        files = sorted((TOP / "examples").glob("*.xml"))
+        self.assertGreaterEqual(len(files), 7)
+        for file in files:
+            answer = call(file)
+            self.assertEqual(answer.returncode, 0)
+            self.assertEqual(answer.stdout, file.with_suffix(".json").read_bytes())
+            warnings = [f'{file}:7: warning: <template name="FASTReset">: scp:reset="yes" cannot be said in JSON, and fastcat '
+                        "keeps its entries across the template's messages; read datagrams with --packets"]
+            self.assertEqual(answer.stderr.decode().splitlines(), warnings if file.stem == "eurex" else [])
 
     def test_layout(self):
         file = templates('<template name="T" id="1"><typeRef name="M"/><sequence name="S" presence="optional">'
