@@ -1,4 +1,4 @@
-/* Tests of the library as C calls it: test_library examples/worked.json. Expected values are those of README.md and
+/* Tests of the library as C calls it: test_library examples/worked.json tools/causes.txt. Expected values are those of README.md and
  * docs/FORMAT.md. */
 #include "fastcat.h"
 
@@ -115,16 +115,58 @@ static void others(void) {
              says(&a, 2, 0, 0, 0, FASTCAT_S2, 0, 0, 1, 1), "a check with templates that are refused");
 }
 
+/* The causes by the names of fastcat.h. */
+#define CAUSE(name) {#name, FASTCAT_##name}
+static const struct { const char *name; uint32_t number; } causes[] = {
+  CAUSE(NO_CAUSE), CAUSE(D2), CAUSE(D4), CAUSE(D5), CAUSE(D6), CAUSE(D7), CAUSE(D9), CAUSE(D12), CAUSE(R1), CAUSE(R2),
+  CAUSE(R6), CAUSE(R7), CAUSE(R8), CAUSE(R9), CAUSE(BLOCK_END), CAUSE(TRUNCATED), CAUSE(LIMIT), CAUSE(S1), CAUSE(S2),
+  CAUSE(S3), CAUSE(S4), CAUSE(S5), CAUSE(D8), CAUSE(DUPLICATE_NAME), CAUSE(DUPLICATE_ID), CAUSE(CYCLE),
+  CAUSE(TOO_DEEP), CAUSE(TOO_MANY)};
+
+static uint32_t number_of(const char *name) {
+  for (size_t i = 0; i < sizeof causes / sizeof *causes; i++)
+    if (strcmp(causes[i].name, name) == 0) return causes[i].number;
+  return UINT32_MAX;
+}
+
+/* Each row of the table is refused for its cause. */
+static void table(FILE *file) {
+  static char line[8192], over[8192], what[8192];
+  char kind[16], name[32];
+  unsigned number, mode, rows = 0;
+  struct fastcat_answer a;
+  while (fgets(line, sizeof line, file)) {
+    if (line[0] == '#' || sscanf(line, "%15s %31s %u %u %8191[^\n]", kind, name, &number, &mode, what) != 5) continue;
+    rows++;
+    expect(number_of(name) == number, name);
+    if (strcmp(kind, "over") == 0) {
+      strcpy(over, what);
+    } else if (strcmp(kind, "stream") == 0) {
+      uint8_t stream[64];
+      size_t length = 0;
+      for (unsigned byte; length < sizeof stream && sscanf(what + 2 * length, "%2x", &byte) == 1; length++)
+        stream[length] = (uint8_t)byte;
+      expect(fastcat_check((const uint8_t *)over, strlen(over), mode, stream, length, &a) == FASTCAT_STREAM_REFUSED &&
+                 a.cause == number, name);
+    } else {
+      expect(fastcat_templates((const uint8_t *)what, strlen(what), &a) == FASTCAT_TEMPLATES_REFUSED && a.cause == number, name);
+    }
+  }
+  expect(rows == sizeof causes / sizeof *causes, "a row for each cause");
+}
+
 int main(int count, char **words) {
-  FILE *file = count == 2 ? fopen(words[1], "rb") : NULL;
-  if (!file) {
-    fprintf(stderr, "use: test_library examples/worked.json\n");
+  FILE *file = count == 3 ? fopen(words[1], "rb") : NULL, *rows = count == 3 ? fopen(words[2], "r") : NULL;
+  if (!file || !rows) {
+    fprintf(stderr, "use: test_library examples/worked.json tools/causes.txt\n");
     return 2;
   }
   templates_length = fread(templates, 1, sizeof templates, file);
   fclose(file);
   streams();
   others();
+  table(rows);
+  fclose(rows);
   printf("C: %u passed, %u failed\n", passed, failed);
   return failed != 0;
 }

@@ -4,6 +4,7 @@ and of the files of examples/."""
 import os
 import pathlib
 import pickle
+import re
 import resource
 import sys
 import threading
@@ -27,6 +28,12 @@ def data(name):
 
 WORKED = text("worked.json")
 ONE = bytes.fromhex("f0818141c2fe00e4")
+HEADER = (TOP / "include/fastcat.h").read_text()
+
+
+def name_in_c(name):
+    """`BlockEnd` as BLOCK_END, `D2` as it is."""
+    return re.sub(r"(?<=[a-z])(?=[A-Z])", "_", name).upper()
 
 
 class Examples(unittest.TestCase):
@@ -117,6 +124,37 @@ class Refusals(unittest.TestCase):
         self.assertEqual(fastcat.canon(WORKED, b""), b"")
         self.assertEqual(fastcat.show(WORKED, b""), "")
         self.assertEqual(fastcat.check(WORKED, b"").messages, 0)
+
+
+class Causes(unittest.TestCase):
+    """Each cause has the number of fastcat.h and of the table, and is what its row is refused for."""
+
+    ROWS = [line.split(" ", 4) for line in (TOP / "tools/causes.txt").read_text().splitlines() if line[0] != "#"]
+
+    def test_numbers(self):
+        header = dict(re.findall(r"FASTCAT_(\w+) = (\d+),? */\* [^\n]*", HEADER.split("enum fastcat_cause")[1].split("};")[0]))
+        header["NO_CAUSE"] = "0"
+        self.assertEqual(header, {name: number for _, name, number, _, _ in self.ROWS})
+        of_python = {name_in_c(it.name): str(it.value) for it in fastcat.Cause}
+        of_python["NO_CAUSE"] = of_python.pop("NONE")
+        self.assertEqual(of_python, header)
+        statuses = dict(re.findall(r"FASTCAT_(\w+) = (\d+)", HEADER.split("enum fastcat_status")[1].split("};")[0]))
+        self.assertEqual({it.name: str(it.value) for it in fastcat.Status}, statuses)
+
+    def test_rows(self):
+        over = next(row[4] for row in self.ROWS if row[0] == "over")
+        for kind, name, number, mode, what in self.ROWS:
+            with self.subTest(name=name):
+                if kind == "stream":
+                    call, given = fastcat.check, (over, bytes.fromhex(what), mode in "13", mode in "23")
+                elif kind == "templates":
+                    call, given = fastcat.check_templates, (what,)
+                else:
+                    continue
+                with self.assertRaises(fastcat.FastcatError) as caught:
+                    call(*given)
+                self.assertEqual(name_in_c(caught.exception.answer.cause.name), name)
+                self.assertEqual(int(caught.exception.answer.cause), int(number))
 
 
 class Rooms(unittest.TestCase):
