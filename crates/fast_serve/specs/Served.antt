@@ -76,10 +76,11 @@ RefusesText turns old new r =
     ((why : TextFault) × HasNoText turns old new why × (r ≡ of_template_text_lem why))
     ⊎ ((text : List ℕ) × (fault : LoadFault) × HasText turns old new text × LoadsText text (Err fault) × IsOfLoad fault r)
 
--- or their file cannot be opened
-abbrev pub RefusesTemplates : Option (List ℕ) → ℕ → Refusal → Type 0
-RefusesTemplates left turns r =
-    (r ≡ Refusal.Open) ⊎ ((old : Reader) × (new : Reader) × (old.left ≡ left) × RefusesText turns old new r)
+-- or they stand in a file, which cannot be opened
+abbrev pub RefusesTemplates : Inputs → Option (List ℕ) → ℕ → Refusal → Type 0
+RefusesTemplates inputs name turns r =
+    ((name ≢ None) × (r ≡ Refusal.Open))
+    ⊎ ((old : Reader) × (new : Reader) × (old.left ≡ input_of inputs name) × RefusesText turns old new r)
 
 -- ---- a run in plain bytes
 
@@ -189,7 +190,7 @@ PerformsWith asked set inputs turns out_old out_new r =
 -- the templates are refused, and nothing was written; or they are loaded
 abbrev pub PerformsAsked : Asked → Inputs → ℕ → Writer → Writer → Answer → Type 0
 PerformsAsked asked inputs turns out_old out_new r =
-    (IsErrAnd r (RefusesTemplates (input_of inputs asked.templates) turns) × (out_new ≡ out_old))
+    (IsErrAnd r (RefusesTemplates inputs asked.templates turns) × (out_new ≡ out_old))
     ⊎ ((set : TemplateList) × LoadsSet (input_of inputs asked.templates) turns set × PerformsWith asked set inputs turns out_old out_new r)
 
 -- the command line is refused, and this was left untouched; or it asks for something

@@ -6,7 +6,7 @@ ghost use Rattle.fast_template.specs.TemplateSets.{TemplateList};
 ghost use Rattle.fast_host.specs.Devices.{input_of, inputs_by, writer_by};
 ghost use Rattle.fast_host.specs.Refusals.{status_of, text_of};
 ghost use Rattle.fast_request.specs.CommandLine.{asked_by};
-ghost use Rattle.fast_serve.specs.Served.{CanonInHex, LoadsSet, Performs, PerformsAsked, PerformsHexText, PerformsInHex, PerformsOver, PerformsWith, ReadsHex, RefusesHex, RefusesTemplates, RunsPlain, Says, SaysAsked, SaysText, WritesHex, status_after};
+ghost use Rattle.fast_serve.specs.Served.{CanonInHex, LoadsSet, Performs, PerformsAsked, PerformsHexText, PerformsInHex, PerformsOver, PerformsWith, ReadsHex, RefusesHex, RefusesTemplates, RefusesText, RunsPlain, Says, SaysAsked, SaysText, WritesHex, status_after};
 
 use fast_build::Load;
 use fast_canon::CanonFault;
@@ -30,7 +30,8 @@ fn read_templates<I: ByteInput>(
     notes: &mut Notes,
 ) -> Result<TemplateSet, Refusal>
     ensures ok { IfOk result (λ set. LoadsSet (I.left input.old) turns set) }
-    ensures refused { IfErr result (RefusesTemplates (I.left input.old) turns) }
+    ensures refused { IfErr result (λ r. (old : Reader) × (new : Reader) × (old.left ≡ I.left input.old)
+        × RefusesText turns old new r) }
 {
     match read_text(alloc, input, turns) {
         Err(fault) => Err(Refusal::of_template_text(fault)),
@@ -54,8 +55,8 @@ fn load<S: Source>(
 ) -> Result<TemplateSet, Refusal>
     ensures ok { IfOk result (λ set. LoadsSet
         (input_of (inputs_by S.file S.input source.old) (option_map (λ n. n.now) name)) turns set) }
-    ensures refused { IfErr result (RefusesTemplates
-        (input_of (inputs_by S.file S.input source.old) (option_map (λ n. n.now) name)) turns) }
+    ensures refused { IfErr result (RefusesTemplates (inputs_by S.file S.input source.old)
+        (option_map (λ n. n.now) name) turns) }
     ensures files { S.file source.new ≡ S.file source.old }
     ensures input { option_map (λ n. n.now) name ≢ None → S.input source.new ≡ S.input source.old }
 {

@@ -5,7 +5,7 @@ use Rattle.fast_serve.proofs.serve.read_templates.Goals as goal
 pub returns-in-Err-clause-refused : goal.returns-in-Err-clause-refused
 returns-in-Err-clause-refused g c =
     let e = c.in-Err.ensures in
-    inr (_, _, refl, inl (c.in-Err.fault, record { count = e.0; got = e.1; read = record { reads = e.2; bounded = e.3 }; fails = e.5 }, c.of_template_text.ensures))
+    (_, _, refl, inl (c.in-Err.fault, record { count = e.0; got = e.1; read = record { reads = e.2; bounded = e.3 }; fails = e.5 }, c.of_template_text.ensures))
 
 pub returns-in-Ok-from_json-clause-ok : goal.returns-in-Ok-from_json-clause-ok
 returns-in-Ok-from_json-clause-ok g c =
@@ -23,7 +23,7 @@ pub returns-clause-refused : goal.returns-clause-refused
 returns-clause-refused g c =
     let e = c.in-Ok.ensures in
     let loads = c.in-Err-from_json.ensures in
-    inr (
+    (
       reader_by g.I.ByteInput.left g.I.ByteInput.calls g.I.ByteInput.errors g.I.ByteInput.ends c.args.input.now,
       reader_by g.I.ByteInput.left g.I.ByteInput.calls g.I.ByteInput.errors g.I.ByteInput.ends c.read_text.new.reader,
       refl,
