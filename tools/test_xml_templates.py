@@ -457,6 +457,10 @@ class Namespaces(TestCase):
             answer = call("T.xml", "--drop", "version", cwd=folder)
             self.assertEqual((answer.returncode, answer.stdout), (2, b""))
             self.assertIn(b'description="a price" is no attribute of uInt32', answer.stderr)
+            Path(folder, "U.xml").write_text(template("", f' name="T" xmlns:f="{STANDARD}" f:version="1"'))
+            answer = call("U.xml", "--drop", "version", cwd=folder)
+            self.assertEqual((answer.returncode, answer.stdout), (2, b""))
+            self.assertIn(b"f:version=\"1\" has FAST's namespace", answer.stderr)
             for name in ("presence", "name", "id", "value", "key", "dictionary", "reset", "charset", "ns", "templateNs"):
                 answer = call("--drop", name, "T.xml", cwd=folder)
                 self.assertEqual((answer.returncode, answer.stdout), (2, b""))
