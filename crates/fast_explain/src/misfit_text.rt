@@ -1,33 +1,71 @@
 //! What is wrong with an object of a template text, in a sentence.
 
 use crate::misfit::{Misfit, Wrong};
-use fast_written::shape::{Shape, row_keys, text_of_word};
+use fast_written::shape::{Row, Shape, row_keys, text_of_word};
 use std::alloc::{AllocError, Global};
 use strsim::levenshtein;
 
 /// Words that lie farther off than this are not named.
 const FAR: usize = 3;
 
-/// Of these words the one that is nearest to another, if it is near; one that differs in case alone is the nearest.
-fn nearest<'a, I: Iterator<Item = &'a str>>(
-    alloc: Global,
-    word: &str,
-    words: I,
-) -> Result<Option<&'a str>, AllocError> {
-    let mut least = FAR.saturating_add(1).min(word.len());
-    let mut found = None;
-    for other in words {
-        let distance = if word.eq_ignore_ascii_case(other) {
-            0
-        } else {
-            levenshtein(alloc, word, other)?
-        };
-        if distance < least {
-            least = distance;
-            found = Some(other);
+/// How far one word is from another: none where they differ in case alone.
+fn distance(alloc: Global, word: &str, other: &str) -> Result<usize, AllocError> {
+    if word.eq_ignore_ascii_case(other) {
+        return Ok(0);
+    }
+    levenshtein(alloc, word, other)
+}
+
+/// The nearest of some words, as they come.
+#[derive(Clone, Copy)]
+struct Nearest {
+    least: usize,
+    word: Option<&'static str>,
+}
+
+impl Nearest {
+    /// None yet. A word that has nothing in common with another is not near it.
+    fn to(word: &str) -> Nearest {
+        Nearest {
+            least: FAR.saturating_add(1).min(word.len()),
+            word: None,
         }
     }
-    Ok(found)
+
+    /// Looks at one word more.
+    fn or(self, alloc: Global, word: &str, other: &'static str) -> Result<Nearest, AllocError> {
+        let least = distance(alloc, word, other)?;
+        Ok(if least < self.least {
+            Nearest {
+                least,
+                word: Some(other),
+            }
+        } else {
+            self
+        })
+    }
+}
+
+/// Of these words the one that is nearest to another, if it is near.
+fn nearest_word(
+    alloc: Global,
+    word: &str,
+    words: &[&'static str],
+) -> Result<Option<&'static str>, AllocError> {
+    let mut nearest = Nearest::to(word);
+    for other in words {
+        nearest = nearest.or(alloc, word, other)?;
+    }
+    Ok(nearest.word)
+}
+
+/// Of the keys that objects of a kind have the one that is nearest to another, if it is near.
+fn nearest_key(alloc: Global, key: &str, row: Row) -> Result<Option<&'static str>, AllocError> {
+    let mut nearest = Nearest::to(key);
+    for rule in row_keys(row) {
+        nearest = nearest.or(alloc, key, text_of_word(rule.0))?;
+    }
+    Ok(nearest.word)
 }
 
 /// A sentence with the nearest word behind it.
@@ -64,8 +102,7 @@ fn wrong_text(alloc: Global, wrong: Wrong<'_>) -> Result<String, AllocError> {
             format!(in alloc; "the key {key:?} is missing")
         }
         Wrong::Unknown(key, row) => {
-            let keys = row_keys(row).iter().map(|rule| text_of_word(rule.0));
-            let near = nearest(alloc, key, keys)?;
+            let near = nearest_key(alloc, key, row)?;
             with_nearest(alloc, format!(in alloc; "the key {key:?} is unknown there")?, near)
         }
         Wrong::NotOfShape(key, shape) => {
@@ -75,7 +112,7 @@ fn wrong_text(alloc: Global, wrong: Wrong<'_>) -> Result<String, AllocError> {
         }
         Wrong::NoWord(key, word, words) => {
             let key = text_of_word(key);
-            let near = nearest(alloc, word, words.iter().copied())?;
+            let near = nearest_word(alloc, word, words)?;
             with_nearest(alloc, format!(in alloc; "{word:?} is no {key}")?, near)
         }
         Wrong::NoName(key) => {

@@ -130,7 +130,10 @@ impl Search {
             self.count();
         }
         match token {
-            Token::BeginObject => self.open.push(self.object())?,
+            Token::BeginObject => {
+                let opened = self.object();
+                self.open.push(opened)?;
+            }
             Token::BeginArray => self.open_list()?,
             Token::EndObject | Token::EndArray => {
                 self.open.pop();
