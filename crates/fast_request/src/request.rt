@@ -1,6 +1,6 @@
 //! What a command line asks for.
 
-ghost use Rattle.std.specs.Prelude.{◌≡◌, None, Some, IfNone, IfOk, codes, false, map, option_and_then, option_map};
+ghost use Rattle.std.specs.Prelude.{◌≡◌, ◌≢◌, None, Some, IfNone, IfOk, codes, false, map, option_and_then, option_map};
 ghost use Rattle.clap.specs.Words.{app_of, first_of, found_of, one_of, rows_of, rule_of};
 ghost use Rattle.fast_request.specs.CommandLine.{AsksFor, Finds, IsFlag, asked_by, bare_app, command_named, command_rule, file_named, flag_rule, input_rule, is_blocks, is_json, is_strict, line_among, templates_rule, with_files_lem, with_flags_lem};
 
@@ -229,6 +229,17 @@ enum Unasked {
     InputTwice,
 }
 
+/// Whether the standard input is to be the templates and the stream.
+fn is_read_twice(templates: Option<&str>, input: Option<&str>) -> bool
+    ensures { result ≡ false → option_map (λ t. t.now) templates.entry ≡ None
+        → option_map (λ i. i.now) input.entry ≢ None }
+{
+    match (templates, input) {
+        (None, None) => true,
+        (Some(_), _) | (None, Some(_)) => false,
+    }
+}
+
 /// What is asked for by what a parser found.
 fn request_of<'a>(matches: &ArgMatches<'a>) -> Result<Request<'a>, Unasked>
     ensures { IfOk result (λ r. Finds (rows_of (found_of matches.now)) (asked_by r)) }
@@ -241,7 +252,7 @@ fn request_of<'a>(matches: &ArgMatches<'a>) -> Result<Request<'a>, Unasked>
     };
     let templates = file_of(word);
     let input = input_of(matches);
-    if templates.is_none() && input.is_none() {
+    if is_read_twice(templates, input) {
         return Err(Unasked::InputTwice);
     }
     Ok(Request {

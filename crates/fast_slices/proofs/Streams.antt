@@ -203,6 +203,29 @@ settled makes mode set stream bytes old new ran (Err (Refusal.Stream fault writt
 settled makes mode set stream bytes old new ran (Err Refusal.Memory) room h s = s
 settled makes mode set stream bytes old new ran r room h s = absurd s
 
+-- ---- more than the room holds
+
+pub measured_run : (command : Command) (mode : Mode) (set : TemplateList) (stream : List ℕ) (ran : Result Summary CanonFault) → HasMeasured command mode set stream ran → (summary : Summary) → ran ≡ Ok summary
+    → Measures command mode set stream (Refusal.Room summary.written)
+measured_run command mode set stream ran h summary same = measured command mode set stream summary (subst (λ (x : Result Summary CanonFault). HasMeasured command mode set stream x) same h)
+
+pub refused_run : (command : Command) (mode : Mode) (set : TemplateList) (stream : List ℕ) (ran : Result Summary CanonFault) → HasMeasured command mode set stream ran → (fault : Fault) (stop : CanonFault) (needed : ℕ) → ran ≡ Err stop → stop ≡ CanonFault.Stream fault → fault.cause ≢ Cause.Memory
+    → Measures command mode set stream (Refusal.Room needed)
+refused_run command mode set stream ran h fault stop needed is stops memory =
+    not_measured command mode set stream fault needed memory (subst (λ (x : Result Summary CanonFault). HasMeasured command mode set stream x) (is ∙ ap (λ (f : CanonFault). Err f) stops) h)
+
+pub canon_overflows : (mode : Mode) (set : TemplateList) (stream bytes old new : List ℕ) (ran : Result Summary CanonFault) (r : Refusal) → HasWritten IsCanonical mode set stream bytes ran → length old < length bytes → new ≡ old → Measures Canon mode set stream r
+    → Writes IsCanonical mode (templates_in set) stream old new (Err r)
+canon_overflows mode set stream bytes old new ran (Refusal.Room needed) h longer same m = overflows IsCanonical mode set stream bytes old new ran h longer same needed m
+canon_overflows mode set stream bytes old new ran Refusal.Memory h longer same m = same
+canon_overflows mode set stream bytes old new ran r h longer same m = absurd m
+
+pub show_overflows : (mode : Mode) (set : TemplateList) (stream bytes old new : List ℕ) (ran : Result Summary CanonFault) (r : Refusal) → HasWritten (LinesOf Text set) mode set stream bytes ran → length old < length bytes → new ≡ old → Measures Show mode set stream r
+    → Writes (LinesOf Text set) mode (templates_in set) stream old new (Err r)
+show_overflows mode set stream bytes old new ran (Refusal.Room needed) h longer same m = overflows (LinesOf Text set) mode set stream bytes old new ran h longer same needed m
+show_overflows mode set stream bytes old new ran Refusal.Memory h longer same m = same
+show_overflows mode set stream bytes old new ran r h longer same m = absurd m
+
 -- ---- what is counted
 
 pub counted_all : (mode : Mode) (set : TemplateList) (stream old new : List ℕ) (ran : Result Summary CanonFault) (r : Done) → length old ≡ 0 → HasRun set stream ran (λ input rest. Checks mode (templates_in set) (2 ^ 40) (Some rest) input ran) → Settles ran [] old new r

@@ -6,19 +6,22 @@ named : (found : Option Text) (command : Command) → option_and_then command_na
 named None command h = absurd cc
 named (Some word) command h = (word, refl, h)
 
-pub returns-in-Some-Some : goal.returns-in-Some-Some
-returns-in-Some-Some c =
-    let command = named (first_of (codes "command") (rows_of (found_of c.args.matches.now))) c.in-Some-Some.command
-    (sym (ap (λ (o : Option Text). option_and_then command_named o) c.word_of.ensures) ∙ sym c.command_of-command.ensures ∙ c.in-Some-Some.is-0) in
+pub returns : goal.returns
+returns c =
+    let command = named (first_of (codes "command") (rows_of (found_of c.args.matches.now))) c.in-Some.command
+    (sym (ap (λ (o : Option Text). option_and_then command_named o) c.word_of.ensures) ∙ sym c.command_of.ensures ∙ c.in-Some.is) in
     record {
       word = command.0;
       command_word = command.1;
       command_is = command.2;
-      templates_are = sym c.word_of-2.ensures ∙ ap (option_map (λ s. s.now)) c.in-Some-Some.is-1;
+      templates_word = c.in-Some-word_of.word.now;
+      templates_given = sym c.word_of-2.ensures ∙ ap (option_map (λ s. s.now)) c.in-Some-word_of.is;
+      templates_are = sym c.file_of-templates.ensures;
       hex_is = c.is_set.ensures;
       strict_is = c.mode_of.ensures.strict;
       blocks_is = c.mode_of.ensures.blocks;
       json_is = c.form_of.ensures;
-      explain_is = c.is_set-in-Some-Some.ensures;
-      input_is = sym c.word_of-in-Some-Some.ensures;
+      explain_is = c.is_set-2.ensures;
+      input_is = sym c.input_of-input.ensures;
+      one_is_a_file = c.is_read_twice.ensures c.if-is_read_twice.false;
     }
