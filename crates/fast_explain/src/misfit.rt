@@ -2,8 +2,8 @@
 
 use fast_written::is_name;
 use fast_written::shape::{
-    CHARSETS, KINDS, Need, OPERATORS, PRESENCES, Row, Shape, Word, form_of_kind, is_shape, kind_of_charset,
-    operator_named, presence_of_word, row_keys, row_of_form, text_of_word,
+    CHARSETS, KINDS, Need, OPERATORS, PRESENCES, Row, Shape, Word, form_of_kind, is_shape,
+    kind_of_charset, operator_named, presence_of_word, row_keys, row_of_form, text_of_word,
 };
 use serde_json::Value;
 
@@ -159,8 +159,11 @@ fn misfit_of_parts(object: &Value) -> Option<Misfit<'_>> {
             return Some(whole(Wrong::BesideParts(word)));
         }
     }
-    misfit_of_part(object, Word::Exponent, Row::Part)
-        .or(misfit_of_part(object, Word::Mantissa, Row::Part))
+    misfit_of_part(object, Word::Exponent, Row::Part).or(misfit_of_part(
+        object,
+        Word::Mantissa,
+        Row::Part,
+    ))
 }
 
 /// What is wrong with the operator of an instruction, wherever it stands.

@@ -69,11 +69,7 @@ fn nearest_key(alloc: Global, key: &str, row: Row) -> Result<Option<&'static str
 }
 
 /// A sentence with the nearest word behind it.
-fn with_nearest(
-    alloc: Global,
-    sentence: String,
-    word: Option<&str>,
-) -> Result<String, AllocError> {
+fn with_nearest(alloc: Global, sentence: String, word: Option<&str>) -> Result<String, AllocError> {
     match word {
         Some(word) => {
             let sentence = sentence.as_str();
@@ -103,7 +99,11 @@ fn wrong_text(alloc: Global, wrong: Wrong<'_>) -> Result<String, AllocError> {
         }
         Wrong::Unknown(key, row) => {
             let near = nearest_key(alloc, key, row)?;
-            with_nearest(alloc, format!(in alloc; "the key {key:?} is unknown there")?, near)
+            with_nearest(
+                alloc,
+                format!(in alloc; "the key {key:?} is unknown there")?,
+                near,
+            )
         }
         Wrong::NotOfShape(key, shape) => {
             let key = text_of_word(key);
@@ -125,7 +125,9 @@ fn wrong_text(alloc: Global, wrong: Wrong<'_>) -> Result<String, AllocError> {
         }
         Wrong::BesideParts(key) => {
             let key = text_of_word(key);
-            format!(in alloc; "{key:?} stands beside \"exponent\" or \"mantissa\", which have their own")
+            format!(in alloc;
+                "{key:?} stands beside \"exponent\" or \"mantissa\", which have their own"
+            )
         }
     }
 }

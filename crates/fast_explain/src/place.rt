@@ -125,7 +125,10 @@ impl Search {
 
     /// Takes a token, and answers whether a value begins with it.
     fn take(&mut self, token: Token<'_>) -> Result<bool, AllocError> {
-        let begins = !matches!(token, Token::Key(_) | Token::EndObject | Token::EndArray | Token::Bad);
+        let begins = !matches!(
+            token,
+            Token::Key(_) | Token::EndObject | Token::EndArray | Token::Bad
+        );
         if begins {
             self.count();
         }

@@ -23,9 +23,7 @@ pub struct Files<'a> {
 /// The input at hand, as it is called in a sentence.
 fn input_text(alloc: Global, files: Files<'_>, reading: Reading) -> Result<String, AllocError> {
     match (reading, files.templates, files.stream) {
-        (Reading::Templates, Some(name), _) => {
-            format!(in alloc; "the templates' file {name:?}")
-        }
+        (Reading::Templates, Some(name), _) => { format!(in alloc; "the templates' file {name:?}") }
         (Reading::Stream, _, Some(name)) => format!(in alloc; "the stream's file {name:?}"),
         (Reading::Templates, None, _) | (Reading::Stream, _, None) => {
             String::from_str(alloc, "the standard input")
@@ -262,7 +260,10 @@ fn sentences(
             None => Ok(String::new(alloc)),
         },
         Refusal::Open => {
-            let why = file_text(notes.file, "see that it is there, is a file and may be read");
+            let why = file_text(
+                notes.file,
+                "see that it is there, is a file and may be read",
+            );
             format!(in alloc; "explain: {input} cannot be opened; {why}\n")
         }
         Refusal::Read => {

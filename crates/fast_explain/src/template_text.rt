@@ -74,7 +74,11 @@ fn notes_of_json(
 }
 
 /// What is known of the text of refused templates.
-pub fn notes_of_text(alloc: Global, fault: LoadFault, bytes: &[u8]) -> Result<TextNotes, AllocError> {
+pub fn notes_of_text(
+    alloc: Global,
+    fault: LoadFault,
+    bytes: &[u8],
+) -> Result<TextNotes, AllocError> {
     match from_utf8(bytes) {
         Ok(text) => match Value::from_str(alloc, text) {
             Ok(value) => notes_of_json(alloc, fault, text, &value),

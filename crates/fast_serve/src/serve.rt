@@ -54,11 +54,11 @@ fn load<S: Source>(
     notes: &mut Notes,
 ) -> Result<TemplateSet, Refusal>
     ensures ok { IfOk result (λ set. LoadsSet
-        (input_of (inputs_by S.file S.input source.old) (option_map (λ n. n.now) name)) turns set) }
+        (input_of (inputs_by S.file S.input source.old) (option_map (λ n. n.now) name.entry)) turns set) }
     ensures refused { IfErr result (RefusesTemplates (inputs_by S.file S.input source.old)
-        (option_map (λ n. n.now) name) turns) }
+        (option_map (λ n. n.now) name.entry) turns) }
     ensures files { S.file source.new ≡ S.file source.old }
-    ensures input { option_map (λ n. n.now) name ≢ None → S.input source.new ≡ S.input source.old }
+    ensures input { option_map (λ n. n.now) name.entry ≢ None → S.input source.new ≡ S.input source.old }
 {
     match name {
         None => read_templates(alloc, &mut source.standard(), turns, notes),
@@ -317,7 +317,7 @@ fn perform_asked<S: Source, O: ByteOutput>(
     notes: &mut Notes,
 ) -> Result<(), Refusal>
     requires turns { turns ≤ 2 ^ 40 }
-    requires one_is_a_file { (asked_by request.entry).templates ≡ None → (asked_by request.entry).input ≢ None }
+    requires one_is_a_file { (asked_by request).templates ≡ None → (asked_by request).input ≢ None }
     ensures { PerformsAsked (asked_by request.entry) (inputs_by S.file S.input source.old) turns
         (writer_by O.taken O.errors O.flushes out.old)
         (writer_by O.taken O.errors O.flushes out.new) result }
@@ -384,12 +384,7 @@ fn report_asked<E: ByteOutput>(
 }
 
 /// Notes what a look at the file at hand finds, where it could not be opened or read and that is to be explained.
-fn look_at_file<S: Source>(
-    request: Request<'_>,
-    refusal: &Refusal,
-    source: &S,
-    notes: &mut Notes,
-) {
+fn look_at_file<S: Source>(request: Request<'_>, refusal: &Refusal, source: &S, notes: &mut Notes) {
     if request.explain
         && matches!(refusal, Refusal::Open | Refusal::Read)
         && let Some(name) = notes.at_hand(request.templates, request.input)
@@ -408,7 +403,7 @@ fn serve_request<S: Source, O: ByteOutput, E: ByteOutput>(
     turns: u64,
 ) -> u8
     requires turns { turns ≤ 2 ^ 40 }
-    requires one_is_a_file { (asked_by request.entry).templates ≡ None → (asked_by request.entry).input ≢ None }
+    requires one_is_a_file { (asked_by request).templates ≡ None → (asked_by request).input ≢ None }
     ensures status { result ≤ 3 }
     ensures quiet { result ≡ 0 → err.new ≡ err.old }
     ensures performed { (r : _) × (result ≡ status_after r)

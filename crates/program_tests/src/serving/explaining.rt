@@ -554,7 +554,14 @@ fn refused_machines(rt: HostRuntime) -> Result<(), AllocError> {
             ..FAILED
         },
         Case {
-            words: &["fastcat", "show", FOLDER, "--templates", TEMPLATES, "--explain"],
+            words: &[
+                "fastcat",
+                "show",
+                FOLDER,
+                "--templates",
+                TEMPLATES,
+                "--explain",
+            ],
             err: "fault open\n\
                 explain: the stream's file \"folder\" cannot be opened; it is a folder\n",
             ..FAILED

@@ -19,6 +19,10 @@ const FIRST: &str = r#"{"templates":[{"name":"First","id":16,"instructions":[
  {"kind":"uInt32","name":"A"},
  {"kind":"uInt32","name":"B","operator":"copy"}]}]}"#;
 
+// The same as an input.
+const FIRST_BYTES: &[u8] = b"{\"templates\":[{\"name\":\"First\",\"id\":16,\"instructions\":[\
+    {\"kind\":\"uInt32\",\"name\":\"A\"},{\"kind\":\"uInt32\",\"name\":\"B\",\"operator\":\"copy\"}]}]}";
+
 const SHOW: &[&str] = &["fastcat", "show", "--templates", TEMPLATES];
 
 const CHECK: &[&str] = &["fastcat", "check", "--templates", TEMPLATES];
@@ -253,7 +257,7 @@ fn streams_are_served(rt: HostRuntime) -> Result<(), AllocError> {
         },
         Case {
             words: &["fastcat", "show", STREAM, "--templates", "-"],
-            input: FIRST.as_bytes(),
+            input: FIRST_BYTES,
             stream: TWO,
             out: TWO_LINES,
             ..CASE

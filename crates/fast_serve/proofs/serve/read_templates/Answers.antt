@@ -22,8 +22,7 @@ returns-in-Ok-from_json-clause-ok g c =
 pub returns-clause-refused : goal.returns-clause-refused
 returns-clause-refused g c =
     let e = c.in-Ok.ensures in
-    let loads = c.in-Err-from_json.ensures in
-    (
+    let loads = c.in-Err-from_json.ensures in (
       reader_by g.I.ByteInput.left g.I.ByteInput.calls g.I.ByteInput.errors g.I.ByteInput.ends c.args.input.now,
       reader_by g.I.ByteInput.left g.I.ByteInput.calls g.I.ByteInput.errors g.I.ByteInput.ends c.read_text.new.reader,
       refl,

@@ -1,4 +1,4 @@
-use Rattle.std.proofs.Common.{◌^◌, ℕ, List, [], Some, refl, sym, subst, ◌∙◌, arith}
+use Rattle.std.proofs.Common.{◌^◌, ◌<◌, ℕ, List, [], Some, length, refl, sym, subst, ◌∙◌, arith, rules}
 use Rattle.fast_template.specs.TemplateSets.{templates_in}
 use Rattle.fast_wire.proofs.Calls.{all_bytes}
 use Rattle.fast_pass.specs.Passed.{Passes}
