@@ -13,3 +13,4 @@ pub mod Answering
 pub mod Counting
 pub mod Texture
 pub mod Capped
+pub mod Heads

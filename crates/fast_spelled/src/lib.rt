@@ -1,10 +1,11 @@
 //! Messages of lines: what a line of JSON stands for.
 //!
-//! [`lines_spell_messages`] says that the lines which `show --json` writes stand for their messages, and for no others. The
-//! members of an object are read for the nodes of a message, in one pass and in any order.
+//! [`message_of`] reads one line, as `show --json` writes it or as a person does, for a message of a template set.
 #![tactic(auto)]
 
 mod fault;
+mod head;
+mod line;
 mod members;
 mod number;
 mod value;
@@ -18,6 +19,8 @@ ghost use Rattle.fast_spelled.specs.Spelled.{Spells};
 ghost use Rattle.fast_spelled.specs.Within.{IsWithin};
 
 pub use fault::{LineCause, LineFault};
+pub use json::Scratch;
+pub use line::message_of;
 
 /// The line that `show --json` writes of a message stands for that message.
 pub fn lines_spell_their_messages()
