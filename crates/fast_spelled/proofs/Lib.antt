@@ -14,3 +14,4 @@ pub mod Counting
 pub mod Texture
 pub mod Capped
 pub mod Heads
+pub mod Looked

@@ -7,6 +7,7 @@ mod fault;
 mod head;
 mod line;
 mod members;
+mod names;
 mod number;
 mod value;
 
@@ -21,6 +22,7 @@ ghost use Rattle.fast_spelled.specs.Within.{IsWithin};
 pub use fault::{LineCause, LineFault};
 pub use json::Scratch;
 pub use line::message_of;
+pub use names::names_are_text;
 
 /// The line that `show --json` writes of a message stands for that message.
 pub fn lines_spell_their_messages()
