@@ -56,6 +56,14 @@ impl TemplateSet {
         }
     }
 
+    /// The templates, in their order.
+    pub fn templates(&self) -> &[FlatTemplate]
+        ensures value { result.now ≡ self.now.templates }
+        ensures sound { IsSound self.now }
+    {
+        &self.templates
+    }
+
     /// The template of an identifier.
     pub fn find(&self, id: u32) -> Option<&FlatTemplate>
         ensures value { option_map (λ t. t.now) result ≡ template_of id self.now }

@@ -1,0 +1,17 @@
+pub mod Read
+pub mod Texts
+pub mod Digits
+pub mod Back
+pub mod Whole
+pub mod Filling
+pub mod Places
+pub mod Finishing
+pub mod Feeds
+pub mod Streams
+pub mod Steps
+pub mod Answering
+pub mod Counting
+pub mod Texture
+pub mod Capped
+pub mod Heads
+pub mod Looked
