@@ -27,7 +27,7 @@ pub use Rattle.fast_decoder.proofs.Inputs.{caused_by_end, caused_by_feed, caused
 pub use Rattle.fast_decoder.specs.Inputs.{IsCaused, Reader, Reads, Refuses, told_by}
 pub use Rattle.fast_decoder.specs.declared.input.Reached.{Reached}
 pub use Rattle.fast_pass.specs.Passed.{Passes, PassesBy, PassesFront}
-pub use Rattle.fast_pass.specs.Relays.{Break, Goes, GoesOn, HandsOn, IsOfBytes, Making, Relays, StandsStill, Step, Way, answer_of, farther, handing, outset}
+pub use Rattle.fast_pass.specs.Relays.{Break, Goes, GoesOn, HandsOn, HasMade, IsOfBytes, Making, Relays, StandsStill, Step, Way, answer_of, farther, handing, outset}
 pub use Rattle.fast_pass.specs.declared.fault.CanonFault.{CanonFault}
 pub use Rattle.fast_pass.specs.declared.stop.Stop.{Stop}
 pub use Rattle.fast_pass.specs.declared.summary.Summary.{Summary}

@@ -1,5 +1,5 @@
 -- Lemmas on a stream on its way through an output.
-use Rattle.fast_pass.proofs.Common.{◌≡◌, ◌≤◌, ℕ, ◌+◌, ◌-◌, min, List, [], ◌∷◌, ◌++◌, length, length-append, take, drop, append_assoc, append-nil, arith, Option, None, Result, Ok, Err, refl, ap, sym, ◌∙◌, ◌⊎◌, inl, inr, take_rest, Resolved, templates_in, Dictionary, Ghosts, Reached, Machine, Reader, Reads, Refuses, Fault, Mode, Content, FollowsTaken, Carried, Follows, mode_of, Keeps, counted_by, Taken, Appends-kept, Appends-nil, Appends-trans, all_carried, has_kept, take-add, reached_carried, carried_of, Passes, PassesBy, PassesFront, Break, GoesOn, HandsOn, Making, Relays, Step, Way, answer_of, farther, outset, CanonFault, Stop, Summary, handed_on}
+use Rattle.fast_pass.proofs.Common.{◌≡◌, ◌≤◌, ℕ, ◌+◌, ◌-◌, min, List, [], ◌∷◌, ◌++◌, length, length-append, take, drop, append_assoc, append-nil, arith, Option, None, Result, Ok, Err, refl, ap, sym, ◌∙◌, ◌⊎◌, inl, inr, take_rest, Resolved, templates_in, Dictionary, Ghosts, Reached, Machine, Reader, Reads, Refuses, Fault, Mode, Content, FollowsTaken, Carried, Follows, mode_of, Keeps, counted_by, Taken, Appends-kept, Appends-nil, Appends-trans, all_carried, has_kept, take-add, reached_carried, carried_of, Passes, PassesBy, PassesFront, Break, GoesOn, HandsOn, HasMade, Making, Relays, Step, Way, answer_of, farther, outset, CanonFault, Stop, Summary, handed_on}
 use Rattle.fast_walk.specs.declared.receiver.Receiver.{Ghosts as Receiving}
 
 -- what a front carries, the whole carries in a front
@@ -31,21 +31,25 @@ abbrev pub IsMade : {O : Type 0} → Receiving O → (O → List ℕ) → Making
 IsMade {O = O} receiver waiting makes = (w : O) (set : List Resolved) (handed : List ℕ) (ms : List Content) (d : Dictionary)
     → receiver.keeps w set (handed_on handed ∷ ms) d ⊎ receiver.stands w set (handed_on handed ∷ ms) d → makes set ms (handed ++ waiting w)
 
+has_by : {O E : Type 0} {receiver : Receiving O} {entries : Ghosts E} (m : Machine O E receiver entries) (way : Way) → Follows m (handed_on way.handed ∷ way.messages) way.input way.messages → HasMade m way
+has_by {receiver = R} {entries = entries} m way f =
+    has_kept R.has R.stands R.keeps m.traversal m.receiver (entries.contents m.entries) (handed_on way.handed ∷ way.messages) m.fault m.framing m.left m.held.items m.waiting way.input way.messages f.at
+
 made_by : {O E : Type 0} {receiver : Receiving O} {entries : Ghosts E} (waiting : O → List ℕ) (makes : Making) → IsMade receiver waiting makes → (m : Machine O E receiver entries) (way : Way) → Follows m (handed_on way.handed ∷ way.messages) way.input way.messages
     → makes (templates_in m.traversal.set.now) way.messages (way.handed ++ waiting m.receiver)
-made_by {receiver = R} {entries = entries} waiting makes law m way f =
-    let kept = has_kept R.has R.stands R.keeps m.traversal m.receiver (entries.contents m.entries) (handed_on way.handed ∷ way.messages) m.fault m.framing m.left m.held.items m.waiting way.input way.messages f.at in
+made_by waiting makes law m way f =
+    let kept = has_by m way f in
     law m.receiver (templates_in m.traversal.set.now) way.handed way.messages kept.0 kept.1
 
 -- a machine that follows its bytes goes on
 pub goes_on : {O E : Type 0} {receiver : Receiving O} {entries : Ghosts E} {waiting : O → List ℕ} {makes : Making} → IsMade receiver waiting makes → (m : Machine O E receiver entries) (turns : ℕ) (left : Option (List ℕ)) (way : Way)
     → m.fault ≡ None → Follows m (handed_on way.handed ∷ way.messages) way.input way.messages → Relays waiting makes Reached.Open m turns left way
-goes_on {waiting = waiting} {makes = makes} law m turns left way none f = record { holds = record { unrefused = none; follows = f }; made = made_by waiting makes law m way f; counts = λ e. absurd cc }
+goes_on {waiting = waiting} {makes = makes} law m turns left way none f = record { holds = record { unrefused = none; follows = f }; made = made_by waiting makes law m way f; has = has_by m way f; counts = λ e. absurd cc }
 
 -- or stops where they are refused
 pub stops : {O E : Type 0} {receiver : Receiving O} {entries : Ghosts E} {waiting : O → List ℕ} {makes : Making} → IsMade receiver waiting makes → (m : Machine O E receiver entries) (turns : ℕ) (left : Option (List ℕ)) (way : Way) (f : Fault)
     → Refuses (mode_of m) (templates_in m.traversal.set.now) turns left way.input way.messages f → Follows m (handed_on way.handed ∷ way.messages) way.input way.messages → Relays waiting makes (Reached.Fault f) m turns left way
-stops {waiting = waiting} {makes = makes} law m turns left way f refuses g = record { holds = refuses; made = made_by waiting makes law m way g; counts = λ e. absurd cc }
+stops {waiting = waiting} {makes = makes} law m turns left way f refuses g = record { holds = refuses; made = made_by waiting makes law m way g; has = has_by m way g; counts = λ e. absurd cc }
 
 carried_by : {O E : Type 0} {receiver : Receiving O} {entries : Ghosts E} {waiting : O → List ℕ} {makes : Making} {turns : ℕ} {left : Option (List ℕ)} (at : Reached) (m : Machine O E receiver entries) (way : Way)
     → Relays waiting makes at m turns left way → Carried (mode_of m) (templates_in m.traversal.set.now) way.input way.messages

@@ -1,10 +1,11 @@
 -- How a stream on its way through an output stands to the bytes read and to the bytes handed on.
-use Rattle.std.specs.Prelude.{◌≡◌, ◌≢◌, ℕ, List, [], ◌∷◌, ◌++◌, length, Option, Some, None, Result, Ok, Err, MatchResult}
+use Rattle.std.specs.Prelude.{◌≡◌, ◌≢◌, ◌⊎◌, ℕ, List, [], ◌∷◌, ◌++◌, length, Option, Some, None, Result, Ok, Err, MatchResult}
 use Rattle.std.specs.Io.KnownBytes.{Appends}
 use Rattle.fast_io.specs.Counts.{counted, counted_by}
 use Rattle.fast_io.specs.Traffic.{Taken}
 use Rattle.fast_template.specs.Resolved.{Resolved}
 use Rattle.fast_template.specs.TemplateSets.{templates_in}
+use Rattle.fast_dictionary.specs.Dictionary.{Dictionary}
 use Rattle.fast_dictionary.specs.declared.entries.Entries.{Ghosts}
 use Rattle.fast_decoder.specs.declared.input.Reached.{Reached}
 use Rattle.fast_machine.specs.declared.machine.Machine.{Machine}
@@ -48,11 +49,19 @@ pub record GoesOn {O E : Type 0} {receiver : Receiving O} {entries : Ghosts E} (
   pub unrefused : m.fault ≡ None
   pub follows : Follows m (handed_on way.handed ∷ way.messages) way.input way.messages
 
+-- the output has the messages, whatever is open in it
+abbrev pub HasMade : {O E : Type 0} {receiver : Receiving O} {entries : Ghosts E} → Machine O E receiver entries → Way → Type 0
+HasMade {receiver = receiver} m way =
+    (d : Dictionary)
+    × (receiver.keeps m.receiver (templates_in m.traversal.set.now) (handed_on way.handed ∷ way.messages) d
+    ⊎ receiver.stands m.receiver (templates_in m.traversal.set.now) (handed_on way.handed ∷ way.messages) d)
+
 -- The bytes read carry the messages, and then what was reached says how it goes on; the bytes handed on, and those
 -- that wait in the output, are what it makes of the messages.
 pub record Relays {O E : Type 0} {receiver : Receiving O} {entries : Ghosts E} (waiting : O → List ℕ) (makes : Making) (at : Reached) (m : Machine O E receiver entries) (turns : ℕ) (left : Option (List ℕ)) (way : Way) : Type 0 where
   pub holds : HasReached at (GoesOn m way) (mode_of m) (templates_in m.traversal.set.now) turns left way.input way.messages
   pub made : makes (templates_in m.traversal.set.now) way.messages (way.handed ++ waiting m.receiver)
+  pub has : HasMade m way
   pub counts : at ≡ Reached.End → Counts m.fed m.messages way.input way.messages
 
 -- ---- a step
@@ -92,6 +101,8 @@ Goes waiting makes result old new left later taken_old taken_new got Because = M
 pub record HandsOn {O E : Type 0} {receiver : Receiving O} {entries : Ghosts E} (waiting : O → List ℕ) (makes : Making) (old new : Machine O E receiver entries) (taken_old taken_new : Option (List ℕ)) (more : List ℕ) (size : ℕ) : Type 0 where
   pub written : Appends taken_old taken_new more
   pub size_is : size ≡ counted_by 0 (length more)
+  pub whole : waiting old.receiver ≡ more ++ waiting new.receiver
+  pub has : (way : Way) → HasMade old way → HasMade new (handing way more)
   pub relays : (at : Reached) (turns : ℕ) (left : Option (List ℕ)) (way : Way) → Relays waiting makes at old turns left way → Relays waiting makes at new turns left (handing way more)
 
 -- some are, or a front of what waits

@@ -10,5 +10,6 @@ mod stop;
 mod summary;
 
 pub use fault::CanonFault;
-pub use relay::pass_through;
+pub use relay::{hand_on, pass_through, take_in};
+pub use stop::Stop;
 pub use summary::Summary;

@@ -30,7 +30,7 @@ const CHUNK: usize = 4096;
 const MANY: usize = 65_536;
 
 /// Hands on the bytes that wait, front by front, and answers how many they are.
-fn hand_on<O: Output, W: ByteOutput, E: Entries>(
+pub fn hand_on<O: Output, W: ByteOutput, E: Entries>(
     machine: &mut Machine<'_, O, E>,
     alloc: Global,
     writer: &mut W,
@@ -77,7 +77,7 @@ fn hand_on_many<O: Output, W: ByteOutput, E: Entries>(
 
 /// Takes the bytes of one read, message by message, and hands on what is made of them wherever it is many bytes;
 /// answers how far the stream came, and how many bytes were handed on.
-fn take_in<O: Output, W: ByteOutput, E: Entries>(
+pub fn take_in<O: Output, W: ByteOutput, E: Entries>(
     machine: &mut Machine<'_, O, E>,
     alloc: Global,
     bytes: &[u8],

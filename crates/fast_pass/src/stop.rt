@@ -2,7 +2,7 @@
 
 /// What keeps a relay from going on.
 #[derive(Clone, Copy, Debug)]
-pub(crate) enum Stop {
+pub enum Stop {
     /// The writer failed.
     Write,
     /// The output was refused memory for what it makes ready.

@@ -1,4 +1,4 @@
-use Rattle.fast_pass.proofs.Common.{◌∷◌, ◌++◌, ◌∙◌, ℕ, List, [], length, append_assoc, append-nil, ap, refl, sym, subst, inl, templates_in, mode_of, follows_behind, reached_with, Appends-nil, Appends-trans, handed_on, GoesOn, handing}
+use Rattle.fast_pass.proofs.Common.{◌∷◌, ◌++◌, ◌∙◌, ℕ, List, [], length, append_assoc, append-nil, ap, refl, sym, subst, inl, inr, templates_in, mode_of, follows_behind, reached_with, Appends-nil, Appends-trans, handed_on, GoesOn, handing}
 use Rattle.fast_pass.proofs.Relayings.{counts_more, taken_on}
 use Rattle.fast_pass.proofs.relay.hand_on.Goals as goal
 
@@ -8,7 +8,7 @@ fronts-init g c = record {
   errors = refl;
   flushes = refl;
   ended = λ e. absurd cc;
-  fronts = (record { front = []; parts = refl; appended = Appends-nil _ }, record { written = Appends-nil _; size_is = refl; relays = λ at turns left way r. rw (append-nil way.handed) r });
+  fronts = (record { front = []; parts = refl; appended = Appends-nil _ }, record { written = Appends-nil _; size_is = refl; whole = refl; has = λ way b. rw (append-nil way.handed) b; relays = λ at turns left way r. rw (append-nil way.handed) r });
 }
 
 pub returns-in-Err-clause-hands : goal.returns-in-Err-clause-hands
@@ -45,6 +45,17 @@ fronts-preserved g c =
         record {
           written = Appends-trans _ _ _ t.front ready t.appended pushed;
           size_is = counts_more c.fronts.count _ _ t.front ready v.fronts.1.size_is (inl (ap (λ (xs : List ℕ). length xs) c.finished-front.ensures.bytes)) c.saturating_add-count.ensures;
+          whole = t.parts ∙ rest t.front;
+          has = λ way x.
+              let b = v.fronts.1.has way x in
+              let before = way.handed ++ t.front in
+              rw (← append_assoc way.handed t.front ready) (
+                b.0,
+                elim b.1 [
+                  | inl k ↦ inl (h.keeps _ before way.messages b.0 k)
+                  | inr k ↦ inr (h.stands _ before way.messages b.0 k)
+                ],
+              );
           relays = λ at turns left way r.
               let b = v.fronts.1.relays at turns left way r in
               let before = way.handed ++ t.front in
@@ -59,6 +70,13 @@ fronts-preserved g c =
                       };
                     }) b.holds;
                 made = subst (λ (bytes : List ℕ). O.makes (templates_in old.traversal.set.now) way.messages bytes) (rest before) b.made;
+                has = (
+                  b.has.0,
+                  elim b.has.1 [
+                    | inl k ↦ inl (h.keeps _ before way.messages b.has.0 k)
+                    | inr k ↦ inr (h.stands _ before way.messages b.has.0 k)
+                  ],
+                );
                 counts = b.counts;
               });
         },

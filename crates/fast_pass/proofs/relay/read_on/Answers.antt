@@ -12,6 +12,7 @@ returns-in-Ok-finish-clause-read g c =
       λ turns way r. stays _ (subst (λ m. Relays g.O.Output.waiting g.O.Output.makes Reached.End m turns (g.R.ByteInput.left c.pull.new.self) way) (sym ok.0) (record {
         holds = record { carried = ok.1 (handed_on way.handed ∷ way.messages) way.input way.messages r.holds.follows; ended = p.bytes.2 zero (omega arith) };
         made = r.made;
+        has = r.has;
         counts = λ e. r.holds.follows.counts;
       })) ((λ h. absurd cc), (p.end.0 zero (omega arith), p.error)),
     )

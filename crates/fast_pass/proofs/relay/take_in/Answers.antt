@@ -10,7 +10,7 @@ messages-init g c = record {
   same = record { set = refl; mode = refl; same_keys = refl };
   errors = refl;
   flushes = refl;
-  goes = λ left later turns way r. stays _ (record { holds = r.holds; made = r.made; counts = r.counts }) ((λ e. absurd cc), tt);
+  goes = λ left later turns way r. stays _ (record { holds = r.holds; made = r.made; has = r.has; counts = r.counts }) ((λ e. absurd cc), tt);
 }
 
 pub returns-in-Err-clause-takes : goal.returns-in-Err-clause-takes

@@ -1,0 +1,2 @@
+pub mod CanonicalOnes
+pub mod CanonicalLaws

@@ -1,0 +1,170 @@
+use Rattle.std.proofs.Common.{◌≡◌, ◌≤◌, ◌+◌, ◌-◌, ℕ, List, [], ◌++◌, None, Some, inl, inr, length, refl, sym, ap, subst, ◌∙◌, arith, append-nil}
+use Rattle.std.proofs.lemmas.Result.{err_from_is_err_and}
+use Rattle.fast_io.proofs.Outputs.{Appends-trans}
+use Rattle.fast_template.specs.TemplateSets.{IsSound, templates_in}
+use Rattle.fast_stream.specs.declared.mode.Framing.TheVariants.{Plain}
+use Rattle.fast_stream.specs.declared.mode.Mode.{Mode}
+use Rattle.fast_stream.specs.Modes.{plainly}
+use Rattle.fast_machine.proofs.Followings.{all_carried}
+use Rattle.fast_pass.proofs.Relayings.{counts_more}
+use Rattle.fast_machine.proofs.Calls.{same_on}
+use Rattle.fast_pass.specs.Relays.{farther, handing, outset}
+use Rattle.fast_recording.specs.Packets.{kept_of}
+use Rattle.fast_recording.proofs.Takings.{broke_off, leaves_front, made_before, made_packet, puts_front, front_before}
+use Rattle.fast_recording.proofs.packet.take_packet.Goals as goal
+
+pub fault_behind-requires-clause-open : goal.fault_behind-requires-clause-open
+fault_behind-requires-clause-open g c = let rp = c.in_ok-came.ensures.reads 0 None in rp.0.because.0
+
+pub fault_behind-requires-clause-few : goal.fault_behind-requires-clause-few
+fault_behind-requires-clause-few g c = λ came.
+    let rp = c.in_ok-came.ensures.reads 0 None in
+    let r = rw (came) at rp.0.relays in
+    let fed = r.holds.follows.counts.fed_is in
+    let few = c.requires.few in
+    omega (arith, fed, few)
+
+pub returns-in_err-came-clause-takes : goal.returns-in_err-came-clause-takes
+returns-in_err-came-clause-takes g c =
+    let p = err_from_is_err_and c.from_residual.result c.from_residual.ensures.1 in
+    let rp = c.in_err-came.ensures.reads 0 None in
+    let same = c.in_err-came.ensures.same in
+    rw (p.1) (broke_off g.O.Output.makes c.args.machine.now c.read_packet.new.machine same c.requires.plain g.O.PacketOutput.sized rp.0 rp.1)
+
+pub returns-in_err-more-in-None-clause-takes : goal.returns-in_err-more-in-None-clause-takes
+returns-in_err-more-in-None-clause-takes g c =
+    let p = err_from_is_err_and c.from_residual-in_err-more-in-None.result c.from_residual-in_err-more-in-None.ensures.1 in
+    let rp = c.in_ok-came.ensures.reads 0 None in
+    let s = rp.0 in
+    let m = c.args.machine.now in
+    let m1 = c.read_packet.new.machine in
+    let same = c.in_ok-came.ensures.same in
+    let level : m1.traversal.level ≡ m.traversal.level = ap (λ (mode : Mode). mode.level) same.mode in
+    let plain : m1.framing ≡ Plain = ap (λ (mode : Mode). mode.framing) same.mode ∙ c.requires.plain in
+    let set_is : templates_in m1.traversal.set.now ≡ templates_in m.traversal.set.now = ap (λ x. templates_in x.now) same.set in
+    let sound : IsSound m1.traversal.set.now = subst (λ x. IsSound x.now) (sym same.set) c.requires.sound in
+    let way = farther outset s.more c.args.bytes.now s.ended in
+    let waits = g.O.Output.waiting c.fault_behind.new.machine.receiver in
+    let found = c.in-None.ensures.found 0 None way s.relays s.because sound plain in
+    let f = puts_front g.O.Output.makes (templates_in m1.traversal.set.now) s.ended _ _ _ g.O.PacketOutput.sized s.more waits rp.1 found.4 s.written c.in_err-more-in-None.ensures.puts in
+    rw (p.1, ← level, ← set_is) (s.ended, f.0, f.1, all_carried (plainly m1.traversal.level) (templates_in m1.traversal.set.now) c.args.bytes.now s.ended found.1, f.2)
+
+pub returns-in-Memory-clause-takes : goal.returns-in-Memory-clause-takes
+returns-in-Memory-clause-takes g c =
+    let rp = c.in_ok-came.ensures.reads 0 None in
+    let s = rp.0 in
+    let m = c.args.machine.now in
+    let m1 = c.read_packet.new.machine in
+    let same = c.in_ok-came.ensures.same in
+    let level : m1.traversal.level ≡ m.traversal.level = ap (λ (mode : Mode). mode.level) same.mode in
+    let plain : m1.framing ≡ Plain = ap (λ (mode : Mode). mode.framing) same.mode ∙ c.requires.plain in
+    let set_is : templates_in m1.traversal.set.now ≡ templates_in m.traversal.set.now = ap (λ x. templates_in x.now) same.set in
+    let sound : IsSound m1.traversal.set.now = subst (λ x. IsSound x.now) (sym same.set) c.requires.sound in
+    let way = farther outset s.more c.args.bytes.now s.ended in
+    let waits = g.O.Output.waiting c.fault_behind.new.machine.receiver in
+    let found = c.in-Some.ensures.found 0 None way s.relays s.because sound plain in
+    rw (← level, ← set_is) (s.ended, s.more, s.written, found.0, front_before g.O.Output.makes (templates_in m1.traversal.set.now) s.ended g.O.PacketOutput.sized s.more waits rp.1 found.4)
+
+pub returns-in_err-more-in-Some : goal.returns-in_err-more-in-Some
+returns-in_err-more-in-Some g c =
+    let p = err_from_is_err_and c.from_residual-in_err-more-in-Some.result c.from_residual-in_err-more-in-Some.ensures.1 in
+    let rp = c.in_ok-came.ensures.reads 0 None in
+    let s = rp.0 in
+    let m = c.args.machine.now in
+    let m1 = c.read_packet.new.machine in
+    let same = c.in_ok-came.ensures.same in
+    let level : m1.traversal.level ≡ m.traversal.level = ap (λ (mode : Mode). mode.level) same.mode in
+    let plain : m1.framing ≡ Plain = ap (λ (mode : Mode). mode.framing) same.mode ∙ c.requires.plain in
+    let set_is : templates_in m1.traversal.set.now ≡ templates_in m.traversal.set.now = ap (λ x. templates_in x.now) same.set in
+    let sound : IsSound m1.traversal.set.now = subst (λ x. IsSound x.now) (sym same.set) c.requires.sound in
+    let way = farther outset s.more c.args.bytes.now s.ended in
+    let waits = g.O.Output.waiting c.fault_behind.new.machine.receiver in
+    let found = c.in-Some.ensures.found 0 None way s.relays s.because sound plain in
+    let f = leaves_front g.O.Output.makes (templates_in m1.traversal.set.now) s.ended _ _ _ g.O.PacketOutput.sized s.more waits rp.1 found.4 s.written c.in_err-more-in-Some.ensures.leaves in
+    let l = c.in_err-more-in-Some.ensures in
+    record {
+      takes = rw (p.1, ← level, ← set_is) (s.ended, f.0, f.1, found.0, f.2);
+      rests = rw (p.1) tt;
+      failed = rw (p.1, p.2, ← c.in_ok-came.ensures.failed) l.failed;
+      flushes = l.flushes ∙ c.in_ok-came.ensures.flushes;
+      same = same_on same (same_on c.in-Some.ensures.same l.same);
+    }
+
+pub returns-in_ok-more-in-None-clause-takes : goal.returns-in_ok-more-in-None-clause-takes
+returns-in_ok-more-in-None-clause-takes g c =
+    let rp = c.in_ok-came.ensures.reads 0 None in
+    let s = rp.0 in
+    let m = c.args.machine.now in
+    let m1 = c.read_packet.new.machine in
+    let same = c.in_ok-came.ensures.same in
+    let level : m1.traversal.level ≡ m.traversal.level = ap (λ (mode : Mode). mode.level) same.mode in
+    let plain : m1.framing ≡ Plain = ap (λ (mode : Mode). mode.framing) same.mode ∙ c.requires.plain in
+    let set_is : templates_in m1.traversal.set.now ≡ templates_in m.traversal.set.now = ap (λ x. templates_in x.now) same.set in
+    let sound : IsSound m1.traversal.set.now = subst (λ x. IsSound x.now) (sym same.set) c.requires.sound in
+    let way = farther outset s.more c.args.bytes.now s.ended in
+    let waits = g.O.Output.waiting c.fault_behind.new.machine.receiver in
+    let found = c.in-None.ensures.found 0 None way s.relays s.because sound plain in
+    let p = c.in_ok-more-in-None.ensures.puts in
+    let out = p.size ++ waits in
+    rw (← level, ← set_is) (
+      s.ended,
+      s.more ++ out,
+      Appends-trans _ _ _ s.more out s.written p.written,
+      counts_more c.in_ok-came.before _ _ s.more out s.size_is (inr p.count_is) c.saturating_add.ensures,
+      c.messages-messages.ensures ∙ found.2,
+      (found.0, found.1, made_packet g.O.Output.makes (templates_in m1.traversal.set.now) s.ended g.O.PacketOutput.sized s.more p.size waits rp.1 p.leads found.4),
+    )
+
+pub returns-in_ok-more-in-None-clause-rests : goal.returns-in_ok-more-in-None-clause-rests
+returns-in_ok-more-in-None-clause-rests g c =
+    let rp = c.in_ok-came.ensures.reads 0 None in
+    let s = rp.0 in
+    let m = c.args.machine.now in
+    let m1 = c.read_packet.new.machine in
+    let same = c.in_ok-came.ensures.same in
+    let level : m1.traversal.level ≡ m.traversal.level = ap (λ (mode : Mode). mode.level) same.mode in
+    let plain : m1.framing ≡ Plain = ap (λ (mode : Mode). mode.framing) same.mode ∙ c.requires.plain in
+    let set_is : templates_in m1.traversal.set.now ≡ templates_in m.traversal.set.now = ap (λ x. templates_in x.now) same.set in
+    let sound : IsSound m1.traversal.set.now = subst (λ x. IsSound x.now) (sym same.set) c.requires.sound in
+    let way = farther outset s.more c.args.bytes.now s.ended in
+    let waits = g.O.Output.waiting c.fault_behind.new.machine.receiver in
+    let found = c.in-None.ensures.found 0 None way s.relays s.because sound plain in
+    let p = c.in_ok-more-in-None.ensures.puts in
+    (p.empty, handing way waits, p.has way found.3)
+
+pub returns-in_ok-more-in-Some : goal.returns-in_ok-more-in-Some
+returns-in_ok-more-in-Some g c =
+    let rp = c.in_ok-came.ensures.reads 0 None in
+    let s = rp.0 in
+    let m = c.args.machine.now in
+    let m1 = c.read_packet.new.machine in
+    let same = c.in_ok-came.ensures.same in
+    let level : m1.traversal.level ≡ m.traversal.level = ap (λ (mode : Mode). mode.level) same.mode in
+    let plain : m1.framing ≡ Plain = ap (λ (mode : Mode). mode.framing) same.mode ∙ c.requires.plain in
+    let set_is : templates_in m1.traversal.set.now ≡ templates_in m.traversal.set.now = ap (λ x. templates_in x.now) same.set in
+    let sound : IsSound m1.traversal.set.now = subst (λ x. IsSound x.now) (sym same.set) c.requires.sound in
+    let way = farther outset s.more c.args.bytes.now s.ended in
+    let waits = g.O.Output.waiting c.fault_behind.new.machine.receiver in
+    let found = c.in-Some.ensures.found 0 None way s.relays s.because sound plain in
+    let l = c.in_ok-more-in-Some.ensures in
+    let p = l.leaves in
+    let out = kept_of g.O.PacketOutput.sized waits in
+    let behind = found.1 in
+    let number = c.saturating_sub.ensures in
+    record {
+      takes = rw (← level, ← set_is) (
+        s.ended,
+        s.more ++ out,
+        Appends-trans _ _ _ s.more out s.written p.written,
+        counts_more c.in_ok-came.before _ _ s.more out s.size_is (inr p.count_is) c.saturating_add-in-Some.ensures,
+        omega (arith, behind, number),
+        (
+          made_before g.O.Output.makes (templates_in m1.traversal.set.now) s.ended g.O.PacketOutput.sized s.more waits rp.1 found.4,
+          found.2 c.in_default.not-Memory,
+        ),
+      );
+      rests = (p.empty, handing way waits, p.has way found.3);
+      failed = l.failed ∙ c.in_ok-came.ensures.failed;
+      flushes = l.flushes ∙ c.in_ok-came.ensures.flushes;
+      same = same_on same (same_on c.in-Some.ensures.same l.same);
+    }

@@ -1,0 +1,179 @@
+//! One packet on its way through an output.
+
+ghost use Rattle.std.specs.Prelude.{◌≡◌, ◌≢◌, ◌≤◌, ◌^◌, ℕ, List, Option, OnOk, length};
+ghost use Rattle.fast_template.specs.TemplateSets.{IsSound, templates_in};
+ghost use Rattle.fast_pass.specs.Relays.{IsOfBytes, Relays, Way, errors_behind};
+ghost use Rattle.fast_machine.specs.Calls.{IsSameStream};
+ghost use Rattle.fast_recording.specs.Packets.{FoundBehind, LeavesPacket, PutsPacket, ReadsPacket, Rests, TakesPacket};
+
+use crate::nowhere::Nowhere;
+use crate::output::PacketOutput;
+use fast_decoder::Reached;
+use fast_dictionary::Entries;
+use fast_io::{ByteOutput, push_all};
+use fast_machine::Machine;
+use fast_pass::{Stop, hand_on, take_in};
+use fast_stream::{Cause, Fault, Framing};
+use fast_wire::write_unsigned;
+use std::alloc::Global;
+
+/// What came of a packet: how many messages, its fault where it is refused, and how many bytes were written.
+#[derive(Clone, Copy)]
+pub struct Taken {
+    pub messages: u64,
+    pub fault: Option<Fault>,
+    pub written: u64,
+}
+
+// Reads the bytes of a packet from undefined entries, as far as they go.
+fn read_packet<O: PacketOutput, W: ByteOutput, E: Entries>(
+    machine: &mut Machine<'_, O, E>,
+    alloc: Global,
+    bytes: &[u8],
+    writer: &mut W,
+) -> Result<(Reached, u64), Stop>
+    requires few { length bytes.now ≤ 2 ^ 20 }
+    requires rests { Rests O.waiting machine.now }
+    ensures reads { (turns : ℕ) (left : Option (List ℕ))
+        → ReadsPacket O.sized O.waiting O.makes result machine.new turns left (W.taken writer.old) (W.taken writer.new) bytes.now }
+    ensures failed { W.errors writer.new ≡ errors_behind result (W.errors writer.old) }
+    ensures flushes { W.flushes writer.new ≡ W.flushes writer.old }
+    ensures same { IsSameStream machine.old machine.new }
+{
+    machine.reset();
+    if machine.receiver.is_sized() {
+        // (what is made of them waits for its size)
+        return match machine.feed(bytes) {
+            Ok(()) => Ok((Reached::Open, 0)),
+            Err(fault) => Ok((Reached::Fault(fault), 0)),
+        };
+    }
+    take_in(machine, alloc, bytes, writer)
+}
+
+// Writes what waits of an accepted packet, its size first where it has one.
+fn put_packet<O: PacketOutput, W: ByteOutput, E: Entries>(
+    machine: &mut Machine<'_, O, E>,
+    alloc: Global,
+    size: &mut Vec<u8>,
+    writer: &mut W,
+) -> Result<u64, Stop>
+    ensures puts { PutsPacket O.sized O.waiting result machine.old machine.new (W.taken writer.old) (W.taken writer.new) }
+    ensures failed { W.errors writer.new ≡ errors_behind result (W.errors writer.old) }
+    ensures flushes { W.flushes writer.new ≡ W.flushes writer.old }
+    ensures same { IsSameStream machine.old machine.new }
+{
+    if !machine.receiver.is_sized() {
+        return hand_on(machine, alloc, writer);
+    }
+    size.clear();
+    match write_unsigned(machine.receiver.finished().len() as u128, size) {
+        Err(_) => return Err(Stop::Memory),
+        Ok(()) => {}
+    }
+    match push_all(writer, size) {
+        Err(_) => return Err(Stop::Write),
+        Ok(()) => {}
+    }
+    let count = hand_on(machine, alloc, writer)?;
+    Ok(count.saturating_add(size.len() as u64))
+}
+
+// Writes what waits of a refused packet, or drops it where it would have a size.
+fn leave_packet<O: PacketOutput, W: ByteOutput, E: Entries>(
+    machine: &mut Machine<'_, O, E>,
+    alloc: Global,
+    writer: &mut W,
+) -> Result<u64, Stop>
+    ensures leaves { LeavesPacket O.sized O.waiting result machine.old machine.new (W.taken writer.old) (W.taken writer.new) }
+    ensures failed { W.errors writer.new ≡ errors_behind result (W.errors writer.old) }
+    ensures flushes { W.flushes writer.new ≡ W.flushes writer.old }
+    ensures same { IsSameStream machine.old machine.new }
+{
+    if machine.receiver.is_sized() {
+        let mut nowhere = Nowhere {
+            calls: 0,
+            flushes: 0,
+        };
+        return match hand_on(machine, alloc, &mut nowhere) {
+            Err(_) => Err(Stop::Memory),
+            Ok(_) => Ok(0),
+        };
+    }
+    hand_on(machine, alloc, writer)
+}
+
+// Why a packet is refused whose bytes were read as far as this; none where they are messages, and all of them.
+fn fault_behind<O: PacketOutput, E: Entries>(
+    machine: &mut Machine<'_, O, E>,
+    came: Reached,
+    cut: Option<Cause>,
+) -> Option<Fault>
+    requires open { came ≢ Reached.End }
+    requires few { came ≡ Reached.Open → machine.now.fed ≤ 2 ^ 60 }
+    ensures found { (turns : ℕ) (left : Option (List ℕ)) (way : Way)
+        → Relays O.waiting O.makes came machine.old turns left way → IsOfBytes came
+        → IsSound machine.old.traversal.set.now → machine.old.framing ≡ Framing.Plain
+        → FoundBehind O.waiting O.makes machine.old.traversal.level (templates_in machine.old.traversal.set.now) cut way
+        result machine.new }
+    ensures same { IsSameStream machine.old machine.new }
+{
+    if let Reached::Fault(fault) = came {
+        return Some(fault);
+    }
+    if let Some(cause) = cut {
+        return Some(machine.cut(cause));
+    }
+    match machine.finish() {
+        Ok(()) => None,
+        Err(fault) => Some(Fault {
+            cause: Cause::BlockEnd,
+            ..fault
+        }),
+    }
+}
+
+/// Reads a packet, or what has come of one of which no more comes for a cause, and writes what is made of it.
+pub fn take_packet<O: PacketOutput, W: ByteOutput, E: Entries>(
+    machine: &mut Machine<'_, O, E>,
+    alloc: Global,
+    bytes: &[u8],
+    cut: Option<Cause>,
+    size: &mut Vec<u8>,
+    writer: &mut W,
+) -> Result<Taken, Stop>
+    requires few { length bytes.now ≤ 2 ^ 20 }
+    requires rests { Rests O.waiting machine.now }
+    requires plain { machine.now.framing ≡ Framing.Plain }
+    requires sound { IsSound machine.now.traversal.set.now }
+    ensures takes { TakesPacket O.sized O.makes machine.old.traversal.level (templates_in machine.old.traversal.set.now)
+        (W.taken writer.old) (W.taken writer.new) bytes.now cut result }
+    ensures rests { OnOk result (Rests O.waiting machine.new) }
+    ensures failed { W.errors writer.new ≡ errors_behind result (W.errors writer.old) }
+    ensures flushes { W.flushes writer.new ≡ W.flushes writer.old }
+    ensures same { IsSameStream machine.old machine.new }
+{
+    let (came, before) = read_packet(machine, alloc, bytes, writer)?;
+    match fault_behind(machine, came, cut) {
+        None => {
+            let messages = machine.messages();
+            let more = put_packet(machine, alloc, size, writer)?;
+            Ok(Taken {
+                messages,
+                fault: None,
+                written: before.saturating_add(more),
+            })
+        }
+        Some(fault) => {
+            if let Cause::Memory = fault.cause {
+                return Err(Stop::Memory);
+            }
+            let more = leave_packet(machine, alloc, writer)?;
+            Ok(Taken {
+                messages: fault.place.message.saturating_sub(1),
+                fault: Some(fault),
+                written: before.saturating_add(more),
+            })
+        }
+    }
+}
