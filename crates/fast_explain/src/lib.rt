@@ -5,12 +5,12 @@
 #![tactic(auto)]
 
 mod hex_text;
-mod json;
 mod looks;
 mod meaning;
 mod misfit;
 mod misfit_text;
 mod names;
+mod no_json;
 mod notes;
 mod place;
 mod said;

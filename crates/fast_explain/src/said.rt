@@ -1,9 +1,9 @@
 //! What is said behind the line of a refusal.
 
 use crate::hex_text::Stray;
-use crate::json::{Look, NoJson};
 use crate::looks::StreamLook;
 use crate::meaning::{meaning_of, rule_of};
+use crate::no_json::{Look, NoJson};
 use crate::notes::{Notes, Reading};
 use crate::place::LineColumn;
 use fast_host::{FileState, Refusal};

@@ -1,9 +1,9 @@
 //! What is known of a template text that is refused.
 
-use crate::json::{NoJson, no_json};
 use crate::misfit::{misfit_of_instruction, misfit_of_template, misfit_of_top};
 use crate::misfit_text::misfit_text;
 use crate::names::{Names, member_in_text, names_in_text, template_in_text};
+use crate::no_json::{NoJson, no_json};
 use crate::place::{LineColumn, place_in};
 use fast_written::{LoadCause, LoadFault};
 use serde_json::Value;
