@@ -1,9 +1,7 @@
 -- Lemmas on a machine that goes from packet to packet.
-use Rattle.std.proofs.Common.{Bool, true, false, List, ℕ, [], ◌∷◌, ◌++◌, ◌+◌, ◌≡◌, ◌≢◌, ◌⊎◌, inl, inr, Option, Some, None, OnOk, Result, Ok, Err, length, refl, sym, ap, subst, ◌∙◌, append-nil}
-use Rattle.std.proofs.lemmas.Bool.{false≢true, true≢false}
+use Rattle.std.proofs.Common.{Bool, true, false, List, ℕ, [], ◌∷◌, ◌++◌, ◌≡◌, ◌≢◌, ◌⊎◌, inr, Option, Some, None, OnOk, Result, Ok, Err, refl, sym, ap, subst, ◌∙◌, append-nil}
+use Rattle.std.proofs.lemmas.Bool.{true≢false}
 use Rattle.std.specs.FinMap as finite
-use Rattle.std.specs.Io.KnownBytes.{Appends}
-use Rattle.fast_io.specs.Counts.{counted_by}
 use Rattle.fast_wire.specs.Integer.{IsUnsigned}
 use Rattle.fast_wire.specs.Writing.{AppendsShortest, IsShortest}
 use Rattle.fast_template.specs.Resolved.{Resolved}
@@ -14,13 +12,11 @@ use Rattle.fast_stream.specs.declared.fault.Cause.{Cause}
 use Rattle.fast_stream.specs.declared.fault.Fault.{Fault}
 use Rattle.fast_stream.specs.declared.mode.Framing.{Framing}
 use Rattle.fast_stream.specs.declared.mode.Framing.TheVariants.{Plain}
-use Rattle.fast_stream.specs.declared.mode.Mode.{Mode}
 use Rattle.fast_stream.specs.Modes.{plainly}
 use Rattle.fast_stream.specs.Nodes.{Content}
 use Rattle.fast_walk.specs.Received.{handed_on}
 use Rattle.fast_walk.specs.declared.receiver.Receiver.{Ghosts as Receiving}
 use Rattle.fast_machine.proofs.Followings.{has_kept}
-use Rattle.fast_machine.specs.Calls.{IsSameStream}
 use Rattle.fast_machine.specs.Following.{Follows, mode_of}
 use Rattle.fast_machine.specs.declared.machine.Machine.{Machine}
 use Rattle.fast_decoder.specs.declared.input.Reached.{Reached}

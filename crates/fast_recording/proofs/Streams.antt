@@ -1,5 +1,5 @@
 -- What a machine says of the stream of a packet.
-use Rattle.std.proofs.Common.{List, ℕ, zero, suc, [], ◌∷◌, ◌++◌, ◌+◌, ◌<◌, ◌≡◌, ◌≢◌, ◌⊎◌, inl, inr, Option, Some, None, length, refl, sym, ap, subst, ◌∙◌, arith, true, append-nil, length-append}
+use Rattle.std.proofs.Common.{List, ℕ, suc, ◌++◌, ◌+◌, ◌≡◌, ◌≢◌, ◌⊎◌, inl, inr, Option, Some, None, length, refl, sym, ap, subst, ◌∙◌, arith, true, append-nil, length-append}
 use Rattle.std.proofs.lemmas.List.{nil_from_length}
 use Rattle.fast_wire.specs.declared.level.Level.{Level}
 use Rattle.fast_template.specs.Resolved.{Resolved}

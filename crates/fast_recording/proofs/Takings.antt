@@ -1,5 +1,5 @@
 -- What comes of a packet, put together.
-use Rattle.std.proofs.Common.{Bool, true, false, List, ℕ, [], ◌∷◌, ◌++◌, ◌≡◌, ◌⊎◌, inl, inr, Option, length, refl, sym, ap, subst, ◌∙◌, append-nil, append_assoc}
+use Rattle.std.proofs.Common.{Bool, true, false, List, ℕ, [], ◌++◌, ◌≡◌, ◌⊎◌, inl, inr, Option, refl, ap, subst, ◌∙◌, append-nil, append_assoc}
 use Rattle.std.specs.Io.KnownBytes.{Appends}
 use Rattle.fast_io.proofs.Outputs.{Appends-trans}
 use Rattle.fast_io.specs.Traffic.{Taken}

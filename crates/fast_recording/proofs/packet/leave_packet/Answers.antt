@@ -1,4 +1,4 @@
-use Rattle.std.proofs.Common.{◌≡◌, true, refl, sym, ◌∙◌}
+use Rattle.std.proofs.Common.{refl, sym, ◌∙◌}
 use Rattle.fast_io.proofs.Outputs.{Appends-nil}
 use Rattle.fast_recording.proofs.Machines.{all_handed, leaves_of}
 use Rattle.fast_recording.proofs.packet.leave_packet.Goals as goal

@@ -1,4 +1,4 @@
-use Rattle.std.proofs.Common.{◌≡◌, ◌+◌, true, ℕ, List, [], ◌++◌, inl, inr, length, refl, sym, ap, subst, ◌∙◌, arith, append_assoc, length-append}
+use Rattle.std.proofs.Common.{◌≡◌, ◌+◌, true, ℕ, List, ◌++◌, inr, length, sym, ap, subst, ◌∙◌, arith, append_assoc, length-append}
 use Rattle.std.proofs.lemmas.Result.{err_from_is_err_and}
 use Rattle.fast_io.proofs.Outputs.{Appends-trans}
 use Rattle.fast_wire.specs.Integer.{IsUnsigned}
