@@ -1,0 +1,4 @@
+pub mod Cuts
+pub mod Standing
+pub mod Withins
+pub mod Shown
