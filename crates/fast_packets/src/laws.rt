@@ -1,11 +1,12 @@
 //! Laws of recordings, each the contract of a function that does nothing. They speak of the definitions alone, and stand
 //! on the laws of streams.
 
-ghost use Rattle.std.specs.Prelude.{◌≡◌, ◌⊎◌, ◌↔◌, ◌++◌, ℕ, Bool, List, map};
+ghost use Rattle.std.specs.Prelude.{◌≡◌, ◌≢◌, ◌⊎◌, ◌↔◌, ◌++◌, ℕ, Bool, List, map};
 ghost use Rattle.fast_wire.specs.declared.level.Level.{Level};
 ghost use Rattle.fast_wire.specs.Reader.{IsBytes};
 ghost use Rattle.fast_template.specs.Resolved.{Resolved};
 ghost use Rattle.fast_template.specs.TemplateSets.{IsSound, TemplateList, templates_in};
+ghost use Rattle.fast_stream.specs.declared.fault.Cause.TheVariants.{Truncated};
 ghost use Rattle.fast_stream.specs.declared.fault.Fault.{Fault};
 ghost use Rattle.fast_stream.specs.Nodes.{Content};
 ghost use Rattle.fast_packets.specs.Outcomes.{FirstRefusal, Outcome, Outcomes, accepted};
@@ -37,6 +38,15 @@ pub fn carried_or_refused()
     ensures one_refusal { (level : Level) (set : TemplateList) (bytes : List ℕ) (number other : ℕ)
         (fault second : Fault) → IsSound set → FirstRefusal level (templates_in set) bytes number fault
         → FirstRefusal level (templates_in set) bytes other second → (number ≡ other) × (fault ≡ second) }
+{}
+
+/// A refusal stays, whatever follows: where bytes are refused for another cause than want of bytes, so are those that they
+/// begin.
+pub fn refusals_stay()
+    ensures { (level : Level) (set : TemplateList) (bytes more : List ℕ) (number : ℕ) (fault : Fault) → IsSound set
+        → IsBytes (bytes ++ more) → fault.cause ≢ Truncated
+        → FirstRefusal level (templates_in set) bytes number fault
+        → FirstRefusal level (templates_in set) (bytes ++ more) number fault }
 {}
 
 /// Each recording has one list of outcomes, one for each packet or up to the first refusal, and no other. They are all
