@@ -1,6 +1,6 @@
-/* fastcat: FAST 1.1 streams in memory are canonicalised, checked and shown.
+/* fastcat: FAST 1.1 streams and recordings in memory are canonicalised, checked and shown.
  *
- * A template text is JSON in UTF-8, and a stream is bytes; docs/FORMAT.md tells of both. The functions keep no state:
+ * A template text is JSON in UTF-8, and a stream or a recording of packets is bytes; docs/FORMAT.md tells of them. The functions keep no state:
  * threads may call them side by side, each with a room and an answer of its own. A pointer whose length is 0 is not
  * looked at. Room, answer, templates and stream do not overlap.
  */
@@ -20,18 +20,22 @@ extern "C" {
 #define FASTCAT_VERSION_NUMBER 100
 uint32_t fastcat_version(void);
 
-/* How a stream is read: the sum of these. A mode with any other bit is refused. */
+/* How a stream is read and shown: the sum of these. A mode with any other bit is refused, and one with blocks and packets. */
 enum {
   /* Refuse entities that are longer than they need to be, and map bits that no instruction asked for (R6 to R9). */
   FASTCAT_STRICT = 1,
   /* Messages stand in blocks: a size, and as many bytes. */
-  FASTCAT_BLOCKS = 2
+  FASTCAT_BLOCKS = 2,
+  /* fastcat_show writes a JSON text for each message. The other calls do with it what they do without. */
+  FASTCAT_JSON = 4,
+  /* The stream is a recording of packets: of each a size, and as many bytes, which are a stream of their own. */
+  FASTCAT_PACKETS = 8
 };
 
 /* How a call ended. The first that fails is answered: the mode, the size of the stream, the templates, the stream. */
 enum fastcat_status {
   FASTCAT_DONE = 0,
-  /* The stream is refused: cause, message, offset, template and instruction say why and where. */
+  /* The stream is refused: cause, message, offset, template and instruction say why and where, and packet of a recording. */
   FASTCAT_STREAM_REFUSED = 1,
   /* The templates are refused: cause, template and instruction say why and where. */
   FASTCAT_TEMPLATES_REFUSED = 2,
@@ -55,15 +59,15 @@ enum fastcat_cause {
   FASTCAT_D6 = 4,         /* a mandatory field is left out or changed, and its previous value is empty */
   FASTCAT_D7 = 5,         /* a subtraction length is no int32, or takes more than there is */
   FASTCAT_D9 = 6,         /* no template has the identifier */
-  FASTCAT_D12 = 7,        /* a block's size is zero */
+  FASTCAT_D12 = 7,        /* the size of a block or of a packet is zero */
   FASTCAT_R1 = 8,         /* a decimal's exponent is outside -63..63, or its mantissa outside int64 */
   FASTCAT_R2 = 9,         /* a Unicode string is not UTF-8 */
   FASTCAT_R6 = 10,        /* strict: an integer, a length or a size has more bytes than it needs */
   FASTCAT_R7 = 11,        /* strict: a presence map has more bytes than it needs */
   FASTCAT_R8 = 12,        /* strict: a bit of a presence map is 1 that no instruction asked for */
   FASTCAT_R9 = 13,        /* strict: a string has a preamble that it does not need */
-  FASTCAT_BLOCK_END = 14, /* a block ended inside a message */
-  FASTCAT_TRUNCATED = 15, /* the stream ended inside a message or a block */
+  FASTCAT_BLOCK_END = 14, /* a block or a packet ended inside a message */
+  FASTCAT_TRUNCATED = 15, /* the stream ended inside a message, a block or a packet */
   FASTCAT_LIMIT = 16,     /* a limit is passed */
   /* Of templates: */
   FASTCAT_S1 = 101,             /* the text is not of the JSON profile, or a name is no name */
@@ -81,15 +85,17 @@ enum fastcat_cause {
 
 /* What a call answers. Each call sets every field, to 0 where it has nothing to say of it. */
 struct fastcat_answer {
-  uint64_t messages;    /* the messages of the stream, or of a refused one those before its fault */
+  uint64_t messages;    /* the messages of the stream, or of a refused one, or a refused packet, those before its fault */
   uint64_t read;        /* the bytes of a stream that was read to its end */
   uint64_t written;     /* the bytes that were put into the room's front, or are needed; of fastcat_check the canonical bytes */
-  uint64_t message;     /* the message at which the stream is refused, from 1 */
+  uint64_t message;     /* the message at which the stream or the packet is refused, from 1 */
   uint64_t offset;      /* how many bytes of the stream stand before the piece that is refused */
   uint32_t status;      /* enum fastcat_status, which the call also returns */
   uint32_t cause;       /* enum fastcat_cause */
   uint32_t template_id; /* of a refused stream the template's identifier; of templates the place in the list, from 1 */
   uint32_t instruction; /* the instruction's number, from 1 */
+  uint64_t packets;     /* the packets of a recording, or of a refused one those before the packet that is refused */
+  uint64_t packet;      /* the packet that is refused, from 1 */
 };
 
 /* Puts the canonical bytes of a stream into the front of the room. A room of as many bytes as the stream has is enough.
@@ -102,7 +108,7 @@ uint32_t fastcat_canon(const uint8_t *templates, size_t templates_length, uint32
 uint32_t fastcat_check(const uint8_t *templates, size_t templates_length, uint32_t mode, const uint8_t *stream,
                        size_t stream_length, struct fastcat_answer *answer);
 
-/* Puts a line of text for each message of a stream into the front of the room, as fastcat_canon does its bytes. No
+/* Puts a line for each message of a stream, of text or of JSON, into the front of the room, as fastcat_canon does its bytes. No
  * length is known to be enough: where the room is too short, try again with one of as many bytes as it says. */
 uint32_t fastcat_show(const uint8_t *templates, size_t templates_length, uint32_t mode, const uint8_t *stream,
                       size_t stream_length, uint8_t *room, size_t room_length, struct fastcat_answer *answer);

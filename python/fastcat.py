@@ -1,4 +1,4 @@
-"""FAST 1.1 streams in memory: canonical bytes, counts and lines of text, by the proved library (docs/LIBRARY.md).
+"""FAST 1.1 streams and recordings in memory: canonical bytes, counts and lines, by the proved library (docs/LIBRARY.md).
 
 The shared library is the one that the environment variable FASTCAT_LIBRARY names, or libfastcat.so beside this file or
 in ../lib, where lib/build puts it.
@@ -62,11 +62,12 @@ class Cause(enum.IntEnum):
 class Answer:
     """What a call answers. What it says nothing of is 0.
 
-    `messages`, of a refused stream those before the fault; `read`, the bytes of a stream that was read to its end;
+    `messages`, of a refused stream or packet those before the fault; `packets`, of a recording, of a refused one those
+    before the packet that is refused; `read`, the bytes of a stream that was read to its end;
     `written`, the bytes that were written, of a check the canonical bytes, of a room that is too short those that are
-    needed. Where a stream is refused: `message`, from 1,
-    `offset`, the bytes before the piece that is refused, `template`, its identifier, and `instruction`. Where templates
-    are: `template`, the place in the list, from 1, and `instruction`.
+    needed. Where a stream is refused: `packet`, of a recording, from 1, `message`, from 1 (in its packet), `offset`, the
+    bytes before the piece that is refused, `template`, its identifier, and `instruction`. Where templates are: `template`,
+    the place in the list, from 1, and `instruction`.
     """
 
     messages: int
@@ -78,6 +79,8 @@ class Answer:
     cause: Cause
     template: int
     instruction: int
+    packets: int
+    packet: int
 
 
 class FastcatError(Exception):
@@ -94,8 +97,9 @@ class FastcatError(Exception):
     def __str__(self):
         answer = self.answer
         if answer.status is Status.STREAM_REFUSED:
+            packet = f"packet={answer.packet} " if answer.packet else ""
             return (
-                f"refused {answer.cause.name} message={answer.message} offset={answer.offset} "
+                f"refused {answer.cause.name} {packet}message={answer.message} offset={answer.offset} "
                 f"template={answer.template} instruction={answer.instruction}"
             )
         if answer.status is Status.TEMPLATES_REFUSED:
@@ -109,7 +113,7 @@ class FastcatError(Exception):
 class _Answer(ctypes.Structure):
     _fields_ = [(name, ctypes.c_uint64) for name in ("messages", "read", "written", "message", "offset")] + [
         (name, ctypes.c_uint32) for name in ("status", "cause", "template", "instruction")
-    ]
+    ] + [(name, ctypes.c_uint64) for name in ("packets", "packet")]
 
 
 def _load():
@@ -172,16 +176,16 @@ def _bytes(what, data) -> bytes:
     return bytes(data)
 
 
-def _mode(strict: bool, blocks: bool) -> int:
-    return (1 if strict else 0) | (2 if blocks else 0)
+def _mode(strict: bool, blocks: bool, packets: bool, json: bool = False) -> int:
+    return (1 if strict else 0) | (2 if blocks else 0) | (4 if json else 0) | (8 if packets else 0)
 
 
-def _write(function, templates, stream, strict, blocks) -> bytes:
+def _write(function, templates, stream, mode) -> bytes:
     text, data = _text(templates), _bytes("stream", stream)
     length = max(len(data), 64)
     while True:
         room = ctypes.create_string_buffer(length)
-        answer = _call(function, text, len(text), _mode(strict, blocks), data, len(data), room, length)
+        answer = _call(function, text, len(text), mode, data, len(data), room, length)
         if answer.status is not Status.ROOM_TOO_SHORT:
             break
         length = answer.written
@@ -191,20 +195,22 @@ def _write(function, templates, stream, strict, blocks) -> bytes:
     return written
 
 
-def canon(templates, stream, strict: bool = False, blocks: bool = False) -> bytes:
-    """The canonical bytes of a stream. `templates` is a JSON text, as `str` or bytes, or a file, as `os.PathLike`."""
-    return _write(_library.fastcat_canon, templates, stream, strict, blocks)
+def canon(templates, stream, strict: bool = False, blocks: bool = False, packets: bool = False) -> bytes:
+    """The canonical bytes of a stream, or with `packets` of a recording. `templates` is a JSON text, as `str` or bytes, or a
+    file, as `os.PathLike`."""
+    return _write(_library.fastcat_canon, templates, stream, _mode(strict, blocks, packets))
 
 
-def show(templates, stream, strict: bool = False, blocks: bool = False) -> str:
-    """A line of text for each message of a stream. It is ASCII."""
-    return _write(_library.fastcat_show, templates, stream, strict, blocks).decode("ascii")
+def show(templates, stream, strict: bool = False, blocks: bool = False, packets: bool = False, json: bool = False) -> str:
+    """A line for each message of a stream or a recording: of text, in ASCII, or a JSON text, which with `packets` says its
+    packet first."""
+    return _write(_library.fastcat_show, templates, stream, _mode(strict, blocks, packets, json)).decode()
 
 
-def check(templates, stream, strict: bool = False, blocks: bool = False) -> Answer:
-    """How many messages and bytes a stream has, and in `written` how many canonical bytes."""
+def check(templates, stream, strict: bool = False, blocks: bool = False, packets: bool = False) -> Answer:
+    """How many messages and bytes a stream has, or packets a recording, and in `written` how many canonical bytes."""
     text, data = _text(templates), _bytes("stream", stream)
-    answer = _call(_library.fastcat_check, text, len(text), _mode(strict, blocks), data, len(data))
+    answer = _call(_library.fastcat_check, text, len(text), _mode(strict, blocks, packets), data, len(data))
     if answer.status is not Status.DONE:
         raise FastcatError(answer)
     return answer

@@ -27,6 +27,14 @@ static const uint8_t spelled_out[] = {0xf0, 0x81, 0x81, 0x41, 0xc2, 0xfe, 0x00, 
 static const uint8_t canonical[] = {0xf0, 0x81, 0x81, 0x41, 0xc2, 0xfe, 0x00, 0xe4, 0x80, 0x80, 0x81};
 static const uint8_t cut[] = {0xf0, 0x81, 0x81, 0x41, 0xc2, 0xfe, 0x00, 0xe4, 0x80};
 static const uint8_t block[] = {0x88, 0xf0, 0x81, 0x81, 0x41, 0xc2, 0xfe, 0x00, 0xe4};
+/* Two packets, the second behind a size of two bytes, and their canonical recording. */
+static const uint8_t two_packets[] = {0x88, 0xf0, 0x81, 0x81, 0x41, 0xc2, 0xfe, 0x00, 0xe4,
+                                      0x00, 0x88, 0xf0, 0x81, 0x81, 0x41, 0xc2, 0xfe, 0x00, 0xe4};
+static const uint8_t canonical_packets[] = {0x88, 0xf0, 0x81, 0x81, 0x41, 0xc2, 0xfe, 0x00, 0xe4,
+                                            0x88, 0xf0, 0x81, 0x81, 0x41, 0xc2, 0xfe, 0x00, 0xe4};
+#define FIELDS "\"template\":\"Quote\",\"id\":1,\"fields\":{\"Seq\":1,\"Sym\":\"AB\",\"Px\":100e-2,\"Qty\":null}}\n"
+static const char json[] = "{" FIELDS;
+static const char packet_lines[] = "{\"packet\":1," FIELDS "{\"packet\":2," FIELDS;
 static const char line[] = "1 Quote Seq=1 Sym=\"AB\" Px=100e-2 Qty=-\n";
 
 /* All fields of an answer, so that none keeps what was there before. */
@@ -37,7 +45,7 @@ static int says(const struct fastcat_answer *a, uint32_t status, uint64_t messag
          a->instruction == instruction;
 }
 
-static uint8_t room[256];
+static uint8_t room[512];
 
 static uint32_t canon(const uint8_t *stream, size_t length, uint32_t mode, size_t room_length,
                       struct fastcat_answer *answer) {
@@ -72,8 +80,9 @@ static void streams(void) {
              holds(one, 8), "a block");
   expect(canon(block, sizeof block, FASTCAT_BLOCKS | FASTCAT_STRICT, sizeof room, &a) == FASTCAT_DONE && holds(one, 8),
          "a block at the strict level");
-  expect(canon(one, sizeof one, 4, sizeof room, &a) == FASTCAT_UNKNOWN_MODE && says(&a, 5, 0, 0, 0, 0, 0, 0, 0, 0) &&
+  expect(canon(one, sizeof one, 16, sizeof room, &a) == FASTCAT_UNKNOWN_MODE && says(&a, 5, 0, 0, 0, 0, 0, 0, 0, 0) &&
              holds("", 0), "an unknown mode");
+  expect(canon(one, sizeof one, FASTCAT_BLOCKS | FASTCAT_PACKETS, sizeof room, &a) == FASTCAT_UNKNOWN_MODE, "packets of blocks");
   expect(canon(one, sizeof one, 0x80000001u, sizeof room, &a) == FASTCAT_UNKNOWN_MODE, "another unknown mode");
   expect(canon(NULL, 0, 0, sizeof room, &a) == FASTCAT_DONE && says(&a, 0, 0, 0, 0, 0, 0, 0, 0, 0) && holds("", 0), "no stream");
   expect(fastcat_canon(templates, templates_length, 0, one, 0, NULL, 0, &a) == FASTCAT_DONE, "no stream and no room");
@@ -93,8 +102,11 @@ static void others(void) {
   memset(room, 0xaa, sizeof room);
   expect(fastcat_show(templates, templates_length, 0, one, sizeof one, room, sizeof line - 2, &a) == FASTCAT_ROOM_TOO_SHORT &&
              holds("", 0), "show in a room that is one byte too short");
-  expect(fastcat_show(templates, templates_length, 8, one, sizeof one, room, sizeof room, &a) == FASTCAT_UNKNOWN_MODE,
+  expect(fastcat_show(templates, templates_length, 32, one, sizeof one, room, sizeof room, &a) == FASTCAT_UNKNOWN_MODE,
          "show in an unknown mode");
+  memset(room, 0xaa, sizeof room);
+  expect(fastcat_show(templates, templates_length, FASTCAT_JSON, one, sizeof one, room, sizeof room, &a) == FASTCAT_DONE &&
+             says(&a, 0, 1, 8, sizeof json - 1, 0, 0, 0, 0, 0) && holds(json, sizeof json - 1), "show in JSON");
 
   /* The length alone is looked at. */
   expect(fastcat_check(templates, templates_length, 0, one, (size_t)1 << 40, &a) == FASTCAT_STREAM_TOO_LONG &&
@@ -113,6 +125,33 @@ static void others(void) {
              says(&a, 2, 0, 0, 0, FASTCAT_S2, 0, 0, 1, 1), "an operator that does not apply");
   expect(fastcat_check((const uint8_t *)tail, sizeof tail - 1, 0, one, sizeof one, &a) == FASTCAT_TEMPLATES_REFUSED &&
              says(&a, 2, 0, 0, 0, FASTCAT_S2, 0, 0, 1, 1), "a check with templates that are refused");
+}
+
+/* How many packets are answered, and which one is refused. */
+static int of_packets(const struct fastcat_answer *a, uint64_t packets, uint64_t packet) {
+  return a->packets == packets && a->packet == packet;
+}
+
+static void recordings(void) {
+  struct fastcat_answer a;
+  expect(canon(two_packets, sizeof two_packets, FASTCAT_PACKETS, sizeof room, &a) == FASTCAT_DONE &&
+             says(&a, 0, 2, 19, 18, 0, 0, 0, 0, 0) && of_packets(&a, 2, 0) && holds(canonical_packets, 18), "canon of two packets");
+  expect(canon(two_packets, sizeof two_packets, FASTCAT_PACKETS, 18, &a) == FASTCAT_DONE && holds(canonical_packets, 18),
+         "a room that is just enough for packets");
+  expect(canon(two_packets, sizeof two_packets, FASTCAT_PACKETS, 17, &a) == FASTCAT_ROOM_TOO_SHORT &&
+             says(&a, 3, 0, 0, 18, 0, 0, 0, 0, 0) && holds("", 0), "a room that is too short for packets");
+  expect(canon(two_packets, sizeof two_packets, FASTCAT_PACKETS | FASTCAT_STRICT, sizeof room, &a) == FASTCAT_STREAM_REFUSED &&
+             says(&a, 1, 0, 0, 9, FASTCAT_R6, 1, 9, 0, 0) && of_packets(&a, 1, 2) && holds(canonical_packets, 9),
+         "a size that is too long at the strict level");
+  memset(&a, 0xaa, sizeof a);
+  expect(fastcat_check(templates, templates_length, FASTCAT_PACKETS, two_packets, sizeof two_packets, &a) == FASTCAT_DONE &&
+             says(&a, 0, 2, 19, 18, 0, 0, 0, 0, 0) && of_packets(&a, 2, 0), "check of two packets");
+  expect(fastcat_check(templates, templates_length, FASTCAT_PACKETS, two_packets, 12, &a) == FASTCAT_STREAM_REFUSED &&
+             says(&a, 1, 0, 0, 0, FASTCAT_TRUNCATED, 1, 12, 0, 0) && of_packets(&a, 1, 2), "a recording that is cut");
+  memset(room, 0xaa, sizeof room);
+  expect(fastcat_show(templates, templates_length, FASTCAT_PACKETS | FASTCAT_JSON, two_packets, sizeof two_packets, room,
+                      sizeof room, &a) == FASTCAT_DONE && says(&a, 0, 2, 19, sizeof packet_lines - 1, 0, 0, 0, 0, 0) &&
+             of_packets(&a, 2, 0) && holds(packet_lines, sizeof packet_lines - 1), "show of two packets in JSON");
 }
 
 /* The causes by the names of fastcat.h. */
@@ -165,6 +204,7 @@ int main(int count, char **words) {
   fclose(file);
   streams();
   others();
+  recordings();
   table(rows);
   fclose(rows);
   printf("C: %u passed, %u failed\n", passed, failed);

@@ -49,6 +49,33 @@ class Examples(unittest.TestCase):
                         self.assertEqual(answer.messages, lines.count("\n"))
                         self.assertEqual((answer.read, answer.written), (len(stream), len(canonical)))
 
+    def test_json(self):
+        for name in ("worked", "book", "trade"):
+            self.assertEqual(fastcat.show(text(f"{name}.json"), data(f"{name}.hex"), json=True), text(f"{name}.jsonl"))
+
+    def test_packets(self):
+        templates, canonical = text("moex.json"), data("moex.canon")
+        for recording in (data("moex.packets"), canonical):
+            self.assertEqual(fastcat.canon(templates, recording, packets=True), canonical)
+            self.assertEqual(fastcat.show(templates, recording, packets=True), text("moex.lines"))
+            self.assertEqual(fastcat.show(templates, recording, packets=True, json=True), text("moex.jsonl"))
+            answer = fastcat.check(templates, recording, packets=True)
+            self.assertEqual((answer.read, answer.written), (len(recording), len(canonical)))
+            self.assertEqual(answer.messages, text("moex.lines").count("\n"))
+            self.assertEqual(answer.packets, len(set(re.findall(r'^{"packet":(\d+),', text("moex.jsonl"), re.M))))
+
+    def test_each_front_of_a_recording(self):
+        """A front ends between two packets or is Truncated, and the packets before are written."""
+        templates, canonical = text("moex.json"), data("moex.canon")
+        for length in range(len(canonical)):
+            try:
+                self.assertEqual(fastcat.canon(templates, canonical[:length], packets=True), canonical[:length])
+            except fastcat.FastcatError as error:
+                self.assertIs(error.answer.cause, fastcat.Cause.Truncated)
+                self.assertEqual(error.written, canonical[:len(error.written)])
+                self.assertEqual(error.answer.packets, error.answer.packet - 1)
+                self.assertEqual(fastcat.check(templates, error.written, packets=True).packets, error.answer.packets)
+
     def test_each_front(self):
         """A front of a stream ends between two messages or is Truncated, and what is before it is written."""
         canonical = data("book.canon")
@@ -92,6 +119,13 @@ class Refusals(unittest.TestCase):
         for call in (fastcat.canon, fastcat.check, fastcat.show):
             error = self.refusal(call, WORKED, stream, strict=True)
             self.assertEqual(str(error), "refused R6 message=1 offset=2 template=1 instruction=1")
+
+    def test_packets(self):
+        error = self.refusal(fastcat.show, WORKED, b"\x88" + ONE + b"\x83\x80\x80\x81", packets=True)
+        self.assertEqual(str(error), "refused D5 packet=2 message=1 offset=11 template=0 instruction=0")
+        self.assertEqual(error.written, b'1 Quote Seq=1 Sym="AB" Px=100e-2 Qty=-\n')
+        error = self.refusal(fastcat.canon, WORKED, b"\x88" + ONE, packets=True, blocks=True)
+        self.assertEqual(str(error), "unknown mode")
 
     def test_truncated(self):
         error = self.refusal(fastcat.canon, WORKED, ONE + b"\x80")

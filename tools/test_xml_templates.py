@@ -402,7 +402,7 @@ class Namespaces(TestCase):
                          '3: <uInt32 name="F">: f:presence="optional" has FAST\'s namespace; write it without a prefix')
 
     def test_reset(self):
-        told = "and fastcat keeps its entries across the template's messages; read each datagram as a stream of its own"
+        told = "and fastcat keeps its entries across the template's messages; read datagrams with --packets"
         for word in ("yes", "true", "1", "YES", "True", " yes ", "Y", "T", "false", "0", ""):
             warning = f'2: warning: <template name="T">: {{}}reset="{word}" cannot be said in JSON, {told}'
             self.gives(template("", f' xmlns:scp="urn:scp" name="T" id="1" scp:reset="{word}"'), of_template(),
@@ -420,7 +420,7 @@ class Namespaces(TestCase):
                      '2: <template name="T">: f:reset="yes" has FAST\'s namespace; write it without a prefix')
 
     def test_reset_messages(self):
-        told = "and fastcat keeps its entries across the template's messages; read each datagram as a stream of its own"
+        told = "and fastcat keeps its entries across the template's messages; read datagrams with --packets"
         for name in ("Reset", "FASTReset", "FAST_Reset", "scp:Reset", "RESET-MESSAGE"):
             self.gives(template("", f' name="{name}" id="120"'), {"templates": [{"name": name, "id": 120, "instructions": []}]},
                        f'2: warning: <template name="{name}">: is a reset message by its name, {told}')
@@ -617,7 +617,7 @@ class Names(TestCase):
                    {"templates": [{"name": "T", "instructions": []}, {"name": "U", "id": 2, "instructions": []}]},
                    '2: warning: <template name="T">: has no id and no templateRef names it; no message can use it',
                    '3: warning: <template name="U">: s:reset="1" cannot be said in JSON, and fastcat keeps its entries '
-                   "across the template's messages; read each datagram as a stream of its own")
+                   "across the template's messages; read datagrams with --packets")
 
     def test_a_refusal_has_no_warnings(self):
         self.refused(templates('<template name="T"/>\n<template/>'), "3: <template>: has no name; give it one")
@@ -900,7 +900,7 @@ class Programs(TestCase):
             self.assertEqual(answer.returncode, 0)
             self.assertEqual(answer.stdout, file.with_suffix(".json").read_bytes())
             warnings = [f'{file}:7: warning: <template name="FASTReset">: scp:reset="yes" cannot be said in JSON, and fastcat '
-                        "keeps its entries across the template's messages; read each datagram as a stream of its own"]
+                        "keeps its entries across the template's messages; read datagrams with --packets"]
             self.assertEqual(answer.stderr.decode().splitlines(), warnings if file.stem == "eurex" else [])
 
     def test_layout(self):

@@ -4,6 +4,7 @@
 mod command;
 pub mod laws;
 mod line;
+mod packets;
 mod shown;
 mod told;
 
@@ -12,6 +13,7 @@ pub use fast_lines::{Form, ShowFault};
 pub use fast_stream::{Framing, Mode};
 pub use fast_wire::Level;
 pub use line::show_line;
+pub use packets::run_packets;
 
 /// The version of the program and of the library.
 pub const VERSION: &str = "0.1.0";

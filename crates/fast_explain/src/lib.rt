@@ -17,6 +17,6 @@ mod said;
 mod seen;
 mod template_text;
 
-pub use notes::Notes;
+pub use notes::{Notes, ReadAs};
 pub use said::{Files, explain};
 pub use seen::Seen;

@@ -1,10 +1,11 @@
 //! What causes mean, and what to do.
 
+use crate::notes::ReadAs;
 use fast_stream::{Cause, Fault};
 use fast_written::{LoadCause, LoadFault};
 
 /// What the cause of a refused stream means, and what to do.
-pub fn meaning_of(fault: Fault) -> &'static str {
+pub fn meaning_of(read_as: ReadAs, fault: Fault) -> &'static str {
     match fault.cause {
         Cause::D2 => {
             "the integer is out of the bounds of its type; compare the type with the sender's templates"
@@ -27,8 +28,14 @@ pub fn meaning_of(fault: Fault) -> &'static str {
         Cause::D9 => {
             "no template has the identifier that stands there; add the template, or see that the stream begins where a message does"
         }
+        Cause::D12 if read_as == ReadAs::Recording => {
+            "the size of the packet is zero; if the input has no packets, leave out --packets"
+        }
         Cause::D12 =>
             "the size of the block is zero; if the stream has no blocks, leave out --blocks",
+        Cause::BlockEnd if read_as == ReadAs::Recording => {
+            "the packet ends inside a message; compare the templates with the sender's"
+        }
         Cause::BlockEnd => {
             "the block ends inside a message; if the stream has no blocks, leave out --blocks, else compare the templates with the sender's"
         }
@@ -47,6 +54,9 @@ pub fn meaning_of(fault: Fault) -> &'static str {
         }
         Cause::R9 => {
             "the string has a preamble that it does not need; leave out --strict to read it"
+        }
+        Cause::Truncated if read_as == ReadAs::Recording => {
+            "the recording ends inside a packet or its size; see that it was copied whole"
         }
         Cause::Truncated => {
             "the stream ends inside a message or a block; see that it was copied whole"

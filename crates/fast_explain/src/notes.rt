@@ -20,17 +20,28 @@ pub(crate) enum Reading {
     Stream,
 }
 
+/// What the input is read as.
+#[derive(Clone, Copy, Debug, PartialEq, Eq)]
+pub enum ReadAs {
+    /// A stream in this framing.
+    Stream(Framing),
+    /// A recording of packets.
+    Recording,
+}
+
 /// What is known of a refusal beside its line. Nothing is noted where it is not asked for, and what memory is refused
 /// for stays unknown.
 #[derive(Drop)]
 pub struct Notes {
     is_asked: bool,
     pub(crate) reading: Reading,
-    pub(crate) framing: Framing,
+    pub(crate) read_as: ReadAs,
     pub(crate) load: Option<LoadFault>,
     /// What is known of the text of refused templates.
     pub(crate) text: TextNotes,
     pub(crate) fault: Option<Fault>,
+    /// The packet in which it is.
+    pub(crate) packet: Option<u64>,
     /// The names at a fault of the stream.
     pub(crate) names: Names,
     /// The identifier of no template.
@@ -56,15 +67,16 @@ fn number_at(bytes: &[u8], before: u64, offset: u64) -> Option<u64> {
 }
 
 impl Notes {
-    /// No notes of a stream in this framing.
-    pub fn new(is_asked: bool, framing: Framing) -> Notes {
+    /// No notes of an input that is read so.
+    pub fn new(is_asked: bool, read_as: ReadAs) -> Notes {
         Notes {
             is_asked,
             reading: Reading::Templates,
-            framing,
+            read_as,
             load: None,
             text: TextNotes::unknown(),
             fault: None,
+            packet: None,
             names: Names::unknown(),
             identifier: None,
             stray: None,
@@ -122,6 +134,12 @@ impl Notes {
 
     /// Notes where a stream stopped.
     pub fn stream_stopped(&mut self, fault: Fault) {
+        self.fault = Some(fault);
+    }
+
+    /// Notes where a recording stopped: at a fault in this packet, whose offset is one of the recording.
+    pub fn recording_stopped(&mut self, packet: u64, fault: Fault) {
+        self.packet = Some(packet);
         self.fault = Some(fault);
     }
 

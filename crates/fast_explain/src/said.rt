@@ -4,7 +4,7 @@ use crate::hex_text::Stray;
 use crate::looks::StreamLook;
 use crate::meaning::{meaning_of, rule_of};
 use crate::no_json::{Look, NoJson};
-use crate::notes::{Notes, Reading};
+use crate::notes::{Notes, ReadAs, Reading};
 use crate::place::LineColumn;
 use fast_host::{FileState, Refusal};
 use fast_stream::{Cause, Fault, Framing};
@@ -138,23 +138,32 @@ fn templates_text(alloc: Global, input: &str, notes: &Notes) -> Result<String, A
     }
 }
 
+/// In which message a stream is refused, and of which packet.
+fn message_text(alloc: Global, notes: &Notes, fault: Fault) -> Result<String, AllocError> {
+    let message = fault.place.message;
+    match notes.packet {
+        Some(packet) => format!(in alloc; "packet {packet}, message {message}"),
+        None => format!(in alloc; "message {message}"),
+    }
+}
+
 /// Where a stream is refused, by names.
 fn place_text(alloc: Global, notes: &Notes, fault: Fault) -> Result<String, AllocError> {
-    let message = fault.place.message;
+    let message = message_text(alloc, notes, fault)?;
     let offset = fault.place.offset;
     match (&notes.names.template, &notes.names.instruction) {
         (Some(template), Some(field)) => {
             let template = template.as_str();
             let field = field.as_str();
             format!(in alloc;
-                "message {message}, offset {offset}, field {field:?} of template {template:?}"
+                "{message}, offset {offset}, field {field:?} of template {template:?}"
             )
         }
         (Some(template), None) => {
             let template = template.as_str();
-            format!(in alloc; "message {message}, offset {offset}, template {template:?}")
+            format!(in alloc; "{message}, offset {offset}, template {template:?}")
         }
-        (None, _) => format!(in alloc; "message {message}, offset {offset}"),
+        (None, _) => format!(in alloc; "{message}, offset {offset}"),
     }
 }
 
@@ -164,22 +173,41 @@ fn why_text(alloc: Global, notes: &Notes, fault: Fault) -> Result<String, AllocE
         (Cause::D9, Some(identifier)) => format!(in alloc;
             "no template has the identifier {identifier}; add the template, or see that the stream begins where a message does"
         ),
-        (_, _) => String::from_str(alloc, meaning_of(fault)),
+        (_, _) => String::from_str(alloc, meaning_of(notes.read_as, fault)),
     }
 }
 
-/// In how many of the first messages a stream is mostly refused that is read in another framing than its own.
-const FIRST_MESSAGES: u64 = 3;
+/// In how many of the first messages, or packets, an input is mostly refused that is read as another than it is.
+const FIRST_PIECES: u64 = 3;
 
-/// What else a stream may be that is refused so soon.
-fn framing_text(framing: Framing, fault: Fault) -> &'static str {
-    let is_early = fault.place.message <= FIRST_MESSAGES;
-    match (framing, fault.cause) {
-        (Framing::Plain, Cause::D5 | Cause::D9 | Cause::Truncated) if is_early => {
-            "explain: if the stream is in blocks, each behind its size, give --blocks; if other bytes stand before each message, take them out\n"
+/// Whether so few messages, or packets, stand before a fault that the input may be read as another than it is.
+fn is_early(packet: Option<u64>, fault: Fault) -> bool {
+    match packet {
+        Some(packet) => packet <= FIRST_PIECES,
+        None => fault.place.message <= FIRST_PIECES,
+    }
+}
+
+/// What else an input may be that is refused so.
+fn read_as_text(read_as: ReadAs, packet: Option<u64>, fault: Fault) -> &'static str {
+    let is_early = is_early(packet, fault);
+    match (read_as, fault.cause) {
+        (ReadAs::Stream(Framing::Plain), Cause::D5 | Cause::D9 | Cause::Truncated) if is_early => {
+            "explain: if the stream is in blocks, each behind its size, give --blocks, or --packets where each begins with undefined entries; if other bytes stand before each message, take them out\n"
         }
-        (Framing::Blocks, Cause::D5 | Cause::D9 | Cause::Truncated) if is_early => {
+        (ReadAs::Stream(Framing::Blocks), Cause::D5 | Cause::D9 | Cause::Truncated) if is_early => {
             "explain: if the stream has no blocks, leave out --blocks; if other bytes stand before each block, take them out\n"
+        }
+        (
+            ReadAs::Stream(Framing::Blocks),
+            Cause::D2 | Cause::D4 | Cause::D5 | Cause::D6 | Cause::D7 | Cause::R1,
+        ) => {
+            "explain: if each block is a datagram that begins with undefined entries, give --packets in place of --blocks\n"
+        }
+        (ReadAs::Recording, Cause::D5 | Cause::D9 | Cause::Truncated | Cause::BlockEnd)
+            if is_early =>
+        {
+            "explain: if the input has no packets, leave out --packets; if entries go on from packet to packet, give --blocks; if other bytes stand before each packet's messages, take them out\n"
         }
         _ => "",
     }
@@ -192,10 +220,10 @@ fn stream_look_text(alloc: Global, input: &str, look: StreamLook) -> Result<Stri
             "explain: {input} begins with hex digits alone; for hex text give --hex\n"
         ),
         StreamLook::Pcap => format!(in alloc;
-            "explain: {input} is a capture file (pcap); take the streams out of its packets first\n"
+            "explain: {input} is a capture file (pcap); take its packets out by tools/pcap-packets, and read them with --packets\n"
         ),
         StreamLook::Pcapng => format!(in alloc;
-            "explain: {input} is a capture file (pcapng); take the streams out of its packets first\n"
+            "explain: {input} is a capture file (pcapng); take its packets out by tools/pcap-packets, and read them with --packets\n"
         ),
         StreamLook::Gzip => format!(in alloc;
             "explain: {input} is compressed (gzip); give what gzip -dc writes of it\n"
@@ -212,7 +240,7 @@ fn stream_text(alloc: Global, input: &str, notes: &Notes) -> Result<String, Allo
     let why = why_text(alloc, notes, fault)?;
     let more = match notes.look {
         Some(look) => stream_look_text(alloc, input, look)?,
-        None => String::from_str(alloc, framing_text(notes.framing, fault))?,
+        None => String::from_str(alloc, read_as_text(notes.read_as, notes.packet, fault))?,
     };
     format!(in alloc; "explain: {place}: {why}\n{more}")
 }
@@ -221,8 +249,8 @@ fn stream_text(alloc: Global, input: &str, notes: &Notes) -> Result<String, Allo
 fn stopped_text(alloc: Global, notes: &Notes) -> Result<String, AllocError> {
     match notes.fault {
         Some(fault) => {
-            let message = fault.place.message;
-            format!(in alloc; " in message {message}")
+            let message = message_text(alloc, notes, fault)?;
+            format!(in alloc; " in {message}")
         }
         None => Ok(String::new(alloc)),
     }

@@ -65,33 +65,6 @@ fn load_refusal(cause: LoadCause) -> Option<Refusal>
     }
 }
 
-/// What a fault of the machine in mid-stream is answered with; none where the bytes are refused.
-fn machine_refusal(cause: Cause) -> Option<Refusal>
-    ensures { result ≡ machine_refusal_of cause }
-{
-    match cause {
-        Cause::Read => Some(Refusal::Read),
-        Cause::Turns => Some(Refusal::Turns),
-        Cause::Memory => Some(Refusal::Memory),
-        Cause::D2
-        | Cause::D4
-        | Cause::D5
-        | Cause::D6
-        | Cause::D7
-        | Cause::D9
-        | Cause::D12
-        | Cause::R1
-        | Cause::R2
-        | Cause::R6
-        | Cause::R7
-        | Cause::R8
-        | Cause::R9
-        | Cause::BlockEnd
-        | Cause::Truncated
-        | Cause::Limit => None,
-    }
-}
-
 /// The line of a refused stream.
 fn stream_line(alloc: Global, fault: Fault) -> Result<String, AllocError>
     ensures { IfOk result (λ line. string_bytes line ≡ stream_line_of fault) }
@@ -225,11 +198,38 @@ impl Refusal {
         }
     }
 
+    /// What a fault of the machine in mid-stream is answered with; none where the bytes are refused.
+    pub fn of_machine(cause: Cause) -> Option<Refusal>
+        ensures { result ≡ machine_refusal_of cause }
+    {
+        match cause {
+            Cause::Read => Some(Refusal::Read),
+            Cause::Turns => Some(Refusal::Turns),
+            Cause::Memory => Some(Refusal::Memory),
+            Cause::D2
+            | Cause::D4
+            | Cause::D5
+            | Cause::D6
+            | Cause::D7
+            | Cause::D9
+            | Cause::D12
+            | Cause::R1
+            | Cause::R2
+            | Cause::R6
+            | Cause::R7
+            | Cause::R8
+            | Cause::R9
+            | Cause::BlockEnd
+            | Cause::Truncated
+            | Cause::Limit => None,
+        }
+    }
+
     /// What a stream that was not read to its end is answered with.
     pub fn of_stream(alloc: Global, fault: Fault) -> Refusal
         ensures { IsOfStream fault result }
     {
-        match machine_refusal(fault.cause) {
+        match Refusal::of_machine(fault.cause) {
             Some(refusal) => refusal,
             None => match stream_line(alloc, fault) {
                 Ok(line) => Refusal::Stream(line),

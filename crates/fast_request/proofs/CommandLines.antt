@@ -1,5 +1,5 @@
 -- Lines of words, computed: what is found of each.
-use Rattle.fast_request.proofs.Common.{◌≡◌, List, [], ◌∷◌, Option, None, Some, refl, codes, Text, first_of, one_of, clap_on_literals, command_named, rows_among, Check}
+use Rattle.fast_request.proofs.Common.{◌≡◌, List, [], ◌∷◌, Bool, true, false, Option, None, Some, refl, codes, Text, first_of, one_of, clap_on_literals, command_named, rows_among, Show, Check, Canon, Usual, Strict, Blocks, Flags, Task, task_named}
 
 abbrev of : Text → List Text → Option Text
 of id words = first_of id (rows_among None words)
@@ -97,3 +97,47 @@ check_named = refl
 -- and no word of another name is a command
 none_named : command_named (codes "Show") ≡ None
 none_named = refl
+
+-- fastcat show --packets --keep-going --templates t.json
+abbrev packets : List Text
+packets = codes "fastcat" ∷ codes "show" ∷ codes "--packets" ∷ codes "--keep-going" ∷ codes "--templates" ∷ codes "t.json" ∷ []
+
+packets_flag : flag (codes "packets") packets ≡ Some (codes "true")
+unfolding rows_among clap_on_literals
+packets_flag = refl
+
+packets_keep_going : flag (codes "keep-going") packets ≡ Some (codes "true")
+unfolding rows_among clap_on_literals
+packets_keep_going = refl
+
+packets_blocks : flag (codes "blocks") packets ≡ Some (codes "false")
+unfolding rows_among clap_on_literals
+packets_blocks = refl
+
+plain_packets : flag (codes "packets") plain ≡ Some (codes "false")
+unfolding rows_among clap_on_literals
+plain_packets = refl
+
+-- ---- what words and flags ask for: strict, blocks, packets, keep-going
+
+abbrev flags : Bool → Bool → Bool → Bool → Flags
+flags strict blocks packets keep_going = record { strict = strict; blocks = blocks; packets = packets; keep_going = keep_going }
+
+stream_asked : task_named (codes "canon") (flags true true false false) ≡ Some (Task.Stream Canon (record { level = Strict; framing = Blocks }))
+stream_asked = refl
+
+recording_asked : task_named (codes "show") (flags true false true true) ≡ Some (Task.Recording Show (record { level = Strict; keep_going = true }))
+recording_asked = refl
+
+recording_stops : task_named (codes "canon") (flags false false true false) ≡ Some (Task.Recording Canon (record { level = Usual; keep_going = false }))
+recording_stops = refl
+
+-- no packets of blocks, nowhere to go on without packets, and no canonical recording behind a refused one
+blocks_refused : task_named (codes "check") (flags false true true false) ≡ None
+blocks_refused = refl
+
+going_refused : task_named (codes "check") (flags false false false true) ≡ None
+going_refused = refl
+
+canon_refused : task_named (codes "canon") (flags false false true true) ≡ None
+canon_refused = refl

@@ -3,4 +3,4 @@
 
 mod request;
 
-pub use request::{Request, parse_words};
+pub use request::{Request, Task, parse_words};

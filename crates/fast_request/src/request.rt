@@ -1,30 +1,48 @@
 //! What a command line asks for.
 
-ghost use Rattle.std.specs.Prelude.{◌≡◌, ◌≢◌, None, Some, IfNone, IfOk, codes, false, map, option_and_then, option_map};
+ghost use Rattle.std.specs.Prelude.{◌≡◌, ◌≢◌, None, Some, IfErr, IfOk, codes, false, map, option_and_then, option_map};
 ghost use Rattle.clap.specs.Words.{app_of, first_of, found_of, one_of, rows_of, rule_of};
-ghost use Rattle.fast_request.specs.CommandLine.{AsksFor, Finds, IsFlag, asked_by, bare_app, command_named, command_rule, file_named, flag_rule, input_rule, is_blocks, is_json, is_strict, line_among, templates_rule, with_files_lem, with_flags_lem};
+ghost use Rattle.fast_request.specs.CommandLine.{AsksFor, Finds, FindsFlags, IsFlag, asked_by, bare_app, command_named, command_rule, file_named, flag_rule, framing_by as framing_by_lem, input_rule, is_json, level_by as level_by_lem, line_among, over_packets as over_packets_lem, over_stream as over_stream_lem, task_named, templates_rule, with_files_lem, with_flags_lem, with_ways_lem};
 
 use clap::error::ErrorKind;
 use clap::{Arg, ArgAction, ArgMatches};
 use fast_command::{Command, Form, Framing, Level, Mode, VERSION};
+use fast_recording::PacketMode;
 use std::alloc::{AllocError, Global};
+
+/// What is done with an input.
+#[derive(Clone, Copy, Debug, PartialEq, Eq)]
+pub enum Task {
+    /// A command over a stream, which is read so.
+    Stream { command: Command, mode: Mode },
+    /// A command over a recording of packets, which is read so.
+    Recording { command: Command, mode: PacketMode },
+}
 
 /// What a command line asks for.
 #[derive(Clone, Copy)]
 pub struct Request<'a> {
-    pub command: Command,
+    /// What is done with the input.
+    pub task: Task,
     /// The name of the file with the templates; without one they come from the standard input.
     pub templates: Option<&'a str>,
     /// Whether the input is hex text, and with it what `canon` writes.
     pub hex: bool,
-    /// How the stream is read.
-    pub mode: Mode,
     /// How `show` writes a message.
     pub form: Form,
     /// Whether a refusal is explained.
     pub explain: bool,
     /// The name of the file with the stream; without one it is the standard input.
     pub input: Option<&'a str>,
+}
+
+/// The flags that say how an input is read.
+#[derive(Clone, Copy)]
+pub(crate) struct Flags {
+    pub(crate) strict: bool,
+    pub(crate) blocks: bool,
+    pub(crate) packets: bool,
+    pub(crate) keep_going: bool,
 }
 
 /// What the help says behind the list of words.
@@ -36,7 +54,7 @@ Commands:
 
 Exit status:
   0  done
-  1  the stream is refused: standard error has the cause and the place
+  1  the stream or a packet is refused: standard error has the cause and the place
   2  the command line, the templates or the hex text is refused
   3  a file, a read, a write or memory failed
 
@@ -51,6 +69,10 @@ const HEX: &str = "Read hex text, and write canonical bytes as hex text";
 const STRICT: &str = "Refuse overlong entities, and map bits that no instruction asked for";
 
 const BLOCKS: &str = "Read a stream of blocks: a size, and as many bytes of whole messages";
+
+const PACKETS: &str = "Read a recording: packets, each a size and as many bytes, a stream of its own";
+
+const KEEP_GOING: &str = "With --packets, tell of a refused packet on standard error and read the next";
 
 const JSON: &str = "Show each message as a JSON text";
 
@@ -121,13 +143,22 @@ fn with_files<'a>(alloc: Global, line: clap::Command<'a>) -> Result<clap::Comman
         .arg(templates_word(alloc))
 }
 
-/// Adds the flags.
-fn with_flags<'a>(alloc: Global, line: clap::Command<'a>) -> Result<clap::Command<'a>, AllocError>
-    ensures { IfOk result (λ whole. app_of whole ≡ with_flags_lem (app_of line.entry)) }
+/// Adds the flags that say how an input is read.
+fn with_ways<'a>(alloc: Global, line: clap::Command<'a>) -> Result<clap::Command<'a>, AllocError>
+    ensures { IfOk result (λ whole. app_of whole ≡ with_ways_lem (app_of line.entry)) }
 {
     line.arg(flag(alloc, "hex", HEX))?
         .arg(flag(alloc, "strict", STRICT))?
         .arg(flag(alloc, "blocks", BLOCKS))?
+        .arg(flag(alloc, "packets", PACKETS))?
+        .arg(flag(alloc, "keep-going", KEEP_GOING))
+}
+
+/// Adds the flags.
+fn with_flags<'a>(alloc: Global, line: clap::Command<'a>) -> Result<clap::Command<'a>, AllocError>
+    ensures { IfOk result (λ whole. app_of whole ≡ with_flags_lem (app_of line.entry)) }
+{
+    with_ways(alloc, line)?
         .arg(flag(alloc, "json", JSON))?
         .arg(flag(alloc, "explain", EXPLAIN))
 }
@@ -141,29 +172,82 @@ fn line<'a>(alloc: Global) -> Result<clap::Command<'a>, AllocError>
 }
 
 /// The command of a word.
-fn command_of(word: Option<&str>) -> Option<Command>
-    ensures { result ≡ option_and_then command_named (option_map (λ w. w.now) word.entry) }
+fn command_of(word: &str) -> Option<Command>
+    ensures { result ≡ command_named word.now }
 {
     match word {
-        Some("show") => Some(Command::Show),
-        Some("check") => Some(Command::Check),
-        Some("canon") => Some(Command::Canon),
-        Some(_) | None => None,
+        "show" => Some(Command::Show),
+        "check" => Some(Command::Check),
+        "canon" => Some(Command::Canon),
+        _ => None,
     }
 }
 
-/// How a stream is read, by the flags.
-fn mode_by(strict: bool, blocks: bool) -> Mode
-    ensures strict { is_strict result.level ≡ strict }
-    ensures blocks { is_blocks result.framing ≡ blocks }
+/// The level that a flag asks for.
+fn level_by(strict: bool) -> Level
+    ensures { result ≡ level_by_lem strict }
 {
-    let level = if strict { Level::Strict } else { Level::Usual };
-    let framing = if blocks {
+    if strict { Level::Strict } else { Level::Usual }
+}
+
+/// The framing that a flag asks for.
+fn framing_by(blocks: bool) -> Framing
+    ensures { result ≡ framing_by_lem blocks }
+{
+    if blocks {
         Framing::Blocks
     } else {
         Framing::Plain
-    };
-    Mode { level, framing }
+    }
+}
+
+/// What a command over a stream is asked for by the flags.
+fn over_stream(command: Command, flags: Flags) -> Result<Task, Unasked>
+    ensures asked { IfOk result (λ t. over_stream_lem command flags ≡ Some t) }
+    ensures unasked { IfErr result (λ _. over_stream_lem command flags ≡ None) }
+{
+    if flags.keep_going {
+        return Err(Unasked::KeepGoing);
+    }
+    Ok(Task::Stream {
+        command,
+        mode: Mode {
+            level: level_by(flags.strict),
+            framing: framing_by(flags.blocks),
+        },
+    })
+}
+
+/// What a command over a recording is asked for by the flags.
+fn over_packets(command: Command, flags: Flags) -> Result<Task, Unasked>
+    ensures asked { IfOk result (λ t. over_packets_lem command flags ≡ Some t) }
+    ensures unasked { IfErr result (λ _. over_packets_lem command flags ≡ None) }
+{
+    if flags.blocks {
+        return Err(Unasked::PacketsOfBlocks);
+    }
+    if flags.keep_going && command == Command::Canon {
+        return Err(Unasked::KeepGoing);
+    }
+    Ok(Task::Recording {
+        command,
+        mode: PacketMode {
+            level: level_by(flags.strict),
+            keep_going: flags.keep_going,
+        },
+    })
+}
+
+/// What a word and the flags ask for.
+fn task_of(word: &str, flags: Flags) -> Result<Task, Unasked>
+    ensures asked { IfOk result (λ t. task_named word.now flags ≡ Some t) }
+    ensures unasked { IfErr result (λ _. task_named word.now flags ≡ None) }
+{
+    match command_of(word) {
+        None => Err(Unasked::Missing),
+        Some(command) if flags.packets => over_packets(command, flags),
+        Some(command) => over_stream(command, flags),
+    }
 }
 
 /// The name of a file that a word gives; none where the word is that of the standard input.
@@ -198,12 +282,16 @@ fn is_set(matches: &ArgMatches<'_>, id: &str) -> bool
     matches.get_flag(id)
 }
 
-/// How a parser found that a stream is read.
-fn mode_of(matches: &ArgMatches<'_>) -> Mode
-    ensures strict { IsFlag (one_of (codes "strict") (rows_of (found_of matches.now))) (is_strict result.level) }
-    ensures blocks { IsFlag (one_of (codes "blocks") (rows_of (found_of matches.now))) (is_blocks result.framing) }
+/// The flags that a parser found of how an input is read.
+fn flags_of(matches: &ArgMatches<'_>) -> Flags
+    ensures { FindsFlags (rows_of (found_of matches.now)) result }
 {
-    mode_by(is_set(matches, "strict"), is_set(matches, "blocks"))
+    Flags {
+        strict: is_set(matches, "strict"),
+        blocks: is_set(matches, "blocks"),
+        packets: is_set(matches, "packets"),
+        keep_going: is_set(matches, "keep-going"),
+    }
 }
 
 /// How `show` writes a message, by the flag.
@@ -227,6 +315,10 @@ enum Unasked {
     Missing,
     /// The standard input is to be the templates and the stream.
     InputTwice,
+    /// Packets are to have blocks.
+    PacketsOfBlocks,
+    /// It is to go on behind a refused packet where there are no packets, or none may be refused.
+    KeepGoing,
 }
 
 /// Whether the standard input is to be the templates and the stream.
@@ -244,9 +336,10 @@ fn is_read_twice(templates: Option<&str>, input: Option<&str>) -> bool
 fn request_of<'a>(matches: &ArgMatches<'a>) -> Result<Request<'a>, Unasked>
     ensures { IfOk result (λ r. Finds (rows_of (found_of matches.now)) (asked_by r)) }
 {
-    let Some(command) = command_of(word_of(matches, "command")) else {
+    let Some(name) = word_of(matches, "command") else {
         return Err(Unasked::Missing);
     };
+    let task = task_of(name, flags_of(matches))?;
     let Some(word) = word_of(matches, "templates") else {
         return Err(Unasked::Missing);
     };
@@ -256,10 +349,9 @@ fn request_of<'a>(matches: &ArgMatches<'a>) -> Result<Request<'a>, Unasked>
         return Err(Unasked::InputTwice);
     }
     Ok(Request {
-        command,
+        task,
         templates,
         hex: is_set(matches, "hex"),
-        mode: mode_of(matches),
         form: form_of(matches),
         explain: is_set(matches, "explain"),
         input,
@@ -281,6 +373,14 @@ pub fn parse_words<'a>(alloc: Global, words: &'a [&'a str]) -> Result<Request<'a
         Err(Unasked::InputTwice) => Err(line.error(
             ErrorKind::ArgumentConflict,
             "standard input is the templates or the stream, not both: give one of them a FILE",
+        )?),
+        Err(Unasked::PacketsOfBlocks) => Err(line.error(
+            ErrorKind::ArgumentConflict,
+            "--packets cannot be used with --blocks: a packet is a stream without blocks",
+        )?),
+        Err(Unasked::KeepGoing) => Err(line.error(
+            ErrorKind::ArgumentConflict,
+            "--keep-going is for show and check with --packets",
         )?),
     }
 }

@@ -2,3 +2,4 @@ mod Common
 mod Opened
 mod Sayings
 mod Texts
+mod Recordings

@@ -20,17 +20,27 @@ use Rattle.fast_host.specs.Input.{GivesNoText, IsText}
 use Rattle.fast_host.specs.Refusals.{IsOfLoad, IsOfRun, IsOfStream, IsTextOrMemory, of_template_text_lem, of_text_lem, status_of, text_of}
 use Rattle.fast_host.specs.Devices.{Inputs, Writer, input_of}
 use Rattle.fast_command.specs.Run.{Runs}
+use Rattle.fast_command.specs.RunPackets.{RunsPackets}
 use Rattle.fast_lines.specs.declared.form.Form.{Form}
 use Rattle.fast_lines.specs.declared.form.Form.TheVariants.{Text}
 use Rattle.fast_stream.specs.declared.mode.Mode.{Mode}
+use Rattle.fast_recording.specs.Calls.{CanonicalisesPackets}
+use Rattle.fast_recording.specs.Recorded.{outputs, tells_failed, writes_failed}
+use Rattle.fast_recording.specs.Recorded.{FlushesOnce as FlushesRecording}
+use Rattle.fast_recording.specs.declared.fault.RecordingFault.{RecordingFault}
+use Rattle.fast_recording.specs.declared.mode.PacketMode.{PacketMode}
+use Rattle.fast_recording.specs.declared.summary.RecordingSummary.{RecordingSummary}
 use Rattle.fast_request.specs.CommandLine.{Asked, AsksFor}
+use Rattle.fast_request.specs.declared.request.Task.{Task}
 use Rattle.fast_command.specs.declared.command.Command.{Command}
 use Rattle.fast_command.specs.declared.command.Command.TheVariants.{Show, Check, Canon}
 use Rattle.fast_host.specs.declared.input.TextFault.{TextFault}
 use Rattle.fast_host.specs.declared.refusal.Refusal.{Refusal}
+use Rattle.fast_serve.specs.Packets.{IsOfPacket, IsOfRecording, ended_of}
+use Rattle.fast_serve.specs.declared.ended.Ended.{Ended}
 
 abbrev pub Answer : Type 0
-Answer = Result (Unit {0}) Refusal
+Answer = Result Ended Refusal
 
 -- ---- an input that is read whole
 
@@ -86,7 +96,7 @@ RefusesTemplates inputs name turns r =
 
 -- what is answered of a run
 abbrev pub AnswersRun : Result Summary CanonFault → Answer → Type 0
-AnswersRun (Ok summary) r = r ≡ Ok tt
+AnswersRun (Ok summary) r = r ≡ Ok Ended.Accepted
 AnswersRun (Err f) r = IsErrAnd r (IsOfRun f)
 
 -- a command was run from the bytes read to those written
@@ -119,7 +129,7 @@ line_of_hex bytes = encode_lower bytes ++ 10 ∷ []
 -- bytes were written as a line of hex and flushed, or the output failed, or memory did before anything was written
 abbrev pub WritesHex : Writer → Writer → List ℕ → Answer → Type 0
 WritesHex old new bytes r =
-    ((r ≡ Ok tt) × WritesText old new (line_of_hex bytes))
+    ((r ≡ Ok Ended.Accepted) × WritesText old new (line_of_hex bytes))
     ⊎ ((r ≡ Err Refusal.Write) × WritesFront old new (line_of_hex bytes))
     ⊎ ((r ≡ Err Refusal.Memory) × (new ≡ old))
 
@@ -146,16 +156,60 @@ pub record CanonInHex (mode : Mode) (set : TemplateList) (turns : ℕ) (stream :
   pub ran : Runs Canon mode Text set turns in_new.left (Some []) (Some bytes) input answer
   pub answered : AnswersInHex old new bytes answer r
 
--- a command was run over a stream in memory
-abbrev pub RunsInMemory : Command → Mode → Form → TemplateList → ℕ → List ℕ → Writer → Writer → Answer → Type 0
-RunsInMemory command mode form set turns stream old new r =
-    (in_old : Reader) × (in_new : Reader) × (in_old.left ≡ Some stream) × RunsPlain command mode form set turns in_old in_new old new r
+-- ---- a recording
 
--- what was done of a stream in hex text
-abbrev pub PerformsInHex : Command → Mode → Form → TemplateList → ℕ → List ℕ → Writer → Writer → Answer → Type 0
-PerformsInHex Show mode form set turns stream old new r = RunsInMemory Show mode form set turns stream old new r
-PerformsInHex Check mode form set turns stream old new r = RunsInMemory Check mode form set turns stream old new r
-PerformsInHex Canon mode form set turns stream old new r = CanonInHex mode set turns stream old new r
+-- what is answered of a recording
+abbrev pub AnswersRecording : Result RecordingSummary RecordingFault → Answer → Type 0
+AnswersRecording (Ok summary) r = r ≡ Ok (ended_of summary.refused)
+AnswersRecording (Err f) r = IsErrAnd r (IsOfRecording f)
+
+-- a command was run over a recording, from the bytes read to those written and those told
+pub record RunsRecording (command : Command) (mode : PacketMode) (form : Form) (set : TemplateList) (turns : ℕ) (in_old in_new : Reader) (out_old out_new err_old err_new : Writer) (r : Answer) : Type 0 where
+  pub answer : Result RecordingSummary RecordingFault
+  pub ran : RunsPackets command mode form set turns in_old in_new (outputs out_old.taken err_old.taken) (outputs out_new.taken err_new.taken) answer
+  pub write_failed : out_new.errors ≡ writes_failed answer out_old.errors
+  pub tell_failed : err_new.errors ≡ tells_failed answer err_old.errors
+  pub flushed : FlushesRecording answer out_old.flushes out_new.flushes
+  pub answered : AnswersRecording answer r
+
+-- what is answered of a recording in memory of which these bytes were written
+abbrev pub AnswersRecordingInHex : Writer → Writer → List ℕ → Result RecordingSummary RecordingFault → Answer → Type 0
+AnswersRecordingInHex old new bytes (Ok summary) r = WritesHex old new bytes r
+AnswersRecordingInHex old new bytes (Err (RecordingFault.Packet f)) r =
+    (WritesText old new (line_of_hex bytes) × IsErrAnd r (IsOfPacket f))
+    ⊎ ((r ≡ Err Refusal.Write) × WritesFront old new (line_of_hex bytes))
+    ⊎ ((r ≡ Err Refusal.Memory) × (new ≡ old))
+AnswersRecordingInHex old new bytes (Err e) r = (r ≡ Err Refusal.Memory) × (new ≡ old)
+
+-- the canonical recording of one in memory was written as a line of hex
+pub record CanonRecordingInHex (mode : PacketMode) (set : TemplateList) (turns : ℕ) (recording : List ℕ) (old new : Writer) (r : Answer) : Type 0 where
+  pub in_old : Reader
+  pub in_new : Reader
+  pub bytes : List ℕ
+  pub answer : Result RecordingSummary RecordingFault
+  pub begins : in_old.left ≡ Some recording
+  pub ran : CanonicalisesPackets mode.level set turns in_old in_new (Some []) (Some bytes) answer
+  pub answered : AnswersRecordingInHex old new bytes answer r
+
+-- ---- a task
+
+-- what was done of an input's bytes; standard error is told of refused packets alone
+abbrev pub RunsTask : Task → Form → TemplateList → ℕ → Reader → Reader → Writer → Writer → Writer → Writer → Answer → Type 0
+RunsTask (Task.Stream command mode) form set turns in_old in_new out_old out_new err_old err_new r =
+    RunsPlain command mode form set turns in_old in_new out_old out_new r × (err_new ≡ err_old)
+RunsTask (Task.Recording command mode) form set turns in_old in_new out_old out_new err_old err_new r =
+    RunsRecording command mode form set turns in_old in_new out_old out_new err_old err_new r
+
+-- a task was done of bytes in memory
+abbrev pub RunsInMemory : Task → Form → TemplateList → ℕ → List ℕ → Writer → Writer → Writer → Writer → Answer → Type 0
+RunsInMemory task form set turns bytes out_old out_new err_old err_new r =
+    (in_old : Reader) × (in_new : Reader) × (in_old.left ≡ Some bytes) × RunsTask task form set turns in_old in_new out_old out_new err_old err_new r
+
+-- what was done of bytes in hex text
+abbrev pub PerformsInHex : Task → Form → TemplateList → ℕ → List ℕ → Writer → Writer → Writer → Writer → Answer → Type 0
+PerformsInHex (Task.Stream Canon mode) form set turns bytes out_old out_new err_old err_new r = CanonInHex mode set turns bytes out_old out_new r × (err_new ≡ err_old)
+PerformsInHex (Task.Recording Canon mode) form set turns bytes out_old out_new err_old err_new r = CanonRecordingInHex mode set turns bytes out_old out_new r × (err_new ≡ err_old)
+PerformsInHex task form set turns bytes out_old out_new err_old err_new r = RunsInMemory task form set turns bytes out_old out_new err_old err_new r
 
 -- why an input gives no bytes of hex text: it was not read whole, or is no hex, or there was no memory
 abbrev pub RefusesHex : ℕ → Reader → Reader → Refusal → Type 0
@@ -167,50 +221,51 @@ RefusesHex turns old new r =
 abbrev pub ReadsHex : ℕ → Reader → Reader → List ℕ → Type 0
 ReadsHex turns old new bytes = (text : List ℕ) × HasText turns old new text × (decode_of (digits_of text) ≡ Ok bytes)
 
--- the input is no hex text, and nothing was written; or it is that of a stream, of which this was done
-abbrev pub PerformsHexText : Command → Mode → Form → TemplateList → ℕ → Reader → Reader → Writer → Writer → Answer → Type 0
-PerformsHexText command mode form set turns in_old in_new out_old out_new r =
-    (IsErrAnd r (RefusesHex turns in_old in_new) × (out_new ≡ out_old))
-    ⊎ ((stream : List ℕ) × ReadsHex turns in_old in_new stream × PerformsInHex command mode form set turns stream out_old out_new r)
+-- the input is no hex text, and nothing was written; or it is that of bytes, of which this was done
+abbrev pub PerformsHexText : Task → Form → TemplateList → ℕ → Reader → Reader → Writer → Writer → Writer → Writer → Answer → Type 0
+PerformsHexText task form set turns in_old in_new out_old out_new err_old err_new r =
+    (IsErrAnd r (RefusesHex turns in_old in_new) × (out_new ≡ out_old) × (err_new ≡ err_old))
+    ⊎ ((bytes : List ℕ) × ReadsHex turns in_old in_new bytes × PerformsInHex task form set turns bytes out_old out_new err_old err_new r)
 
 -- ---- what is asked for
 
--- a command over an input in plain bytes, or in hex text
-abbrev pub PerformsOver : Bool → Command → Mode → Form → TemplateList → ℕ → Reader → Reader → Writer → Writer → Answer → Type 0
-PerformsOver false command mode form set turns in_old in_new out_old out_new r = RunsPlain command mode form set turns in_old in_new out_old out_new r
-PerformsOver true command mode form set turns in_old in_new out_old out_new r = PerformsHexText command mode form set turns in_old in_new out_old out_new r
+-- a task over an input in plain bytes, or in hex text
+abbrev pub PerformsOver : Bool → Task → Form → TemplateList → ℕ → Reader → Reader → Writer → Writer → Writer → Writer → Answer → Type 0
+PerformsOver false task form set turns in_old in_new out_old out_new err_old err_new r = RunsTask task form set turns in_old in_new out_old out_new err_old err_new r
+PerformsOver true task form set turns in_old in_new out_old out_new err_old err_new r = PerformsHexText task form set turns in_old in_new out_old out_new err_old err_new r
 
 -- with templates that are loaded: the input's file cannot be opened, or it was opened at its beginning
-abbrev pub PerformsWith : Asked → TemplateList → Inputs → ℕ → Writer → Writer → Answer → Type 0
-PerformsWith asked set inputs turns out_old out_new r =
-    ((asked.input ≢ None) × (r ≡ Err Refusal.Open) × (out_new ≡ out_old))
+abbrev pub PerformsWith : Asked → TemplateList → Inputs → ℕ → Writer → Writer → Writer → Writer → Answer → Type 0
+PerformsWith asked set inputs turns out_old out_new err_old err_new r =
+    ((asked.input ≢ None) × (r ≡ Err Refusal.Open) × (out_new ≡ out_old) × (err_new ≡ err_old))
     ⊎ ((in_old : Reader) × (in_new : Reader) × (in_old.left ≡ input_of inputs asked.input)
-    × PerformsOver asked.hex asked.command asked.mode asked.form set turns in_old in_new out_old out_new r)
+    × PerformsOver asked.hex asked.task asked.form set turns in_old in_new out_old out_new err_old err_new r)
 
 -- the templates are refused, and nothing was written; or they are loaded
-abbrev pub PerformsAsked : Asked → Inputs → ℕ → Writer → Writer → Answer → Type 0
-PerformsAsked asked inputs turns out_old out_new r =
-    (IsErrAnd r (RefusesTemplates inputs asked.templates turns) × (out_new ≡ out_old))
-    ⊎ ((set : TemplateList) × LoadsSet (input_of inputs asked.templates) turns set × PerformsWith asked set inputs turns out_old out_new r)
+abbrev pub PerformsAsked : Asked → Inputs → ℕ → Writer → Writer → Writer → Writer → Answer → Type 0
+PerformsAsked asked inputs turns out_old out_new err_old err_new r =
+    (IsErrAnd r (RefusesTemplates inputs asked.templates turns) × (out_new ≡ out_old) × (err_new ≡ err_old))
+    ⊎ ((set : TemplateList) × LoadsSet (input_of inputs asked.templates) turns set × PerformsWith asked set inputs turns out_old out_new err_old err_new r)
 
 -- the command line is refused, and this was left untouched; or it asks for something
-abbrev pub Performs : List (List ℕ) → Inputs → ℕ → Type 0 → Writer → Writer → Answer → Type 0
-Performs words inputs turns Untouched out_old out_new r =
-    (IsErrAnd r IsTextOrMemory × Untouched)
-    ⊎ ((asked : Asked) × AsksFor words asked × PerformsAsked asked inputs turns out_old out_new r)
+abbrev pub Performs : List (List ℕ) → Inputs → ℕ → Type 0 → Writer → Writer → Writer → Writer → Answer → Type 0
+Performs words inputs turns Untouched out_old out_new err_old err_new r =
+    (IsErrAnd r IsTextOrMemory × Untouched × (err_new ≡ err_old))
+    ⊎ ((asked : Asked) × AsksFor words asked × PerformsAsked asked inputs turns out_old out_new err_old err_new r)
 
 -- ---- what is said
 
 -- the exit status of what was done
 abbrev pub status_after : Answer → ℕ
-status_after (Ok done) = 0
+status_after (Ok Ended.Accepted) = 0
+status_after (Ok Ended.WithRefusals) = 1
 status_after (Err r) = status_of r
 
 -- a text was written and flushed, or a call failed behind a front of it
 abbrev pub SaysText : Writer → Writer → List ℕ → Type 0
 SaysText old new text = WritesText old new text ⊎ WritesFront old new text
 
--- what is said of what was done: nothing where it was done, and else the refusal's text, and where it is explained more
+-- what is said, behind what was told, of what was done: nothing where it was done, and else the refusal's text, and where it is explained more
 -- behind it, unless a call failed
 abbrev pub Says : Bool → Writer → Writer → Answer → Type 0
 Says explain old new (Ok done) = new ≡ old

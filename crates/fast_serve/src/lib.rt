@@ -1,4 +1,6 @@
 //! The program as a call: from a command line, files and streams to the exit status.
 #![tactic(auto)]
 
+mod ended;
+mod recording;
 pub mod serve;

@@ -3,18 +3,20 @@
 ghost use Rattle.std.specs.Prelude.{◌≡◌, ◌≢◌, ◌≤◌, ◌⊎◌, ◌^◌, ◌++◌, ℕ, List, None, Ok, Err, IfErr, IfOk, map, option_map, string_bytes};
 ghost use Rattle.fast_decoder.specs.Inputs.{Reader, reader_by};
 ghost use Rattle.fast_template.specs.TemplateSets.{TemplateList};
-ghost use Rattle.fast_host.specs.Devices.{input_of, inputs_by, writer_by};
+ghost use Rattle.fast_host.specs.Devices.{Writer, input_of, inputs_by, writer_by};
 ghost use Rattle.fast_host.specs.Refusals.{status_of, text_of};
 ghost use Rattle.fast_request.specs.CommandLine.{asked_by};
-ghost use Rattle.fast_serve.specs.Served.{CanonInHex, LoadsSet, Performs, PerformsAsked, PerformsHexText, PerformsInHex, PerformsOver, PerformsWith, ReadsHex, RefusesHex, RefusesTemplates, RefusesText, RunsPlain, Says, SaysAsked, SaysText, WritesHex, status_after};
+ghost use Rattle.fast_serve.specs.Served.{CanonInHex, LoadsSet, Performs, PerformsAsked, PerformsHexText, PerformsInHex, PerformsOver, PerformsWith, ReadsHex, RefusesHex, RefusesTemplates, RefusesText, RunsPlain, RunsTask, Says, SaysAsked, SaysText, WritesHex, status_after};
 
+use crate::ended::Ended;
+use crate::recording::{canon_recording_in_hex, run_recording};
 use fast_build::Load;
 use fast_canon::CanonFault;
 use fast_command::{Command, Form, Mode, run};
-use fast_explain::{Files, Notes, Seen, explain};
+use fast_explain::{Files, Notes, ReadAs, Seen, explain};
 use fast_host::{MemoryOutput, Refusal, Source, hex_line, read_hex, read_text};
 use fast_io::{ByteInput, ByteOutput, Counted, write_all};
-use fast_request::{Request, parse_words};
+use fast_request::{Request, Task, parse_words};
 use fast_template::TemplateSet;
 use std::alloc::{AllocError, Global};
 use std::io;
@@ -95,34 +97,27 @@ fn read_hex_input<I: ByteInput>(
     }
 }
 
-/// Runs a command from the input's bytes to the output's.
+/// Runs a command over a stream, from the input's bytes to the output's.
 fn run_plain<I: ByteInput, O: ByteOutput>(
     alloc: Global,
-    request: Request<'_>,
+    command: Command,
+    mode: Mode,
+    form: Form,
     set: &TemplateSet,
     input: &mut I,
     out: &mut O,
     turns: u64,
     notes: &mut Notes,
-) -> Result<(), Refusal>
+) -> Result<Ended, Refusal>
     requires turns { turns ≤ 2 ^ 40 }
-    ensures { RunsPlain request.entry.command request.entry.mode request.entry.form set.now turns
+    ensures { RunsPlain command mode form set.now turns
         (reader_by I.left I.calls I.errors I.ends input.old)
         (reader_by I.left I.calls I.errors I.ends input.new)
         (writer_by O.taken O.errors O.flushes out.old)
         (writer_by O.taken O.errors O.flushes out.new) result }
 {
-    match run(
-        alloc,
-        request.command,
-        set,
-        request.mode,
-        request.form,
-        input,
-        out,
-        turns,
-    ) {
-        Ok(_) => Ok(()),
+    match run(alloc, command, set, mode, form, input, out, turns) {
+        Ok(_) => Ok(Ended::Accepted),
         Err(fault) => {
             notes.run_failed(fault);
             Err(Refusal::of_run(alloc, fault))
@@ -130,15 +125,65 @@ fn run_plain<I: ByteInput, O: ByteOutput>(
     }
 }
 
+/// Does what is asked of an input's bytes.
+fn run_task<I: ByteInput, O: ByteOutput, E: ByteOutput>(
+    alloc: Global,
+    request: Request<'_>,
+    set: &TemplateSet,
+    input: &mut I,
+    out: &mut O,
+    err: &mut E,
+    turns: u64,
+    notes: &mut Notes,
+) -> Result<Ended, Refusal>
+    requires turns { turns ≤ 2 ^ 40 }
+    ensures performed { RunsTask request.entry.task request.entry.form set.now turns
+        (reader_by I.left I.calls I.errors I.ends input.old)
+        (reader_by I.left I.calls I.errors I.ends input.new)
+        (writer_by O.taken O.errors O.flushes out.old) (writer_by O.taken O.errors O.flushes out.new)
+        (writer_by E.taken E.errors E.flushes err.old) (writer_by E.taken E.errors E.flushes err.new) result }
+    ensures quiet { result ≡ Ok Ended.Accepted → err.new ≡ err.old }
+{
+    match request.task {
+        Task::Stream { command, mode } => run_plain(
+            alloc,
+            command,
+            mode,
+            request.form,
+            set,
+            input,
+            out,
+            turns,
+            notes,
+        ),
+        Task::Recording { command, mode } => run_recording(
+            alloc,
+            command,
+            mode,
+            request.form,
+            set,
+            input,
+            out,
+            err,
+            turns,
+            notes,
+        ),
+    }
+}
+
 /// Writes bytes as a line of hex.
-fn write_hex_line<O: ByteOutput>(alloc: Global, bytes: &[u8], out: &mut O) -> Result<(), Refusal>
+pub(crate) fn write_hex_line<O: ByteOutput>(
+    alloc: Global,
+    bytes: &[u8],
+    out: &mut O,
+) -> Result<Ended, Refusal>
     ensures { WritesHex (writer_by O.taken O.errors O.flushes out.old)
         (writer_by O.taken O.errors O.flushes out.new) bytes.now result }
 {
     match hex_line(alloc, bytes) {
         Err(AllocError) => Err(Refusal::Memory),
         Ok(line) => match write_all(out, line.as_bytes()) {
-            Ok(()) => Ok(()),
+            Ok(()) => Ok(Ended::Accepted),
             Err(_) => Err(Refusal::Write),
         },
     }
@@ -153,7 +198,7 @@ fn canon_in_hex<O: ByteOutput>(
     out: &mut O,
     turns: u64,
     notes: &mut Notes,
-) -> Result<(), Refusal>
+) -> Result<Ended, Refusal>
     requires turns { turns ≤ 2 ^ 40 }
     ensures { CanonInHex mode set.now turns stream.now
         (writer_by O.taken O.errors O.flushes out.old)
@@ -187,144 +232,163 @@ fn canon_in_hex<O: ByteOutput>(
     }
 }
 
-/// Does with a stream in memory what is asked of a stream in hex text.
-fn perform_in_hex<O: ByteOutput>(
+/// Does with bytes in memory what is asked of an input in hex text.
+fn perform_in_hex<O: ByteOutput, E: ByteOutput>(
     alloc: Global,
     request: Request<'_>,
     set: &TemplateSet,
     stream: &[u8],
     out: &mut O,
+    err: &mut E,
     turns: u64,
     notes: &mut Notes,
-) -> Result<(), Refusal>
+) -> Result<Ended, Refusal>
     requires turns { turns ≤ 2 ^ 40 }
-    ensures { PerformsInHex request.entry.command request.entry.mode request.entry.form set.now turns stream.now
-        (writer_by O.taken O.errors O.flushes out.old)
-        (writer_by O.taken O.errors O.flushes out.new) result }
+    ensures performed { PerformsInHex request.entry.task request.entry.form set.now turns stream.now
+        (writer_by O.taken O.errors O.flushes out.old) (writer_by O.taken O.errors O.flushes out.new)
+        (writer_by E.taken E.errors E.flushes err.old) (writer_by E.taken E.errors E.flushes err.new) result }
+    ensures quiet { result ≡ Ok Ended.Accepted → err.new ≡ err.old }
 {
-    match request.command {
-        Command::Canon => canon_in_hex(alloc, request.mode, set, stream, out, turns, notes),
-        Command::Show | Command::Check => {
+    match request.task {
+        Task::Stream {
+            command: Command::Canon,
+            mode,
+        } => canon_in_hex(alloc, mode, set, stream, out, turns, notes),
+        Task::Recording {
+            command: Command::Canon,
+            mode,
+        } => canon_recording_in_hex(alloc, mode, set, stream, out, turns, notes),
+        Task::Stream { .. } | Task::Recording { .. } => {
             let mut input = Counted::new(stream);
-            run_plain(alloc, request, set, &mut input, out, turns, notes)
+            run_task(alloc, request, set, &mut input, out, err, turns, notes)
         }
     }
 }
 
 /// Does what is asked of an input in hex text.
-fn perform_hex<I: ByteInput, O: ByteOutput>(
+fn perform_hex<I: ByteInput, O: ByteOutput, E: ByteOutput>(
     alloc: Global,
     request: Request<'_>,
     set: &TemplateSet,
     input: &mut I,
     out: &mut O,
+    err: &mut E,
     turns: u64,
     notes: &mut Notes,
-) -> Result<(), Refusal>
+) -> Result<Ended, Refusal>
     requires turns { turns ≤ 2 ^ 40 }
-    ensures { PerformsHexText request.entry.command request.entry.mode request.entry.form set.now turns
+    ensures performed { PerformsHexText request.entry.task request.entry.form set.now turns
         (reader_by I.left I.calls I.errors I.ends input.old)
         (reader_by I.left I.calls I.errors I.ends input.new)
-        (writer_by O.taken O.errors O.flushes out.old)
-        (writer_by O.taken O.errors O.flushes out.new) result }
+        (writer_by O.taken O.errors O.flushes out.old) (writer_by O.taken O.errors O.flushes out.new)
+        (writer_by E.taken E.errors E.flushes err.old) (writer_by E.taken E.errors E.flushes err.new) result }
+    ensures quiet { result ≡ Ok Ended.Accepted → err.new ≡ err.old }
 {
     let stream = read_hex_input(alloc, input, turns, notes)?;
-    let answer = perform_in_hex(alloc, request, set, &stream, out, turns, notes);
+    let answer = perform_in_hex(alloc, request, set, &stream, out, err, turns, notes);
     notes.stream_in_memory(&stream);
     answer
 }
 
 /// Does what is asked of an input that is open.
-fn perform_over<I: ByteInput, O: ByteOutput>(
+fn perform_over<I: ByteInput, O: ByteOutput, E: ByteOutput>(
     alloc: Global,
     request: Request<'_>,
     set: &TemplateSet,
     input: &mut I,
     out: &mut O,
+    err: &mut E,
     turns: u64,
     notes: &mut Notes,
-) -> Result<(), Refusal>
+) -> Result<Ended, Refusal>
     requires turns { turns ≤ 2 ^ 40 }
-    ensures { PerformsOver request.entry.hex request.entry.command request.entry.mode
-        request.entry.form set.now turns
+    ensures performed { PerformsOver request.entry.hex request.entry.task request.entry.form set.now turns
         (reader_by I.left I.calls I.errors I.ends input.old)
         (reader_by I.left I.calls I.errors I.ends input.new)
-        (writer_by O.taken O.errors O.flushes out.old)
-        (writer_by O.taken O.errors O.flushes out.new) result }
+        (writer_by O.taken O.errors O.flushes out.old) (writer_by O.taken O.errors O.flushes out.new)
+        (writer_by E.taken E.errors E.flushes err.old) (writer_by E.taken E.errors E.flushes err.new) result }
+    ensures quiet { result ≡ Ok Ended.Accepted → err.new ≡ err.old }
 {
     if request.hex {
-        perform_hex(alloc, request, set, input, out, turns, notes)
+        perform_hex(alloc, request, set, input, out, err, turns, notes)
     } else {
-        run_plain(alloc, request, set, input, out, turns, notes)
+        run_task(alloc, request, set, input, out, err, turns, notes)
     }
 }
 
 /// Does what is asked of an input that is open, whose bytes are noted as they are read.
-fn perform_seen<I: ByteInput + Drop, O: ByteOutput>(
+fn perform_seen<I: ByteInput + Drop, O: ByteOutput, E: ByteOutput>(
     alloc: Global,
     request: Request<'_>,
     set: &TemplateSet,
     input: I,
     out: &mut O,
+    err: &mut E,
     turns: u64,
     notes: &mut Notes,
-) -> Result<(), Refusal>
+) -> Result<Ended, Refusal>
     requires turns { turns ≤ 2 ^ 40 }
-    ensures { (in_old : Reader) × (in_new : Reader) × (in_old.left ≡ I.left input)
-        × PerformsOver request.entry.hex request.entry.command request.entry.mode
-        request.entry.form set.now turns
-        in_old in_new
-        (writer_by O.taken O.errors O.flushes out.old)
-        (writer_by O.taken O.errors O.flushes out.new) result }
+    ensures performed { (in_old : Reader) × (in_new : Reader) × (in_old.left ≡ I.left input)
+        × PerformsOver request.entry.hex request.entry.task request.entry.form set.now turns in_old in_new
+        (writer_by O.taken O.errors O.flushes out.old) (writer_by O.taken O.errors O.flushes out.new)
+        (writer_by E.taken E.errors E.flushes err.old) (writer_by E.taken E.errors E.flushes err.new) result }
+    ensures quiet { result ≡ Ok Ended.Accepted → err.new ≡ err.old }
 {
     let mut seen = Seen::new(alloc, input, notes.is_asked() && !request.hex);
-    let answer = perform_over(alloc, request, set, &mut seen, out, turns, notes);
+    let answer = perform_over(alloc, request, set, &mut seen, out, err, turns, notes);
     notes.stream_seen(&seen);
     answer
 }
 
 /// Opens the input, and does what is asked of it.
-fn perform_with<S: Source, O: ByteOutput>(
+fn perform_with<S: Source, O: ByteOutput, E: ByteOutput>(
     alloc: Global,
     request: Request<'_>,
     set: &TemplateSet,
     source: &mut S,
     out: &mut O,
+    err: &mut E,
     turns: u64,
     notes: &mut Notes,
-) -> Result<(), Refusal>
+) -> Result<Ended, Refusal>
     requires turns { turns ≤ 2 ^ 40 }
-    ensures { PerformsWith (asked_by request.entry) set.now (inputs_by S.file S.input source.old) turns
-        (writer_by O.taken O.errors O.flushes out.old)
-        (writer_by O.taken O.errors O.flushes out.new) result }
+    ensures performed { PerformsWith (asked_by request.entry) set.now (inputs_by S.file S.input source.old) turns
+        (writer_by O.taken O.errors O.flushes out.old) (writer_by O.taken O.errors O.flushes out.new)
+        (writer_by E.taken E.errors E.flushes err.old) (writer_by E.taken E.errors E.flushes err.new) result }
+    ensures quiet { result ≡ Ok Ended.Accepted → err.new ≡ err.old }
 {
     match request.input {
-        None => perform_seen(alloc, request, set, source.standard(), out, turns, notes),
+        None => {
+            let input = source.standard();
+            perform_seen(alloc, request, set, input, out, err, turns, notes)
+        }
         Some(name) => match source.open(name) {
             None => Err(Refusal::Open),
-            Some(file) => perform_seen(alloc, request, set, file, out, turns, notes),
+            Some(file) => perform_seen(alloc, request, set, file, out, err, turns, notes),
         },
     }
 }
 
 /// Loads the templates, and does what is asked.
-fn perform_asked<S: Source, O: ByteOutput>(
+fn perform_asked<S: Source, O: ByteOutput, E: ByteOutput>(
     alloc: Global,
     request: Request<'_>,
     source: &mut S,
     out: &mut O,
+    err: &mut E,
     turns: u64,
     notes: &mut Notes,
-) -> Result<(), Refusal>
+) -> Result<Ended, Refusal>
     requires turns { turns ≤ 2 ^ 40 }
     requires one_is_a_file { (asked_by request).templates ≡ None → (asked_by request).input ≢ None }
-    ensures { PerformsAsked (asked_by request.entry) (inputs_by S.file S.input source.old) turns
-        (writer_by O.taken O.errors O.flushes out.old)
-        (writer_by O.taken O.errors O.flushes out.new) result }
+    ensures performed { PerformsAsked (asked_by request.entry) (inputs_by S.file S.input source.old) turns
+        (writer_by O.taken O.errors O.flushes out.old) (writer_by O.taken O.errors O.flushes out.new)
+        (writer_by E.taken E.errors E.flushes err.old) (writer_by E.taken E.errors E.flushes err.new) result }
+    ensures quiet { result ≡ Ok Ended.Accepted → err.new ≡ err.old }
 {
     let set = load(alloc, request.templates, source, turns, notes)?;
     notes.templates_loaded();
-    let answer = perform_with(alloc, request, &set, source, out, turns, notes);
+    let answer = perform_with(alloc, request, &set, source, out, err, turns, notes);
     notes.stream_refused(alloc, &set);
     answer
 }
@@ -393,6 +457,14 @@ fn look_at_file<S: Source>(request: Request<'_>, refusal: &Refusal, source: &S, 
     }
 }
 
+/// What the input of a task is read as.
+fn read_as(task: Task) -> ReadAs {
+    match task {
+        Task::Stream { mode, .. } => ReadAs::Stream(mode.framing),
+        Task::Recording { .. } => ReadAs::Recording,
+    }
+}
+
 /// Does what is asked, and says why not.
 fn serve_request<S: Source, O: ByteOutput, E: ByteOutput>(
     alloc: Global,
@@ -406,16 +478,16 @@ fn serve_request<S: Source, O: ByteOutput, E: ByteOutput>(
     requires one_is_a_file { (asked_by request).templates ≡ None → (asked_by request).input ≢ None }
     ensures status { result ≤ 3 }
     ensures quiet { result ≡ 0 → err.new ≡ err.old }
-    ensures performed { (r : _) × (result ≡ status_after r)
+    ensures performed { (r : _) × (told : Writer) × (result ≡ status_after r)
         × PerformsAsked (asked_by request.entry) (inputs_by S.file S.input source.old) turns
-        (writer_by O.taken O.errors O.flushes out.old)
-        (writer_by O.taken O.errors O.flushes out.new) r
-        × Says request.entry.explain (writer_by E.taken E.errors E.flushes err.old)
-        (writer_by E.taken E.errors E.flushes err.new) r }
+        (writer_by O.taken O.errors O.flushes out.old) (writer_by O.taken O.errors O.flushes out.new)
+        (writer_by E.taken E.errors E.flushes err.old) told r
+        × Says request.entry.explain told (writer_by E.taken E.errors E.flushes err.new) r }
 {
-    let mut notes = Notes::new(request.explain, request.mode.framing);
-    match perform_asked(alloc, request, source, out, turns, &mut notes) {
-        Ok(()) => 0,
+    let mut notes = Notes::new(request.explain, read_as(request.task));
+    match perform_asked(alloc, request, source, out, err, turns, &mut notes) {
+        Ok(Ended::Accepted) => 0,
+        Ok(Ended::WithRefusals) => 1,
         Err(refusal) => {
             look_at_file(request, &refusal, source, &mut notes);
             report_asked(alloc, request, &refusal, &notes, err)
@@ -442,15 +514,14 @@ pub fn serve<S: Source, O: ByteOutput, E: ByteOutput>(
     requires turns { turns ≤ 2 ^ 40 }
     ensures status { result ≤ 3 }
     ensures quiet { result ≡ 0 → err.new ≡ err.old }
-    // what was read, written and answered, that the status is that of the answer, and what is said; where the command
-    // line is refused nothing is opened or written
-    ensures performed { (r : _) × (result ≡ status_after r)
+    // what was read, written, told and answered, that the status is that of the answer, and what is said behind what was
+    // told; where the command line is refused nothing is opened or written
+    ensures performed { (r : _) × (told : Writer) × (result ≡ status_after r)
         × Performs (map (λ w. w.now) words.now) (inputs_by S.file S.input source.old) turns
         ((source.new ≡ source.old) × (out.new ≡ out.old))
-        (writer_by O.taken O.errors O.flushes out.old)
-        (writer_by O.taken O.errors O.flushes out.new) r
-        × SaysAsked (map (λ w. w.now) words.now) (writer_by E.taken E.errors E.flushes err.old)
-        (writer_by E.taken E.errors E.flushes err.new) r }
+        (writer_by O.taken O.errors O.flushes out.old) (writer_by O.taken O.errors O.flushes out.new)
+        (writer_by E.taken E.errors E.flushes err.old) told r
+        × SaysAsked (map (λ w. w.now) words.now) told (writer_by E.taken E.errors E.flushes err.new) r }
 {
     match parse_words(alloc, words) {
         Err(error) => report(&Refusal::of_line(alloc, &error), err),
@@ -486,14 +557,14 @@ pub fn serve_words<S: Source, O: ByteOutput, E: ByteOutput>(
     ensures no_words { IfErr words (λ _. (2 ≤ result) × (source.new ≡ source.old)
         × (out.new ≡ out.old)) }
     // else it serves them, unless memory for them is refused, and then nothing is opened or written
-    ensures performed { IfOk words (λ texts. (r : _) × (result ≡ status_after r)
-        × (((r ≡ Err Refusal.Memory) × (source.new ≡ source.old) × (out.new ≡ out.old))
+    ensures performed { IfOk words (λ texts. (r : _) × (told : Writer) × (result ≡ status_after r)
+        × (((r ≡ Err Refusal.Memory) × (source.new ≡ source.old) × (out.new ≡ out.old)
+        × (told ≡ writer_by E.taken E.errors E.flushes err.old))
         ⊎ Performs (map string_bytes texts.items) (inputs_by S.file S.input source.old) turns
         ((source.new ≡ source.old) × (out.new ≡ out.old))
-        (writer_by O.taken O.errors O.flushes out.old)
-        (writer_by O.taken O.errors O.flushes out.new) r)
-        × SaysAsked (map string_bytes texts.items) (writer_by E.taken E.errors E.flushes err.old)
-        (writer_by E.taken E.errors E.flushes err.new) r) }
+        (writer_by O.taken O.errors O.flushes out.old) (writer_by O.taken O.errors O.flushes out.new)
+        (writer_by E.taken E.errors E.flushes err.old) told r)
+        × SaysAsked (map string_bytes texts.items) told (writer_by E.taken E.errors E.flushes err.new) r) }
 {
     match words {
         Err(error) => report(&Refusal::of_words(&error), err),

@@ -28,10 +28,10 @@ use Rattle.fast_canon.proofs.CanonicalBytes.{no_longer}
 use Rattle.fast_command.specs.Run.{LinesOf, Runs}
 use Rattle.fast_command.specs.declared.command.Command.{Command}
 use Rattle.fast_command.specs.declared.command.Command.TheVariants.{Show, Check, Canon}
-use Rattle.fast_lines.specs.declared.form.Form.TheVariants.{Text}
+use Rattle.fast_lines.specs.declared.form.Form.{Form}
 use Rattle.fast_slices.specs.declared.answer.Refusal.{Refusal}
 use Rattle.fast_slices.specs.Answers.{answer_of}
-use Rattle.fast_slices.specs.Calls.{Canons, Counts, Done, IsRefused, Measures, Needs, Overflows, RefusesCall, Settles, Writes}
+use Rattle.fast_slices.specs.Calls.{Canons, CountsStream, Done, StreamDone, IsRefused, Measures, Needs, Overflows, RefusesCall, Settles, Writes}
 
 -- ---- why a stream is refused
 
@@ -122,21 +122,21 @@ needs_refused makes mode set stream fault needed memory h =
     inr (p.messages, fault, refused fault mode set (2 ^ 40) stream h.input h.rest p.messages h.sound h.fits h.parts h.few p.refuses memory (h.no_error fault refl))
 
 -- what a command wrote that nobody kept
-abbrev pub HasMeasured : Command → Mode → TemplateList → List ℕ → Result Summary CanonFault → Type 0
-HasMeasured command mode set stream ran = HasRun set stream ran (λ input rest. (length input < 2 ^ 40) × Runs command mode Text set (2 ^ 40) (Some rest) None None input ran)
+abbrev pub HasMeasured : Command → Mode → Form → TemplateList → List ℕ → Result Summary CanonFault → Type 0
+HasMeasured command mode form set stream ran = HasRun set stream ran (λ input rest. (length input < 2 ^ 40) × Runs command mode form set (2 ^ 40) (Some rest) None None input ran)
 
 with_passes : (set : TemplateList) (stream : List ℕ) (ran : Result Summary CanonFault) (P Q : List ℕ → List ℕ → Type 0) → ((input rest : List ℕ) → P input rest → Q input rest) → HasRun set stream ran P → HasRun set stream ran Q
 with_passes set stream ran P Q f h = record { input = h.input; rest = h.rest; sound = h.sound; fits = h.fits; few = h.few; parts = h.parts; no_error = h.no_error; passes = f h.input h.rest h.passes }
 
-pub measured : (command : Command) (mode : Mode) (set : TemplateList) (stream : List ℕ) (summary : Summary) → HasMeasured command mode set stream (Ok summary) → Measures command mode set stream (Refusal.Room summary.written)
-measured Show mode set stream summary h = needs_all (LinesOf Text set) mode set stream summary (with_passes set stream (Ok summary) _ _ (λ input rest x. x.1) h)
-measured Canon mode set stream summary h = needs_all IsCanonical mode set stream summary (with_passes set stream (Ok summary) _ _ (λ input rest x. as_passes mode (templates_in set) (2 ^ 40) (Some rest) None None input (Ok summary) x.0 x.1) h)
-measured Check mode set stream summary h = tt
+pub measured : (command : Command) (mode : Mode) (form : Form) (set : TemplateList) (stream : List ℕ) (summary : Summary) → HasMeasured command mode form set stream (Ok summary) → Measures command mode form set stream (Refusal.Room summary.written)
+measured Show mode form set stream summary h = needs_all (LinesOf form set) mode set stream summary (with_passes set stream (Ok summary) _ _ (λ input rest x. x.1) h)
+measured Canon mode form set stream summary h = needs_all IsCanonical mode set stream summary (with_passes set stream (Ok summary) _ _ (λ input rest x. as_passes mode (templates_in set) (2 ^ 40) (Some rest) None None input (Ok summary) x.0 x.1) h)
+measured Check mode form set stream summary h = tt
 
-pub not_measured : (command : Command) (mode : Mode) (set : TemplateList) (stream : List ℕ) (fault : Fault) (needed : ℕ) → fault.cause ≢ Cause.Memory → HasMeasured command mode set stream (Err (CanonFault.Stream fault)) → Measures command mode set stream (Refusal.Room needed)
-not_measured Show mode set stream fault needed memory h = needs_refused (LinesOf Text set) mode set stream fault needed memory (with_passes set stream (Err (CanonFault.Stream fault)) _ _ (λ input rest x. x.1) h)
-not_measured Canon mode set stream fault needed memory h = needs_refused IsCanonical mode set stream fault needed memory (with_passes set stream (Err (CanonFault.Stream fault)) _ _ (λ input rest x. x.1) h)
-not_measured Check mode set stream fault needed memory h = tt
+pub not_measured : (command : Command) (mode : Mode) (form : Form) (set : TemplateList) (stream : List ℕ) (fault : Fault) (needed : ℕ) → fault.cause ≢ Cause.Memory → HasMeasured command mode form set stream (Err (CanonFault.Stream fault)) → Measures command mode form set stream (Refusal.Room needed)
+not_measured Show mode form set stream fault needed memory h = needs_refused (LinesOf form set) mode set stream fault needed memory (with_passes set stream (Err (CanonFault.Stream fault)) _ _ (λ input rest x. x.1) h)
+not_measured Canon mode form set stream fault needed memory h = needs_refused IsCanonical mode set stream fault needed memory (with_passes set stream (Err (CanonFault.Stream fault)) _ _ (λ input rest x. x.1) h)
+not_measured Check mode form set stream fault needed memory h = tt
 
 broken : (makes : Making) (mode : Mode) (set : TemplateList) (stream bytes old new input rest : List ℕ) → stream ≡ input ++ rest → PassesFront makes mode (templates_in set) (Some []) (Some bytes) input → length old < length bytes → new ≡ old
     → (needed : ℕ) → Needs makes mode (templates_in set) stream needed → Overflows makes mode (templates_in set) stream old new needed
@@ -177,7 +177,7 @@ overflows makes mode set stream bytes old new (Err (CanonFault.Stream fault)) h 
 overflows makes mode set stream bytes old new (Err CanonFault.Write) h longer same needed needs = broken makes mode set stream bytes old new h.input h.rest h.parts h.passes longer same needed needs
 overflows makes mode set stream bytes old new (Err CanonFault.Memory) h longer same needed needs = broken makes mode set stream bytes old new h.input h.rest h.parts h.passes longer same needed needs
 
-pub settled : (makes : Making) (mode : Mode) (set : TemplateList) (stream bytes old new : List ℕ) (ran : Result Summary CanonFault) (r : Done) → length bytes < 2 ^ 64 → HasWritten makes mode set stream bytes ran → Settles ran bytes old new r
+pub settled : (makes : Making) (mode : Mode) (set : TemplateList) (stream bytes old new : List ℕ) (ran : Result Summary CanonFault) (r : StreamDone) → length bytes < 2 ^ 64 → HasWritten makes mode set stream bytes ran → Settles ran bytes old new r
     → Writes makes mode (templates_in set) stream old new r
 settled makes mode set stream bytes old new ran (Ok summary) room h s =
     let p = subst (λ (x : Result Summary CanonFault). Passes makes mode (templates_in set) (2 ^ 40) (Some h.rest) (Some []) (Some bytes) h.input x) s.0 h.passes in
@@ -205,31 +205,31 @@ settled makes mode set stream bytes old new ran r room h s = absurd s
 
 -- ---- more than the room holds
 
-pub measured_run : (command : Command) (mode : Mode) (set : TemplateList) (stream : List ℕ) (ran : Result Summary CanonFault) → HasMeasured command mode set stream ran → (summary : Summary) → ran ≡ Ok summary
-    → Measures command mode set stream (Refusal.Room summary.written)
-measured_run command mode set stream ran h summary same = measured command mode set stream summary (subst (λ (x : Result Summary CanonFault). HasMeasured command mode set stream x) same h)
+pub measured_run : (command : Command) (mode : Mode) (form : Form) (set : TemplateList) (stream : List ℕ) (ran : Result Summary CanonFault) → HasMeasured command mode form set stream ran → (summary : Summary) → ran ≡ Ok summary
+    → Measures command mode form set stream (Refusal.Room summary.written)
+measured_run command mode form set stream ran h summary same = measured command mode form set stream summary (subst (λ (x : Result Summary CanonFault). HasMeasured command mode form set stream x) same h)
 
-pub refused_run : (command : Command) (mode : Mode) (set : TemplateList) (stream : List ℕ) (ran : Result Summary CanonFault) → HasMeasured command mode set stream ran → (fault : Fault) (stop : CanonFault) (needed : ℕ) → ran ≡ Err stop → stop ≡ CanonFault.Stream fault → fault.cause ≢ Cause.Memory
-    → Measures command mode set stream (Refusal.Room needed)
-refused_run command mode set stream ran h fault stop needed is stops memory =
-    not_measured command mode set stream fault needed memory (subst (λ (x : Result Summary CanonFault). HasMeasured command mode set stream x) (is ∙ ap (λ (f : CanonFault). Err f) stops) h)
+pub refused_run : (command : Command) (mode : Mode) (form : Form) (set : TemplateList) (stream : List ℕ) (ran : Result Summary CanonFault) → HasMeasured command mode form set stream ran → (fault : Fault) (stop : CanonFault) (needed : ℕ) → ran ≡ Err stop → stop ≡ CanonFault.Stream fault → fault.cause ≢ Cause.Memory
+    → Measures command mode form set stream (Refusal.Room needed)
+refused_run command mode form set stream ran h fault stop needed is stops memory =
+    not_measured command mode form set stream fault needed memory (subst (λ (x : Result Summary CanonFault). HasMeasured command mode form set stream x) (is ∙ ap (λ (f : CanonFault). Err f) stops) h)
 
-pub canon_overflows : (mode : Mode) (set : TemplateList) (stream bytes old new : List ℕ) (ran : Result Summary CanonFault) (r : Refusal) → HasWritten IsCanonical mode set stream bytes ran → length old < length bytes → new ≡ old → Measures Canon mode set stream r
+pub canon_overflows : (mode : Mode) (form : Form) (set : TemplateList) (stream bytes old new : List ℕ) (ran : Result Summary CanonFault) (r : Refusal) → HasWritten IsCanonical mode set stream bytes ran → length old < length bytes → new ≡ old → Measures Canon mode form set stream r
     → Writes IsCanonical mode (templates_in set) stream old new (Err r)
-canon_overflows mode set stream bytes old new ran (Refusal.Room needed) h longer same m = overflows IsCanonical mode set stream bytes old new ran h longer same needed m
-canon_overflows mode set stream bytes old new ran Refusal.Memory h longer same m = same
-canon_overflows mode set stream bytes old new ran r h longer same m = absurd m
+canon_overflows mode form set stream bytes old new ran (Refusal.Room needed) h longer same m = overflows IsCanonical mode set stream bytes old new ran h longer same needed m
+canon_overflows mode form set stream bytes old new ran Refusal.Memory h longer same m = same
+canon_overflows mode form set stream bytes old new ran r h longer same m = absurd m
 
-pub show_overflows : (mode : Mode) (set : TemplateList) (stream bytes old new : List ℕ) (ran : Result Summary CanonFault) (r : Refusal) → HasWritten (LinesOf Text set) mode set stream bytes ran → length old < length bytes → new ≡ old → Measures Show mode set stream r
-    → Writes (LinesOf Text set) mode (templates_in set) stream old new (Err r)
-show_overflows mode set stream bytes old new ran (Refusal.Room needed) h longer same m = overflows (LinesOf Text set) mode set stream bytes old new ran h longer same needed m
-show_overflows mode set stream bytes old new ran Refusal.Memory h longer same m = same
-show_overflows mode set stream bytes old new ran r h longer same m = absurd m
+pub show_overflows : (mode : Mode) (form : Form) (set : TemplateList) (stream bytes old new : List ℕ) (ran : Result Summary CanonFault) (r : Refusal) → HasWritten (LinesOf form set) mode set stream bytes ran → length old < length bytes → new ≡ old → Measures Show mode form set stream r
+    → Writes (LinesOf form set) mode (templates_in set) stream old new (Err r)
+show_overflows mode form set stream bytes old new ran (Refusal.Room needed) h longer same m = overflows (LinesOf form set) mode set stream bytes old new ran h longer same needed m
+show_overflows mode form set stream bytes old new ran Refusal.Memory h longer same m = same
+show_overflows mode form set stream bytes old new ran r h longer same m = absurd m
 
 -- ---- what is counted
 
-pub counted_all : (mode : Mode) (set : TemplateList) (stream old new : List ℕ) (ran : Result Summary CanonFault) (r : Done) → length old ≡ 0 → HasRun set stream ran (λ input rest. Checks mode (templates_in set) (2 ^ 40) (Some rest) input ran) → Settles ran [] old new r
-    → Counts mode (templates_in set) stream r
+pub counted_all : (mode : Mode) (set : TemplateList) (stream old new : List ℕ) (ran : Result Summary CanonFault) (r : StreamDone) → length old ≡ 0 → HasRun set stream ran (λ input rest. Checks mode (templates_in set) (2 ^ 40) (Some rest) input ran) → Settles ran [] old new r
+    → CountsStream mode (templates_in set) stream r
 counted_all mode set stream old new ran (Ok summary) none h s =
     let p = subst (λ (x : Result Summary CanonFault). Checks mode (templates_in set) (2 ^ 40) (Some h.rest) h.input x) s.0 h.passes in
     let all : stream ≡ h.input = h.parts ∙ ap (λ (xs : List ℕ). h.input ++ xs) p.ends.ended ∙ append-nil h.input in record {

@@ -2,8 +2,9 @@
 use Rattle.std.specs.Prelude.{ℕ, ◌-◌, Result, Ok, Err}
 use Rattle.fast_stream.specs.declared.fault.Cause.{Cause}
 use Rattle.fast_written.specs.declared.fault.LoadCause.{LoadCause}
-use Rattle.fast_pass.specs.declared.summary.Summary.{Summary}
+use Rattle.fast_stream.specs.declared.fault.Fault.{Fault}
 use Rattle.fast_slices.specs.declared.answer.Answer.{Answer}
+use Rattle.fast_slices.specs.declared.answer.Counts.{Counts}
 use Rattle.fast_slices.specs.declared.answer.Refusal.{Refusal}
 
 -- the number of a cause of a refused stream, from 1
@@ -45,15 +46,28 @@ load_cause_number_of LoadCause.Memory = 0
 
 -- an answer that tells of its status alone
 abbrev pub bare_of : ℕ → Answer
-bare_of status = record { messages = 0; read = 0; written = 0; message = 0; offset = 0; status = status; cause = 0; template = 0; instruction = 0 }
+bare_of status = record { messages = 0; read = 0; written = 0; message = 0; offset = 0; status = status; cause = 0; template = 0; instruction = 0; packets = 0; packet = 0 }
 
--- what C is answered: 0 done, 1 the stream is refused, 2 the templates are, 3 the room is too short for so many bytes, 4 memory was
--- refused, 5 the mode is unknown, 6 the stream is too long
-abbrev pub answer_of : Result Summary Refusal → Answer
-answer_of (Ok s) = record { messages = s.messages; read = s.read; written = s.written; message = 0; offset = 0; status = 0; cause = 0; template = 0; instruction = 0 }
-answer_of (Err (Refusal.Stream f written)) = record { messages = f.place.message - 1; read = 0; written = written; message = f.place.message; offset = f.place.offset; status = 1; cause = cause_number_of f.cause; template = f.place.template; instruction = f.place.instruction }
-answer_of (Err (Refusal.Templates f)) = record { messages = 0; read = 0; written = 0; message = 0; offset = 0; status = 2; cause = load_cause_number_of f.cause; template = f.template; instruction = f.instruction }
-answer_of (Err (Refusal.Room needed)) = record { messages = 0; read = 0; written = needed; message = 0; offset = 0; status = 3; cause = 0; template = 0; instruction = 0 }
+-- what is answered of a fault of a stream, or of a packet's
+abbrev pub of_fault : Fault → ℕ → Answer
+of_fault f written = record (bare_of 1) {
+  messages = f.place.message - 1;
+  written = written;
+  message = f.place.message;
+  offset = f.place.offset;
+  cause = cause_number_of f.cause;
+  template = f.place.template;
+  instruction = f.place.instruction;
+}
+
+-- what C is answered: 0 done, 1 the stream or a packet is refused, 2 the templates are, 3 the room is too short for so many bytes, 4
+-- memory was refused, 5 the mode is unknown, 6 the stream is too long
+abbrev pub answer_of : Result Counts Refusal → Answer
+answer_of (Ok s) = record (bare_of 0) { messages = s.messages; read = s.read; written = s.written; packets = s.packets }
+answer_of (Err (Refusal.Stream f written)) = of_fault f written
+answer_of (Err (Refusal.Packet f written)) = record (of_fault f.fault written) { packets = f.packet - 1; packet = f.packet }
+answer_of (Err (Refusal.Templates f)) = record (bare_of 2) { cause = load_cause_number_of f.cause; template = f.template; instruction = f.instruction }
+answer_of (Err (Refusal.Room needed)) = record (bare_of 3) { written = needed }
 answer_of (Err Refusal.Memory) = bare_of 4
 answer_of (Err Refusal.Mode) = bare_of 5
 answer_of (Err Refusal.TooLong) = bare_of 6

@@ -1,8 +1,8 @@
 -- What a call did with a template text, a stream and the room that C lent it.
-use Rattle.std.specs.Prelude.{◌≡◌, ◌≢◌, ◌⊎◌, ◌<◌, ◌≤◌, ◌^◌, ℕ, nat_eq, if◌then◌else◌, List, length, ◌++◌, drop, Option, None, Some, ◌+◌, Result, Ok, Err, IsErrAnd, IsSome, IsUtf8}
+use Rattle.std.specs.Prelude.{◌≡◌, ◌≢◌, ◌⊎◌, ◌<◌, ◌≤◌, ◌^◌, ℕ, List, length, ◌++◌, drop, Option, None, Some, ◌+◌, Result, Ok, Err, IsErrAnd, IsSome, IsUtf8}
 use Rattle.serde_json.specs.Data.{Data}
 use Rattle.serde_json.specs.Read.{read}
-use Rattle.fast_wire.specs.declared.level.Level.TheVariants.{Usual, Strict}
+use Rattle.fast_wire.specs.declared.level.Level.{Level}
 use Rattle.fast_template.specs.Resolved.{Resolved}
 use Rattle.fast_template.specs.TemplateSets.{IsSound, TemplateList, templates_in}
 use Rattle.fast_written.specs.declared.fault.LoadCause.{LoadCause}
@@ -11,7 +11,6 @@ use Rattle.fast_written.specs.JsonTemplates.{templates_of}
 use Rattle.fast_load.specs.JsonLoads.{IsNoText, Loads}
 use Rattle.fast_stream.specs.declared.fault.Cause.{Cause}
 use Rattle.fast_stream.specs.declared.fault.Fault.{Fault}
-use Rattle.fast_stream.specs.declared.mode.Framing.TheVariants.{Plain, Blocks}
 use Rattle.fast_stream.specs.declared.mode.Mode.{Mode}
 use Rattle.fast_stream.specs.Modes.{Carries, FirstFault}
 use Rattle.fast_stream.specs.Nodes.{Content}
@@ -24,20 +23,27 @@ use Rattle.fast_command.specs.Run.{LinesOf}
 use Rattle.fast_command.specs.declared.command.Command.{Command}
 use Rattle.fast_command.specs.declared.command.Command.TheVariants.{Show, Check, Canon}
 use Rattle.fast_io.specs.Counts.{counted_by}
-use Rattle.fast_lines.specs.declared.form.Form.TheVariants.{Text}
+use Rattle.fast_lines.specs.declared.form.Form.{Form}
+use Rattle.fast_recording.specs.Calls.{WritesCanonical, WritesLines}
+use Rattle.fast_slices.specs.Packets.{CountsPackets, WritesPackets}
+use Rattle.fast_slices.specs.Rooms.{Puts}
+use Rattle.fast_slices.specs.Ways.{way_of}
+use Rattle.fast_slices.specs.declared.answer.Counts.{Counts}
 use Rattle.fast_slices.specs.declared.answer.Refusal.{Refusal}
+use Rattle.fast_slices.specs.declared.way.Reading.{Reading}
+use Rattle.fast_slices.specs.declared.way.Way.{Way}
+
+-- what is answered of a stream, and of a call
+abbrev pub StreamDone : Type 0
+StreamDone = Result Summary Refusal
 
 abbrev pub Done : Type 0
-Done = Result Summary Refusal
+Done = Result Counts Refusal
 
--- the mode of a word of two bits; none where it has others
-abbrev pub mode_of : ℕ → Option Mode
-mode_of word =
-    if nat_eq word 0 then Some (record { level = Usual; framing = Plain })
-    else if nat_eq word 1 then Some (record { level = Strict; framing = Plain })
-    else if nat_eq word 2 then Some (record { level = Usual; framing = Blocks })
-    else if nat_eq word 3 then Some (record { level = Strict; framing = Blocks })
-    else None
+-- a stream has no packets
+abbrev pub of_stream : StreamDone → Done
+of_stream (Ok s) = Ok (record { packets = 0; messages = s.messages; read = s.read; written = s.written })
+of_stream (Err r) = Err r
 
 -- what loading a text answers, whether or not it is UTF-8 and JSON
 abbrev pub LoadsText : List ℕ → Result TemplateList LoadFault → Type 0
@@ -53,13 +59,8 @@ RefusesText text r =
 
 -- ---- the room
 
--- the bytes were put into the room's front, and what is behind them stays
-pub record Puts (bytes old new : List ℕ) : Type 0 where
-  pub fits : length bytes ≤ length old
-  pub put : new ≡ bytes ++ drop (length bytes) old
-
 -- what is answered of a run that wrote these bytes, and what becomes of the room
-abbrev pub Settles : Result Summary CanonFault → List ℕ → List ℕ → List ℕ → Done → Type 0
+abbrev pub Settles : Result Summary CanonFault → List ℕ → List ℕ → List ℕ → StreamDone → Type 0
 Settles ran bytes old new (Ok summary) = (ran ≡ Ok summary) × Puts bytes old new
 Settles ran bytes old new (Err (Refusal.Stream fault written)) =
     (ran ≡ Err (CanonFault.Stream fault)) × (fault.cause ≢ Cause.Memory) × (written ≡ length bytes) × Puts bytes old new
@@ -100,12 +101,12 @@ Needs makes mode set stream needed =
     ⊎ ((messages : List Content) × (fault : Fault) × IsRefused mode set stream messages fault)
 
 -- how many bytes a command writes of a stream
-abbrev pub Measures : Command → Mode → TemplateList → List ℕ → Refusal → Type 0
-Measures Show mode set stream (Refusal.Room needed) = Needs (LinesOf Text set) mode (templates_in set) stream needed
-Measures Canon mode set stream (Refusal.Room needed) = Needs IsCanonical mode (templates_in set) stream needed
-Measures Check mode set stream (Refusal.Room needed) = Unit {0}
-Measures command mode set stream Refusal.Memory = Unit {0}
-Measures command mode set stream r = ⊥
+abbrev pub Measures : Command → Mode → Form → TemplateList → List ℕ → Refusal → Type 0
+Measures Show mode form set stream (Refusal.Room needed) = Needs (LinesOf form set) mode (templates_in set) stream needed
+Measures Canon mode form set stream (Refusal.Room needed) = Needs IsCanonical mode (templates_in set) stream needed
+Measures Check mode form set stream (Refusal.Room needed) = Unit {0}
+Measures command mode form set stream Refusal.Memory = Unit {0}
+Measures command mode form set stream r = ⊥
 
 -- A prefix of the stream carries messages of which more is made than the room holds, and the room stays.
 pub record Overflows (makes : Making) (mode : Mode) (set : List Resolved) (stream old new : List ℕ) (needed : ℕ) : Type 0 where
@@ -118,7 +119,7 @@ pub record Overflows (makes : Making) (mode : Mode) (set : List Resolved) (strea
   pub needs : Needs makes mode set stream needed
 
 -- what is answered of a stream of which something is written
-abbrev pub Writes : Making → Mode → List Resolved → List ℕ → List ℕ → List ℕ → Done → Type 0
+abbrev pub Writes : Making → Mode → List Resolved → List ℕ → List ℕ → List ℕ → StreamDone → Type 0
 Writes makes mode set stream old new (Ok summary) = WritesAll makes mode set stream old new summary
 Writes makes mode set stream old new (Err (Refusal.Stream fault written)) = WritesBefore makes mode set stream old new fault written
 Writes makes mode set stream old new (Err (Refusal.Room needed)) = Overflows makes mode set stream old new needed
@@ -135,17 +136,17 @@ pub record CountsAll (mode : Mode) (set : List Resolved) (stream : List ℕ) (su
   pub no_longer : length bytes ≤ length stream
 
 -- what is answered of a stream that is checked
-abbrev pub Counts : Mode → List Resolved → List ℕ → Done → Type 0
-Counts mode set stream (Ok summary) = CountsAll mode set stream summary
-Counts mode set stream (Err (Refusal.Stream fault written)) = ((messages : List Content) × IsRefused mode set stream messages fault) × (written ≡ 0)
-Counts mode set stream (Err Refusal.Memory) = Unit {0}
-Counts mode set stream r = ⊥
+abbrev pub CountsStream : Mode → List Resolved → List ℕ → StreamDone → Type 0
+CountsStream mode set stream (Ok summary) = CountsAll mode set stream summary
+CountsStream mode set stream (Err (Refusal.Stream fault written)) = ((messages : List Content) × IsRefused mode set stream messages fault) × (written ≡ 0)
+CountsStream mode set stream (Err Refusal.Memory) = Unit {0}
+CountsStream mode set stream r = ⊥
 
 -- ---- a call
 
--- what a call is given has these templates and this mode
-pub record Prepares (text : List ℕ) (word : ℕ) (stream : List ℕ) (set : TemplateList) (mode : Mode) : Type 0 where
-  pub mode_is : mode_of word ≡ Some mode
+-- what a call is given has these templates and this way
+pub record Prepares (text : List ℕ) (word : ℕ) (stream : List ℕ) (set : TemplateList) (way : Way) : Type 0 where
+  pub way_is : way_of word ≡ Some way
   pub few : length stream < 2 ^ 40
   pub loads : LoadsText text (Ok set)
   pub sound : IsSound set
@@ -153,26 +154,33 @@ pub record Prepares (text : List ℕ) (word : ℕ) (stream : List ℕ) (set : Te
 -- The first that is not right is answered: the mode, the size of the stream, the templates.
 abbrev pub RefusesCall : List ℕ → ℕ → List ℕ → Refusal → Type 0
 RefusesCall text word stream r =
-    ((r ≡ Refusal.Mode) × (mode_of word ≡ None))
-    ⊎ ((r ≡ Refusal.TooLong) × IsSome (mode_of word) × (2 ^ 40 ≤ length stream))
-    ⊎ (IsSome (mode_of word) × (length stream < 2 ^ 40) × RefusesText text r)
+    ((r ≡ Refusal.Mode) × (way_of word ≡ None))
+    ⊎ ((r ≡ Refusal.TooLong) × IsSome (way_of word) × (2 ^ 40 ≤ length stream))
+    ⊎ (IsSome (way_of word) × (length stream < 2 ^ 40) × RefusesText text r)
 
 -- The call is refused before the stream is looked at; or it was looked at with the templates of the text.
-abbrev pub Calls : (Mode → TemplateList → Done → Type 0) → Type 0 → List ℕ → ℕ → List ℕ → Done → Type 0
+abbrev pub Calls : (Way → TemplateList → Done → Type 0) → Type 0 → List ℕ → ℕ → List ℕ → Done → Type 0
 Calls Looks Stays text word stream r =
     (IsErrAnd r (RefusesCall text word stream) × Stays)
-    ⊎ ((set : TemplateList) × (mode : Mode) × Prepares text word stream set mode × Looks mode set r)
+    ⊎ ((set : TemplateList) × (way : Way) × Prepares text word stream set way × Looks way set r)
+
+-- of a stream this was done, or of a recording
+abbrev pub LooksAs : (Mode → StreamDone → Type 0) → (Level → Done → Type 0) → Reading → Done → Type 0
+LooksAs OfStream OfRecording (Reading.Stream mode) r = (done : StreamDone) × (r ≡ of_stream done) × OfStream mode done
+LooksAs OfStream OfRecording (Reading.Recording level) r = OfRecording level r
 
 abbrev pub Canons : List ℕ → ℕ → List ℕ → List ℕ → List ℕ → Done → Type 0
-Canons text word stream old new r = Calls (λ mode set. Writes IsCanonical mode (templates_in set) stream old new) (new ≡ old) text word stream r
+Canons text word stream old new r =
+    Calls (λ way set. LooksAs (λ mode. Writes IsCanonical mode (templates_in set) stream old new) (λ level. WritesPackets (WritesCanonical set) level set stream old new) way.reading) (new ≡ old) text word stream r
 
 abbrev pub Shows : List ℕ → ℕ → List ℕ → List ℕ → List ℕ → Done → Type 0
-Shows text word stream old new r = Calls (λ mode set. Writes (LinesOf Text set) mode (templates_in set) stream old new) (new ≡ old) text word stream r
+Shows text word stream old new r =
+    Calls (λ way set. LooksAs (λ mode. Writes (LinesOf way.form set) mode (templates_in set) stream old new) (λ level. WritesPackets (WritesLines way.form set) level set stream old new) way.reading) (new ≡ old) text word stream r
 
 abbrev pub Checks : List ℕ → ℕ → List ℕ → Done → Type 0
-Checks text word stream r = Calls (λ mode set. Counts mode (templates_in set) stream) (Unit {0}) text word stream r
+Checks text word stream r = Calls (λ way set. LooksAs (λ mode. CountsStream mode (templates_in set) stream) (λ level. CountsPackets level set stream) way.reading) (Unit {0}) text word stream r
 
 -- the text has templates, or is refused
 abbrev pub ChecksText : List ℕ → Done → Type 0
-ChecksText text (Ok summary) = (summary ≡ record { messages = 0; read = 0; written = 0 }) × ((set : TemplateList) × LoadsText text (Ok set))
+ChecksText text (Ok counts) = (counts ≡ record { packets = 0; messages = 0; read = 0; written = 0 }) × ((set : TemplateList) × LoadsText text (Ok set))
 ChecksText text (Err r) = RefusesText text r

@@ -1,2 +1,5 @@
 pub mod Answers
 pub mod Calls
+pub mod Packets
+pub mod Rooms
+pub mod Ways

@@ -1,17 +1,31 @@
 //! What a call answers.
 
 ghost use Rattle.std.specs.Prelude.{◌≡◌};
-ghost use Rattle.fast_slices.specs.Answers.{answer_of as answer_of_lem, bare_of, cause_number_of, load_cause_number_of};
+ghost use Rattle.fast_slices.specs.Answers.{answer_of as answer_of_lem, bare_of, cause_number_of, load_cause_number_of, of_fault as of_fault_lem};
 
-use fast_canon::Summary;
+use fast_recording::PacketFault;
 use fast_stream::{Cause, Fault};
 use fast_written::{LoadCause, LoadFault};
+
+/// What a call counted.
+#[derive(Clone, Copy)]
+pub struct Counts {
+    /// The packets of a recording; 0 of a stream.
+    pub packets: u64,
+    pub messages: u64,
+    /// The bytes that were read.
+    pub read: u64,
+    /// The bytes that were put into the room, or of a check those that would be.
+    pub written: u64,
+}
 
 /// Why a call did not do what it was asked to.
 #[derive(Clone, Copy)]
 pub enum Refusal {
     /// The stream is refused; behind the fault how many bytes were put into the room.
     Stream(Fault, u64),
+    /// A packet of the recording is, likewise.
+    Packet(PacketFault, u64),
     /// The templates are refused.
     Templates(LoadFault),
     /// What is to be written is more than the room; how many bytes it is.
@@ -28,14 +42,14 @@ pub enum Refusal {
 #[repr(C)]
 #[derive(Clone, Copy)]
 pub struct Answer {
-    /// The messages of the stream, or of a refused one those before its fault.
+    /// The messages of the stream, or of a refused one, or a refused packet, those before its fault.
     pub messages: u64,
     /// The bytes of a stream that was read to its end.
     pub read: u64,
     /// The bytes that were put into the room, or of a check those that would be; of a room that is too short those that
     /// are needed.
     pub written: u64,
-    /// The message at which the stream is refused, from 1.
+    /// The message at which the stream or the packet is refused, from 1.
     pub message: u64,
     /// How many bytes stand before the piece that is refused.
     pub offset: u64,
@@ -47,6 +61,10 @@ pub struct Answer {
     pub template: u32,
     /// The instruction's number, from 1.
     pub instruction: u32,
+    /// The packets of the recording, or of a refused one those before the packet that is refused.
+    pub packets: u64,
+    /// The packet that is refused, from 1.
+    pub packet: u64,
 }
 
 /// The number of a cause of a refused stream; those of the machine, which are no refusal, have 0.
@@ -108,29 +126,44 @@ fn bare(status: u32) -> Answer
         cause: 0,
         template: 0,
         instruction: 0,
+        packets: 0,
+        packet: 0,
+    }
+}
+
+/// What is answered of a fault of a stream, or of a packet's.
+fn of_fault(fault: Fault, written: u64) -> Answer
+    ensures { result ≡ of_fault_lem fault written }
+{
+    Answer {
+        messages: fault.place.message.saturating_sub(1),
+        written,
+        message: fault.place.message,
+        offset: fault.place.offset,
+        cause: cause_number(fault.cause),
+        template: fault.place.template,
+        instruction: fault.place.instruction,
+        ..bare(1)
     }
 }
 
 /// What C is answered.
-pub fn answer_of(done: Result<Summary, Refusal>) -> Answer
+pub fn answer_of(done: Result<Counts, Refusal>) -> Answer
     ensures { result ≡ answer_of_lem done }
 {
     match done {
-        Ok(summary) => Answer {
-            messages: summary.messages,
-            read: summary.read,
-            written: summary.written,
+        Ok(counts) => Answer {
+            messages: counts.messages,
+            read: counts.read,
+            written: counts.written,
+            packets: counts.packets,
             ..bare(0)
         },
-        Err(Refusal::Stream(fault, written)) => Answer {
-            messages: fault.place.message.saturating_sub(1),
-            written,
-            message: fault.place.message,
-            offset: fault.place.offset,
-            cause: cause_number(fault.cause),
-            template: fault.place.template,
-            instruction: fault.place.instruction,
-            ..bare(1)
+        Err(Refusal::Stream(fault, written)) => of_fault(fault, written),
+        Err(Refusal::Packet(refused, written)) => Answer {
+            packets: refused.packet.saturating_sub(1),
+            packet: refused.packet,
+            ..of_fault(refused.fault, written)
         },
         Err(Refusal::Templates(fault)) => Answer {
             cause: load_cause_number(fault.cause),

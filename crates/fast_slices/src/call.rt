@@ -4,38 +4,24 @@ ghost use Rattle.std.specs.Prelude.{◌<◌, ◌≡◌, ◌≤◌, ◌^◌, leng
 ghost use Rattle.fast_template.specs.TemplateSets.{IsSound, templates_in};
 ghost use Rattle.fast_writer.specs.Canonical.{IsCanonical};
 ghost use Rattle.fast_command.specs.Run.{LinesOf};
-ghost use Rattle.fast_lines.specs.declared.form.Form.TheVariants.{Text};
-ghost use Rattle.fast_slices.specs.Calls.{Canons, Checks, ChecksText, Counts, LoadsText, Measures, Prepares, RefusesCall, RefusesText, Settles, Shows, Writes, mode_of as mode_of_lem};
+ghost use Rattle.fast_slices.specs.Calls.{Canons, Checks, ChecksText, CountsStream, LoadsText, Measures, Prepares, RefusesCall, RefusesText, Settles, Shows, Writes, of_stream as of_stream_lem};
 
-use crate::answer::Refusal;
+use crate::answer::{Counts, Refusal};
 use crate::input::SliceInput;
 use crate::kept::Kept;
+use crate::recording::{canon_recording, check_recording, show_recording};
 use crate::tally::Tally;
+use crate::way::{Reading, Way, way_of};
 use fast_build::Load;
 use fast_canon::{CanonFault, Summary, check};
 use fast_command::{Command, Form, run};
-use fast_stream::{Cause, Framing, Mode};
+use fast_stream::{Cause, Mode};
 use fast_template::TemplateSet;
-use fast_wire::Level;
 use fast_written::LoadCause;
 use std::alloc::Global;
 
 /// The most reads of a stream. Each that is used up gives a byte, so a stream with fewer bytes is read to its end.
-const TURNS: u64 = 1 << 40;
-
-/// The mode that a word of C stands for: bit 0 is the strict level, bit 1 are blocks.
-fn mode_of(word: u32) -> Option<Mode>
-    ensures { result ≡ mode_of_lem word }
-{
-    let (level, framing) = match word {
-        0 => (Level::Usual, Framing::Plain),
-        1 => (Level::Strict, Framing::Plain),
-        2 => (Level::Usual, Framing::Blocks),
-        3 => (Level::Strict, Framing::Blocks),
-        _ => return None,
-    };
-    Some(Mode { level, framing })
-}
+pub(crate) const TURNS: u64 = 1 << 40;
 
 /// The templates of a text.
 pub(crate) fn load(alloc: Global, text: &[u8]) -> Result<TemplateSet, Refusal>
@@ -60,11 +46,12 @@ fn overflow(
     command: Command,
     set: &TemplateSet,
     mode: Mode,
+    form: Form,
     stream: &[u8],
 ) -> Refusal
     requires sound { IsSound set.now }
     requires few { length stream.now < 2 ^ 40 }
-    ensures { Measures command mode set.now stream.now result }
+    ensures { Measures command mode form set.now stream.now result }
 {
     let mut input = SliceInput::new(stream);
     let mut tally = Tally::new();
@@ -73,7 +60,7 @@ fn overflow(
         command,
         set,
         mode,
-        Form::Text,
+        form,
         &mut input,
         &mut tally,
         TURNS,
@@ -133,7 +120,14 @@ fn canon_with(
         TURNS,
     );
     if kept.bytes.len() > room.len() {
-        return Err(overflow(alloc, Command::Canon, set, mode, stream));
+        return Err(overflow(
+            alloc,
+            Command::Canon,
+            set,
+            mode,
+            Form::Text,
+            stream,
+        ));
     }
     settle(ran, &kept.bytes, room)
 }
@@ -143,12 +137,13 @@ fn show_with(
     alloc: Global,
     set: &TemplateSet,
     mode: Mode,
+    form: Form,
     stream: &[u8],
     room: &mut [u8],
 ) -> Result<Summary, Refusal>
     requires sound { IsSound set.now }
     requires few { length stream.now < 2 ^ 40 }
-    ensures { Writes (LinesOf Text set.now) mode (templates_in set.now) stream.now room.old room.new result }
+    ensures { Writes (LinesOf form set.now) mode (templates_in set.now) stream.now room.old room.new result }
 {
     let mut input = SliceInput::new(stream);
     let mut kept = Kept::new(alloc, room.len() + 1);
@@ -157,13 +152,13 @@ fn show_with(
         Command::Show,
         set,
         mode,
-        Form::Text,
+        form,
         &mut input,
         &mut kept,
         TURNS,
     );
     if kept.bytes.len() > room.len() {
-        return Err(overflow(alloc, Command::Show, set, mode, stream));
+        return Err(overflow(alloc, Command::Show, set, mode, form, stream));
     }
     settle(ran, &kept.bytes, room)
 }
@@ -177,7 +172,7 @@ fn check_with(
 ) -> Result<Summary, Refusal>
     requires sound { IsSound set.now }
     requires few { length stream.now < 2 ^ 40 }
-    ensures { Counts mode (templates_in set.now) stream.now result }
+    ensures { CountsStream mode (templates_in set.now) stream.now result }
 {
     let mut input = SliceInput::new(stream);
     let ran = check(alloc, set, mode, &mut input, TURNS);
@@ -191,67 +186,92 @@ fn prepare(
     templates: &[u8],
     word: u32,
     stream: &[u8],
-) -> Result<(TemplateSet, Mode), Refusal>
+) -> Result<(TemplateSet, Way), Refusal>
     ensures ok { IfOk result (λ p. Prepares templates.now word stream.now p.0 p.1) }
     ensures refused { IfErr result (RefusesCall templates.now word stream.now) }
 {
-    let Some(mode) = mode_of(word) else {
+    let Some(way) = way_of(word) else {
         return Err(Refusal::Mode);
     };
     if stream.len() as u64 >= TURNS {
         return Err(Refusal::TooLong);
     }
     let set = load(alloc, templates)?;
-    Ok((set, mode))
+    Ok((set, way))
 }
 
-/// Writes the canonical bytes of a stream, with the templates of a text.
+/// What is counted of a stream, which has no packets.
+fn of_stream(done: Result<Summary, Refusal>) -> Result<Counts, Refusal>
+    ensures { result ≡ of_stream_lem done }
+{
+    match done {
+        Ok(summary) => Ok(Counts {
+            packets: 0,
+            messages: summary.messages,
+            read: summary.read,
+            written: summary.written,
+        }),
+        Err(refusal) => Err(refusal),
+    }
+}
+
+/// Writes the canonical bytes of a stream or of a recording, with the templates of a text.
 pub fn canon(
     alloc: Global,
     templates: &[u8],
     word: u32,
     stream: &[u8],
     room: &mut [u8],
-) -> Result<Summary, Refusal>
+) -> Result<Counts, Refusal>
     ensures { Canons templates.now word stream.now room.old room.new result }
 {
-    let (set, mode) = prepare(alloc, templates, word, stream)?;
-    canon_with(alloc, &set, mode, stream, room)
+    let (set, way) = prepare(alloc, templates, word, stream)?;
+    match way.reading {
+        Reading::Stream(mode) => of_stream(canon_with(alloc, &set, mode, stream, room)),
+        Reading::Recording(level) => canon_recording(alloc, &set, level, stream, room),
+    }
 }
 
-/// Writes the lines of a stream, with the templates of a text.
+/// Writes the lines of a stream or of a recording, with the templates of a text.
 pub fn show(
     alloc: Global,
     templates: &[u8],
     word: u32,
     stream: &[u8],
     room: &mut [u8],
-) -> Result<Summary, Refusal>
+) -> Result<Counts, Refusal>
     ensures { Shows templates.now word stream.now room.old room.new result }
 {
-    let (set, mode) = prepare(alloc, templates, word, stream)?;
-    show_with(alloc, &set, mode, stream, room)
+    let (set, way) = prepare(alloc, templates, word, stream)?;
+    match way.reading {
+        Reading::Stream(mode) => of_stream(show_with(alloc, &set, mode, way.form, stream, room)),
+        Reading::Recording(level) => show_recording(alloc, &set, level, way.form, stream, room),
+    }
 }
 
-/// Counts what a stream carries, with the templates of a text.
+/// Counts what a stream or a recording carries, with the templates of a text.
 pub fn check_stream(
     alloc: Global,
     templates: &[u8],
     word: u32,
     stream: &[u8],
-) -> Result<Summary, Refusal>
+) -> Result<Counts, Refusal>
     ensures { Checks templates.now word stream.now result }
 {
-    let (set, mode) = prepare(alloc, templates, word, stream)?;
-    check_with(alloc, &set, mode, stream)
+    let (set, way) = prepare(alloc, templates, word, stream)?;
+    match way.reading {
+        Reading::Stream(mode) => of_stream(check_with(alloc, &set, mode, stream)),
+        Reading::Recording(level) => check_recording(alloc, &set, level, stream),
+    }
 }
 
 /// Checks a template text.
-pub fn check_templates(alloc: Global, templates: &[u8]) -> Result<Summary, Refusal>
+pub fn check_templates(alloc: Global, templates: &[u8]) -> Result<Counts, Refusal>
     ensures { ChecksText templates.now result }
 {
     load(alloc, templates)?;
-    Ok(Summary {
+    Ok(Counts {
+        packets: 0,
         messages: 0,
         read: 0,
         written: 0,

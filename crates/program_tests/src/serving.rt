@@ -5,6 +5,7 @@ mod devices;
 mod examples;
 mod explaining;
 mod granted;
+mod packets;
 mod programs;
 mod strict;
 mod worked;

@@ -84,14 +84,14 @@ fn refused_streams(rt: HostRuntime) -> Result<(), AllocError> {
             input: b"\x80",
             err: "refused D5 message=1 offset=1 template=0 instruction=0\n\
                 explain: message 1, offset 1: the message has no template identifier, and none came before; read the stream from its start\n\
-                explain: if the stream is in blocks, each behind its size, give --blocks; if other bytes stand before each message, take them out\n",
+                explain: if the stream is in blocks, each behind its size, give --blocks, or --packets where each begins with undefined entries; if other bytes stand before each message, take them out\n",
             ..EXPLAINED
         },
         Case {
             input: b"\xc0\x90\x85",
             err: "refused D5 message=1 offset=3 template=16 instruction=2\n\
                 explain: message 1, offset 3, field \"B\" of template \"First\": the field is mandatory and left out, and no earlier value stands for it; read the stream from its start, or compare the field with the sender's templates\n\
-                explain: if the stream is in blocks, each behind its size, give --blocks; if other bytes stand before each message, take them out\n",
+                explain: if the stream is in blocks, each behind its size, give --blocks, or --packets where each begins with undefined entries; if other bytes stand before each message, take them out\n",
             ..EXPLAINED
         },
         Case {
@@ -104,14 +104,14 @@ fn refused_streams(rt: HostRuntime) -> Result<(), AllocError> {
             input: b"\xc0\xe4",
             err: "refused D9 message=1 offset=1 template=0 instruction=0\n\
                 explain: message 1, offset 1: no template has the identifier 100; add the template, or see that the stream begins where a message does\n\
-                explain: if the stream is in blocks, each behind its size, give --blocks; if other bytes stand before each message, take them out\n",
+                explain: if the stream is in blocks, each behind its size, give --blocks, or --packets where each begins with undefined entries; if other bytes stand before each message, take them out\n",
             ..EXPLAINED
         },
         Case {
             input: b"\xc0\x00\x00\x07\xe8",
             err: "refused D9 message=1 offset=1 template=0 instruction=0\n\
                 explain: message 1, offset 1: no template has the identifier 1000; add the template, or see that the stream begins where a message does\n\
-                explain: if the stream is in blocks, each behind its size, give --blocks; if other bytes stand before each message, take them out\n",
+                explain: if the stream is in blocks, each behind its size, give --blocks, or --packets where each begins with undefined entries; if other bytes stand before each message, take them out\n",
             ..EXPLAINED
         },
         Case {
@@ -124,7 +124,7 @@ fn refused_streams(rt: HostRuntime) -> Result<(), AllocError> {
             input: b"\xe0\x90",
             err: "refused Truncated message=1 offset=2 template=16 instruction=1\n\
                 explain: message 1, offset 2, field \"A\" of template \"First\": the stream ends inside a message or a block; see that it was copied whole\n\
-                explain: if the stream is in blocks, each behind its size, give --blocks; if other bytes stand before each message, take them out\n",
+                explain: if the stream is in blocks, each behind its size, give --blocks, or --packets where each begins with undefined entries; if other bytes stand before each message, take them out\n",
             ..EXPLAINED
         },
         Case {
@@ -140,7 +140,7 @@ fn refused_streams(rt: HostRuntime) -> Result<(), AllocError> {
             out: b"\n",
             err: "refused D9 message=1 offset=1 template=0 instruction=0\n\
                 explain: message 1, offset 1: no template has the identifier 100; add the template, or see that the stream begins where a message does\n\
-                explain: if the stream is in blocks, each behind its size, give --blocks; if other bytes stand before each message, take them out\n",
+                explain: if the stream is in blocks, each behind its size, give --blocks, or --packets where each begins with undefined entries; if other bytes stand before each message, take them out\n",
             ..EXPLAINED
         },
         Case {
@@ -219,14 +219,14 @@ fn refused_streams(rt: HostRuntime) -> Result<(), AllocError> {
             input: b"\xc0\x86\x82\x85",
             err: "refused Truncated message=1 offset=4 template=6 instruction=3\n\
                 explain: message 1, offset 4, field \"E\" of template \"Nest\": the stream ends inside a message or a block; see that it was copied whole\n\
-                explain: if the stream is in blocks, each behind its size, give --blocks; if other bytes stand before each message, take them out\n",
+                explain: if the stream is in blocks, each behind its size, give --blocks, or --packets where each begins with undefined entries; if other bytes stand before each message, take them out\n",
             ..OVER_MANY
         },
         Case {
             input: b"\xc0\x86",
             err: "refused Truncated message=1 offset=2 template=6 instruction=2\n\
                 explain: message 1, offset 2, field \"L\" of template \"Nest\": the stream ends inside a message or a block; see that it was copied whole\n\
-                explain: if the stream is in blocks, each behind its size, give --blocks; if other bytes stand before each message, take them out\n",
+                explain: if the stream is in blocks, each behind its size, give --blocks, or --packets where each begins with undefined entries; if other bytes stand before each message, take them out\n",
             ..OVER_MANY
         },
         Case {
@@ -248,14 +248,14 @@ fn files_of_other_kinds(rt: HostRuntime) -> Result<(), AllocError> {
             input: b"\xd4\xc3\xb2\xa1\x02\x00\x04\x00",
             err: "refused D9 message=1 offset=1 template=0 instruction=0\n\
                 explain: message 1, offset 1: no template has the identifier 67; add the template, or see that the stream begins where a message does\n\
-                explain: the standard input is a capture file (pcap); take the streams out of its packets first\n",
+                explain: the standard input is a capture file (pcap); take its packets out by tools/pcap-packets, and read them with --packets\n",
             ..EXPLAINED
         },
         Case {
             input: b"\x0a\x0d\x0d\x0a",
             err: "refused Truncated message=1 offset=0 template=0 instruction=0\n\
                 explain: message 1, offset 0: the stream ends inside a message or a block; see that it was copied whole\n\
-                explain: the standard input is a capture file (pcapng); take the streams out of its packets first\n",
+                explain: the standard input is a capture file (pcapng); take its packets out by tools/pcap-packets, and read them with --packets\n",
             ..EXPLAINED
         },
         Case {

@@ -3,6 +3,7 @@ use Rattle.fast_template.specs.TemplateSets.{templates_in}
 use Rattle.fast_wire.proofs.Calls.{all_bytes}
 use Rattle.fast_writer.specs.Canonical.{IsCanonical}
 use Rattle.fast_pass.specs.Passed.{Passes}
+use Rattle.fast_lines.specs.declared.form.Form.TheVariants.{Text}
 use Rattle.fast_slices.proofs.Streams.{as_passes, canon_overflows, has_run, settled}
 use Rattle.fast_slices.proofs.call.canon_with.Goals as goal
 
@@ -42,7 +43,7 @@ returns-then-len-room c =
     let fewer : length a.1 < 2 ^ 40 = omega (arith, size, sum, few) in
     let all = as_passes mode (templates_in set) (2 ^ 40) (Some rest) (Some c.new-kept.result.bytes.items) (Some wrote) a.1 ran fewer a.4 in
     let longer : length c.args.room.now < length wrote = search rules in
-    canon_overflows mode set stream wrote c.args.room.now c.args.room.now ran c.overflow.result
+    canon_overflows mode Text set stream wrote c.args.room.now c.args.room.now ran c.overflow.result
     (has_run set stream ran _ _ _ _ a.1 rest c.requires.sound (all_bytes stream (λ k. omega (arith, c.type_inv.stream k))) few parts a.5 refl refl
     (subst (λ (xs : List ℕ). Passes IsCanonical mode (templates_in set) (2 ^ 40) (Some rest) (Some xs) (Some wrote) a.1 ran) c.new-kept.ensures all))
     longer refl c.overflow.ensures

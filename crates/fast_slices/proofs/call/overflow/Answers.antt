@@ -14,7 +14,7 @@ returns-in-Ok c =
     let size = ap (λ (xs : List ℕ). length xs) parts in
     let sum = length-append a.1 rest in
     let fewer : length a.1 < 2 ^ 40 = omega (arith, size, sum, few) in
-    measured_run c.args.command c.args.mode c.args.set.now stream c.run.result
+    measured_run c.args.command c.args.mode c.args.form c.args.set.now stream c.run.result
     (has_run c.args.set.now stream c.run.result _ _ _ _ a.1 rest c.requires.sound (all_bytes stream (λ k. omega (arith, c.type_inv.stream k))) few parts a.5 refl refl (fewer, a.4))
     c.in-Ok.summary c.in-Ok.is
 
@@ -29,6 +29,6 @@ returns-in-Err-Stream c =
     let sum = length-append a.1 rest in
     let fewer : length a.1 < 2 ^ 40 = omega (arith, size, sum, few) in
     let memory : c.in-Err-Stream.fault.cause ≢ Cause.Memory = search rules in
-    refused_run c.args.command c.args.mode c.args.set.now stream c.run.result
+    refused_run c.args.command c.args.mode c.args.form c.args.set.now stream c.run.result
     (has_run c.args.set.now stream c.run.result _ _ _ _ a.1 rest c.requires.sound (all_bytes stream (λ k. omega (arith, c.type_inv.stream k))) few parts a.5 refl refl (fewer, a.4))
     c.in-Err-Stream.fault c.in-Err-Stream.field-0 c.run.new.writer.count c.in-Err-Stream.is c.in-Err-Stream.field-0-is memory

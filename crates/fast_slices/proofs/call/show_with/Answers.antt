@@ -3,7 +3,6 @@ use Rattle.fast_template.specs.TemplateSets.{templates_in}
 use Rattle.fast_wire.proofs.Calls.{all_bytes}
 use Rattle.fast_pass.specs.Passed.{Passes}
 use Rattle.fast_command.specs.Run.{LinesOf}
-use Rattle.fast_lines.specs.declared.form.Form.TheVariants.{Text}
 use Rattle.fast_slices.proofs.Streams.{has_run, settled, show_overflows}
 use Rattle.fast_slices.proofs.call.show_with.Goals as goal
 
@@ -16,10 +15,10 @@ returns c =
     let ran = c.run-ran.result in
     let rest = c.run-ran.new.reader.rest.now in
     let wrote = c.run-ran.new.writer.bytes.items in
-    let begun = subst (λ (xs : List ℕ). Passes (LinesOf Text set) mode (templates_in set) (2 ^ 40) (Some rest) (Some xs) (Some wrote) a.1 ran) c.new-kept.ensures a.4 in
-    settled (LinesOf Text set) mode set stream c.deref.result.now c.args.room.now c.settle.new.room ran c.settle.result c.deref.type_inv.0
+    let begun = subst (λ (xs : List ℕ). Passes (LinesOf c.args.form set) mode (templates_in set) (2 ^ 40) (Some rest) (Some xs) (Some wrote) a.1 ran) c.new-kept.ensures a.4 in
+    settled (LinesOf c.args.form set) mode set stream c.deref.result.now c.args.room.now c.settle.new.room ran c.settle.result c.deref.type_inv.0
     (has_run set stream ran _ _ _ _ a.1 rest c.requires.sound (all_bytes stream (λ k. omega (arith, c.type_inv.stream k))) c.requires.few (sym c.new-input.ensures ∙ a.2.consumed) a.5 refl refl
-    (subst (λ (xs : List ℕ). Passes (LinesOf Text set) mode (templates_in set) (2 ^ 40) (Some rest) (Some []) (Some xs) a.1 ran) (sym c.deref.ensures.value) begun)) c.settle.ensures
+    (subst (λ (xs : List ℕ). Passes (LinesOf c.args.form set) mode (templates_in set) (2 ^ 40) (Some rest) (Some []) (Some xs) a.1 ran) (sym c.deref.ensures.value) begun)) c.settle.ensures
 
 pub returns-then-len-room : goal.returns-then-len-room
 returns-then-len-room c =
@@ -31,7 +30,7 @@ returns-then-len-room c =
     let rest = c.run-ran.new.reader.rest.now in
     let wrote = c.run-ran.new.writer.bytes.items in
     let longer : length c.args.room.now < length wrote = search rules in
-    show_overflows mode set stream wrote c.args.room.now c.args.room.now ran c.overflow.result
+    show_overflows mode c.args.form set stream wrote c.args.room.now c.args.room.now ran c.overflow.result
     (has_run set stream ran _ _ _ _ a.1 rest c.requires.sound (all_bytes stream (λ k. omega (arith, c.type_inv.stream k))) c.requires.few (sym c.new-input.ensures ∙ a.2.consumed) a.5 refl refl
-    (subst (λ (xs : List ℕ). Passes (LinesOf Text set) mode (templates_in set) (2 ^ 40) (Some rest) (Some xs) (Some wrote) a.1 ran) c.new-kept.ensures a.4))
+    (subst (λ (xs : List ℕ). Passes (LinesOf c.args.form set) mode (templates_in set) (2 ^ 40) (Some rest) (Some xs) (Some wrote) a.1 ran) c.new-kept.ensures a.4))
     longer refl c.overflow.ensures
