@@ -70,6 +70,35 @@ pub fn meaning_of(read_as: ReadAs, fault: Fault) -> &'static str {
     }
 }
 
+/// What the cause of a refused line means, and what to do.
+pub fn meaning_of_line(cause: &str) -> &'static str {
+    match cause {
+        "Json" => "the line is no JSON text in UTF-8, or nests more than 128 levels; mend it there",
+        "Line" => {
+            "a line is an object of \"template\" or \"id\" or both, and of \"fields\", each once, and of nothing else"
+        }
+        "D9" => {
+            "no template has this name or identifier, or they are of two; compare them with the templates"
+        }
+        "Member" => {
+            "the template has no such field, or has it fewer times; compare the names with the templates"
+        }
+        "Mismatch" => {
+            "the value is not of the field's type, or a mandatory one is not there; compare the field with the templates"
+        }
+        "D2" => "the integer is out of the bounds of its type",
+        "R1" => "the exponent is outside -63..63, or the mantissa outside int64",
+        "D3" => "the decimal does not have the exponent or the mantissa that the templates give",
+        "D4" => "the earlier value of this key is of another type; give fields of one key one type",
+        "D6" => "the field needs an earlier value, and the last one was null",
+        "NotConstant" => "the value is not the constant of its field",
+        "TooShort" => "the value is shorter than the earlier one whose end it changes",
+        _ => {
+            "the line has more than 16777216 bytes, or more text, elements or fields than a message may have"
+        }
+    }
+}
+
 /// What the cause of refused templates asks for.
 pub fn rule_of(fault: LoadFault) -> &'static str {
     match fault.cause {

@@ -27,6 +27,19 @@ pub enum ReadAs {
     Stream(Framing),
     /// A recording of packets.
     Recording,
+    /// Lines of messages.
+    Lines,
+}
+
+/// Where and why a line of messages is refused.
+#[derive(Clone, Copy)]
+pub(crate) struct LineNote {
+    pub(crate) number: u64,
+    pub(crate) cause: &'static str,
+    /// Behind which byte of the line, where that is known.
+    pub(crate) column: Option<usize>,
+    template: u32,
+    instruction: u32,
 }
 
 /// What is known of a refusal beside its line. Nothing is noted where it is not asked for, and what memory is refused
@@ -42,7 +55,9 @@ pub struct Notes {
     pub(crate) fault: Option<Fault>,
     /// The packet in which it is.
     pub(crate) packet: Option<u64>,
-    /// The names at a fault of the stream.
+    /// The line that is refused.
+    pub(crate) line: Option<LineNote>,
+    /// The names at a fault of the stream or of the line.
     pub(crate) names: Names,
     /// The identifier of no template.
     pub(crate) identifier: Option<u64>,
@@ -77,6 +92,7 @@ impl Notes {
             text: TextNotes::unknown(),
             fault: None,
             packet: None,
+            line: None,
             names: Names::unknown(),
             identifier: None,
             stray: None,
@@ -143,15 +159,40 @@ impl Notes {
         self.fault = Some(fault);
     }
 
-    /// Notes which names a fault of the stream has.
+    /// Notes that a line is refused, at this instruction of the template of an identifier.
+    pub fn line_refused(
+        &mut self,
+        number: u64,
+        cause: &'static str,
+        template: u32,
+        instruction: u32,
+        column: Option<usize>,
+    ) {
+        self.line = Some(LineNote {
+            number,
+            cause,
+            column,
+            template,
+            instruction,
+        });
+    }
+
+    /// The template and the instruction of a fault of the stream or of a line.
+    fn numbers(&self) -> Option<(u32, u32)> {
+        match (self.fault, self.line) {
+            (Some(fault), _) => Some((fault.place.template, fault.place.instruction)),
+            (None, Some(line)) => Some((line.template, line.instruction)),
+            (None, None) => None,
+        }
+    }
+
+    /// Notes which names a fault of the stream or of a line has.
     pub fn stream_refused(&mut self, alloc: Global, set: &TemplateSet) {
-        if let Some(fault) = self.fault
+        if let Some((template, instruction)) = self.numbers()
             && self.is_asked
+            && let Ok(names) = names_in_set(alloc, set, template, instruction)
         {
-            let place = fault.place;
-            if let Ok(names) = names_in_set(alloc, set, place.template, place.instruction) {
-                self.names = names;
-            }
+            self.names = names;
         }
     }
 

@@ -2,9 +2,9 @@
 
 use crate::hex_text::Stray;
 use crate::looks::StreamLook;
-use crate::meaning::{meaning_of, rule_of};
+use crate::meaning::{meaning_of, meaning_of_line, rule_of};
 use crate::no_json::{Look, NoJson};
-use crate::notes::{Notes, ReadAs, Reading};
+use crate::notes::{LineNote, Notes, ReadAs, Reading};
 use crate::place::LineColumn;
 use fast_host::{FileState, Refusal};
 use fast_stream::{Cause, Fault, Framing};
@@ -151,20 +151,8 @@ fn message_text(alloc: Global, notes: &Notes, fault: Fault) -> Result<String, Al
 fn place_text(alloc: Global, notes: &Notes, fault: Fault) -> Result<String, AllocError> {
     let message = message_text(alloc, notes, fault)?;
     let offset = fault.place.offset;
-    match (&notes.names.template, &notes.names.instruction) {
-        (Some(template), Some(field)) => {
-            let template = template.as_str();
-            let field = field.as_str();
-            format!(in alloc;
-                "{message}, offset {offset}, field {field:?} of template {template:?}"
-            )
-        }
-        (Some(template), None) => {
-            let template = template.as_str();
-            format!(in alloc; "{message}, offset {offset}, template {template:?}")
-        }
-        (None, _) => format!(in alloc; "{message}, offset {offset}"),
-    }
+    let names = names_text(alloc, notes)?;
+    format!(in alloc; "{message}, offset {offset}{names}")
 }
 
 /// Why a stream is refused.
@@ -245,6 +233,47 @@ fn stream_text(alloc: Global, input: &str, notes: &Notes) -> Result<String, Allo
     format!(in alloc; "explain: {place}: {why}\n{more}")
 }
 
+/// By which names a place is known, behind a comma.
+fn names_text(alloc: Global, notes: &Notes) -> Result<String, AllocError> {
+    match (&notes.names.template, &notes.names.instruction) {
+        (Some(template), Some(field)) => {
+            let template = template.as_str();
+            let field = field.as_str();
+            format!(in alloc; ", field {field:?} of template {template:?}")
+        }
+        (Some(template), None) => {
+            let template = template.as_str();
+            format!(in alloc; ", template {template:?}")
+        }
+        (None, _) => Ok(String::new(alloc)),
+    }
+}
+
+/// Behind which byte of a line, where that is known.
+fn column_text(alloc: Global, column: Option<usize>) -> Result<String, AllocError> {
+    match column {
+        Some(column) => format!(in alloc; " column {column}"),
+        None => Ok(String::new(alloc)),
+    }
+}
+
+/// Where and why a line is refused.
+fn refused_line_text(alloc: Global, notes: &Notes, line: LineNote) -> Result<String, AllocError> {
+    let number = line.number;
+    let column = column_text(alloc, line.column)?;
+    let names = names_text(alloc, notes)?;
+    let why = meaning_of_line(line.cause);
+    format!(in alloc; "explain: line {number}{column}{names}: {why}\n")
+}
+
+/// Where and why the input is refused.
+fn refused_text(alloc: Global, input: &str, notes: &Notes) -> Result<String, AllocError> {
+    match notes.line {
+        Some(line) => refused_line_text(alloc, notes, line),
+        None => stream_text(alloc, input, notes),
+    }
+}
+
 /// Where a run stopped that met a fault of the machine: behind a sentence's last word.
 fn stopped_text(alloc: Global, notes: &Notes) -> Result<String, AllocError> {
     match notes.fault {
@@ -275,7 +304,7 @@ fn sentences(
     notes: &Notes,
 ) -> Result<String, AllocError> {
     match refusal {
-        Refusal::Stream(_) => stream_text(alloc, input, notes),
+        Refusal::Stream(_) => refused_text(alloc, input, notes),
         Refusal::Templates(_) => templates_text(alloc, input, notes),
         Refusal::TemplatesTooLong => format!(in alloc;
             "explain: {input} has more than 16777216 bytes; leave out templates that the stream does not need\n"

@@ -131,9 +131,15 @@ over_packets command flags =
 abbrev pub command_task : Flags → Command → Option Task
 command_task flags command = if flags.packets then over_packets command flags else over_stream command flags
 
+-- lines are of no packets
+abbrev pub over_lines : Flags → Option Task
+over_lines flags = if flags.keep_going || flags.packets then None else Some Task.Write
+
 -- what a word and the flags ask for; none where they cannot stand together
 abbrev pub task_named : Text → Flags → Option Task
-task_named word flags = option_and_then (command_task flags) (command_named word)
+task_named word flags =
+    if bytes_eq word (codes "write") then over_lines flags
+    else option_and_then (command_task flags) (command_named word)
 
 -- these flags are found
 pub record FindsFlags (rows : List Row) (flags : Flags) : Type 0 where

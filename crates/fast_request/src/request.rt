@@ -2,7 +2,7 @@
 
 ghost use Rattle.std.specs.Prelude.{◌≡◌, ◌≢◌, None, Some, IfErr, IfOk, codes, false, map, option_and_then, option_map};
 ghost use Rattle.clap.specs.Words.{app_of, first_of, found_of, one_of, rows_of, rule_of};
-ghost use Rattle.fast_request.specs.CommandLine.{AsksFor, Finds, FindsFlags, IsFlag, asked_by, bare_app, command_named, command_rule, file_named, flag_rule, framing_by as framing_by_lem, input_rule, is_json, level_by as level_by_lem, line_among, over_packets as over_packets_lem, over_stream as over_stream_lem, task_named, templates_rule, with_files_lem, with_flags_lem, with_ways_lem};
+ghost use Rattle.fast_request.specs.CommandLine.{AsksFor, Finds, FindsFlags, IsFlag, asked_by, bare_app, command_named, command_rule, file_named, flag_rule, framing_by as framing_by_lem, input_rule, is_json, level_by as level_by_lem, line_among, over_lines as over_lines_lem, over_packets as over_packets_lem, over_stream as over_stream_lem, task_named, templates_rule, with_files_lem, with_flags_lem, with_ways_lem};
 
 use clap::error::ErrorKind;
 use clap::{Arg, ArgAction, ArgMatches};
@@ -17,6 +17,8 @@ pub enum Task {
     Stream { command: Command, mode: Mode },
     /// A command over a recording of packets, which is read so.
     Recording { command: Command, mode: PacketMode },
+    /// Lines of messages are written as canonical bytes.
+    Write,
 }
 
 /// What a command line asks for.
@@ -26,7 +28,7 @@ pub struct Request<'a> {
     pub task: Task,
     /// The name of the file with the templates; without one they come from the standard input.
     pub templates: Option<&'a str>,
-    /// Whether the input is hex text, and with it what `canon` writes.
+    /// Whether the input is hex text, but for lines, and with it what `canon` and `write` write.
     pub hex: bool,
     /// How `show` writes a message.
     pub form: Form,
@@ -51,10 +53,11 @@ Commands:
   show   Write a line for each message, as `16 First A=5 B=6`
   check  Write how many messages and bytes there are, and how many canonical bytes
   canon  Write the canonical bytes: each message in the spelling that comes first
+  write  Read lines of messages, as show --json writes them, and write their canonical bytes
 
 Exit status:
   0  done
-  1  the stream or a packet is refused: standard error has the cause and the place
+  1  the stream, a packet or a line is refused: standard error has the cause and the place
   2  the command line, the templates or the hex text is refused
   3  a file, a read, a write or memory failed
 
@@ -64,7 +67,7 @@ Example:
   echo e0 81 85 80 | fastcat show --templates tick.json --hex";
 
 /// What the help says of each flag.
-const HEX: &str = "Read hex text, and write canonical bytes as hex text";
+const HEX: &str = "Read hex text (write reads lines), and write canonical bytes as hex text";
 
 const STRICT: &str = "Refuse overlong entities, and map bits that no instruction asked for";
 
@@ -86,8 +89,8 @@ fn command_word<'a>(alloc: Global) -> Arg<'a>
     Arg::new(alloc, "command")
         .value_name("COMMAND")
         .required(true)
-        .value_parser(["show", "check", "canon"].as_slice())
-        .help("What to do with the stream")
+        .value_parser(["show", "check", "canon", "write"].as_slice())
+        .help("What to do with the stream, or the lines")
 }
 
 /// The word for the file of the stream.
@@ -238,11 +241,28 @@ fn over_packets(command: Command, flags: Flags) -> Result<Task, Unasked>
     })
 }
 
+/// What is asked for by the flags where lines are to be written.
+fn over_lines(flags: Flags) -> Result<Task, Unasked>
+    ensures asked { IfOk result (λ t. over_lines_lem flags ≡ Some t) }
+    ensures unasked { IfErr result (λ _. over_lines_lem flags ≡ None) }
+{
+    if flags.keep_going {
+        return Err(Unasked::KeepGoing);
+    }
+    if flags.packets {
+        return Err(Unasked::PacketsOfLines);
+    }
+    Ok(Task::Write)
+}
+
 /// What a word and the flags ask for.
 fn task_of(word: &str, flags: Flags) -> Result<Task, Unasked>
     ensures asked { IfOk result (λ t. task_named word.now flags ≡ Some t) }
     ensures unasked { IfErr result (λ _. task_named word.now flags ≡ None) }
 {
+    if word == "write" {
+        return over_lines(flags);
+    }
     match command_of(word) {
         None => Err(Unasked::Missing),
         Some(command) if flags.packets => over_packets(command, flags),
@@ -317,6 +337,8 @@ enum Unasked {
     InputTwice,
     /// Packets are to have blocks.
     PacketsOfBlocks,
+    /// Lines are to be of packets.
+    PacketsOfLines,
     /// It is to go on behind a refused packet where there are no packets, or none may be refused.
     KeepGoing,
 }
@@ -377,6 +399,10 @@ pub fn parse_words<'a>(alloc: Global, words: &'a [&'a str]) -> Result<Request<'a
         Err(Unasked::PacketsOfBlocks) => Err(line.error(
             ErrorKind::ArgumentConflict,
             "--packets cannot be used with --blocks: a packet is a stream without blocks",
+        )?),
+        Err(Unasked::PacketsOfLines) => Err(line.error(
+            ErrorKind::ArgumentConflict,
+            "write cannot be used with --packets",
         )?),
         Err(Unasked::KeepGoing) => Err(line.error(
             ErrorKind::ArgumentConflict,

@@ -36,6 +36,12 @@ use Rattle.fast_command.specs.declared.command.Command.{Command}
 use Rattle.fast_command.specs.declared.command.Command.TheVariants.{Show, Check, Canon}
 use Rattle.fast_host.specs.declared.input.TextFault.{TextFault}
 use Rattle.fast_host.specs.declared.refusal.Refusal.{Refusal}
+use Rattle.fast_write.specs.Written.{Writes, errors_behind}
+use Rattle.fast_write.specs.Written.{FlushesOnce as FlushesWritten}
+use Rattle.fast_write.specs.Written.{IsCausedBy as IsWriteCausedBy}
+use Rattle.fast_write.specs.declared.fault.WriteFault.{WriteFault}
+use Rattle.fast_write.specs.declared.summary.WrittenSummary.{WrittenSummary}
+use Rattle.fast_serve.specs.Lines.{IsOfWriting, form_by}
 use Rattle.fast_serve.specs.Packets.{IsOfPacket, IsOfRecording, ended_of}
 use Rattle.fast_serve.specs.declared.ended.Ended.{Ended}
 
@@ -191,25 +197,46 @@ pub record CanonRecordingInHex (mode : PacketMode) (set : TemplateList) (turns :
   pub ran : CanonicalisesPackets mode.level set turns in_old in_new (Some []) (Some bytes) answer
   pub answered : AnswersRecordingInHex old new bytes answer r
 
+-- ---- lines
+
+-- what is answered of lines
+abbrev pub AnswersLines : Result WrittenSummary WriteFault → Answer → Type 0
+AnswersLines (Ok summary) r = r ≡ Ok Ended.Accepted
+AnswersLines (Err f) r = IsErrAnd r (IsOfWriting f)
+
+-- the canonical bytes of the messages that lines stand for were written, as they are or as a line of hex
+pub record RunsLines (hex : Bool) (set : TemplateList) (turns : ℕ) (in_old in_new : Reader) (out_old out_new : Writer) (r : Answer) : Type 0 where
+  pub count : ℕ
+  pub input : List ℕ
+  pub answer : Result WrittenSummary WriteFault
+  pub read : ReadsUpTo turns count in_old in_new input
+  pub wrote : Writes (form_by hex) set in_new.left out_old.taken out_new.taken input answer
+  pub caused : IsWriteCausedBy answer (count ≡ turns) in_old in_new
+  pub write_failed : out_new.errors ≡ errors_behind answer out_old.errors
+  pub flushed : FlushesWritten answer out_old.flushes out_new.flushes
+  pub answered : AnswersLines answer r
+
 -- ---- a task
 
 -- what was done of an input's bytes; standard error is told of refused packets alone
-abbrev pub RunsTask : Task → Form → TemplateList → ℕ → Reader → Reader → Writer → Writer → Writer → Writer → Answer → Type 0
-RunsTask (Task.Stream command mode) form set turns in_old in_new out_old out_new err_old err_new r =
+abbrev pub RunsTask : Task → Bool → Form → TemplateList → ℕ → Reader → Reader → Writer → Writer → Writer → Writer → Answer → Type 0
+RunsTask (Task.Stream command mode) hex form set turns in_old in_new out_old out_new err_old err_new r =
     RunsPlain command mode form set turns in_old in_new out_old out_new r × (err_new ≡ err_old)
-RunsTask (Task.Recording command mode) form set turns in_old in_new out_old out_new err_old err_new r =
+RunsTask (Task.Recording command mode) hex form set turns in_old in_new out_old out_new err_old err_new r =
     RunsRecording command mode form set turns in_old in_new out_old out_new err_old err_new r
+RunsTask Task.Write hex form set turns in_old in_new out_old out_new err_old err_new r =
+    RunsLines hex set turns in_old in_new out_old out_new r × (err_new ≡ err_old)
 
 -- a task was done of bytes in memory
-abbrev pub RunsInMemory : Task → Form → TemplateList → ℕ → List ℕ → Writer → Writer → Writer → Writer → Answer → Type 0
-RunsInMemory task form set turns bytes out_old out_new err_old err_new r =
-    (in_old : Reader) × (in_new : Reader) × (in_old.left ≡ Some bytes) × RunsTask task form set turns in_old in_new out_old out_new err_old err_new r
+abbrev pub RunsInMemory : Task → Bool → Form → TemplateList → ℕ → List ℕ → Writer → Writer → Writer → Writer → Answer → Type 0
+RunsInMemory task hex form set turns bytes out_old out_new err_old err_new r =
+    (in_old : Reader) × (in_new : Reader) × (in_old.left ≡ Some bytes) × RunsTask task hex form set turns in_old in_new out_old out_new err_old err_new r
 
 -- what was done of bytes in hex text
-abbrev pub PerformsInHex : Task → Form → TemplateList → ℕ → List ℕ → Writer → Writer → Writer → Writer → Answer → Type 0
-PerformsInHex (Task.Stream Canon mode) form set turns bytes out_old out_new err_old err_new r = CanonInHex mode set turns bytes out_old out_new r × (err_new ≡ err_old)
-PerformsInHex (Task.Recording Canon mode) form set turns bytes out_old out_new err_old err_new r = CanonRecordingInHex mode set turns bytes out_old out_new r × (err_new ≡ err_old)
-PerformsInHex task form set turns bytes out_old out_new err_old err_new r = RunsInMemory task form set turns bytes out_old out_new err_old err_new r
+abbrev pub PerformsInHex : Task → Bool → Form → TemplateList → ℕ → List ℕ → Writer → Writer → Writer → Writer → Answer → Type 0
+PerformsInHex (Task.Stream Canon mode) hex form set turns bytes out_old out_new err_old err_new r = CanonInHex mode set turns bytes out_old out_new r × (err_new ≡ err_old)
+PerformsInHex (Task.Recording Canon mode) hex form set turns bytes out_old out_new err_old err_new r = CanonRecordingInHex mode set turns bytes out_old out_new r × (err_new ≡ err_old)
+PerformsInHex task hex form set turns bytes out_old out_new err_old err_new r = RunsInMemory task hex form set turns bytes out_old out_new err_old err_new r
 
 -- why an input gives no bytes of hex text: it was not read whole, or is no hex, or there was no memory
 abbrev pub RefusesHex : ℕ → Reader → Reader → Refusal → Type 0
@@ -222,17 +249,18 @@ abbrev pub ReadsHex : ℕ → Reader → Reader → List ℕ → Type 0
 ReadsHex turns old new bytes = (text : List ℕ) × HasText turns old new text × (decode_of (digits_of text) ≡ Ok bytes)
 
 -- the input is no hex text, and nothing was written; or it is that of bytes, of which this was done
-abbrev pub PerformsHexText : Task → Form → TemplateList → ℕ → Reader → Reader → Writer → Writer → Writer → Writer → Answer → Type 0
-PerformsHexText task form set turns in_old in_new out_old out_new err_old err_new r =
+abbrev pub PerformsHexText : Task → Bool → Form → TemplateList → ℕ → Reader → Reader → Writer → Writer → Writer → Writer → Answer → Type 0
+PerformsHexText task hex form set turns in_old in_new out_old out_new err_old err_new r =
     (IsErrAnd r (RefusesHex turns in_old in_new) × (out_new ≡ out_old) × (err_new ≡ err_old))
-    ⊎ ((bytes : List ℕ) × ReadsHex turns in_old in_new bytes × PerformsInHex task form set turns bytes out_old out_new err_old err_new r)
+    ⊎ ((bytes : List ℕ) × ReadsHex turns in_old in_new bytes × PerformsInHex task hex form set turns bytes out_old out_new err_old err_new r)
 
 -- ---- what is asked for
 
--- a task over an input in plain bytes, or in hex text
+-- a task over an input in plain bytes, or in hex text; lines are never hex text
 abbrev pub PerformsOver : Bool → Task → Form → TemplateList → ℕ → Reader → Reader → Writer → Writer → Writer → Writer → Answer → Type 0
-PerformsOver false task form set turns in_old in_new out_old out_new err_old err_new r = RunsTask task form set turns in_old in_new out_old out_new err_old err_new r
-PerformsOver true task form set turns in_old in_new out_old out_new err_old err_new r = PerformsHexText task form set turns in_old in_new out_old out_new err_old err_new r
+PerformsOver false task form set turns in_old in_new out_old out_new err_old err_new r = RunsTask task false form set turns in_old in_new out_old out_new err_old err_new r
+PerformsOver true Task.Write form set turns in_old in_new out_old out_new err_old err_new r = RunsTask Task.Write true form set turns in_old in_new out_old out_new err_old err_new r
+PerformsOver true task form set turns in_old in_new out_old out_new err_old err_new r = PerformsHexText task true form set turns in_old in_new out_old out_new err_old err_new r
 
 -- with templates that are loaded: the input's file cannot be opened, or it was opened at its beginning
 abbrev pub PerformsWith : Asked → TemplateList → Inputs → ℕ → Writer → Writer → Writer → Writer → Answer → Type 0

@@ -2,5 +2,6 @@
 #![tactic(auto)]
 
 mod ended;
+mod lines;
 mod recording;
 pub mod serve;

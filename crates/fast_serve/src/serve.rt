@@ -6,9 +6,10 @@ ghost use Rattle.fast_template.specs.TemplateSets.{TemplateList};
 ghost use Rattle.fast_host.specs.Devices.{Writer, input_of, inputs_by, writer_by};
 ghost use Rattle.fast_host.specs.Refusals.{status_of, text_of};
 ghost use Rattle.fast_request.specs.CommandLine.{asked_by};
-ghost use Rattle.fast_serve.specs.Served.{CanonInHex, LoadsSet, Performs, PerformsAsked, PerformsHexText, PerformsInHex, PerformsOver, PerformsWith, ReadsHex, RefusesHex, RefusesTemplates, RefusesText, RunsPlain, RunsTask, Says, SaysAsked, SaysText, WritesHex, status_after};
+ghost use Rattle.fast_serve.specs.Served.{CanonInHex, LoadsSet, Performs, PerformsAsked, PerformsHexText, PerformsInHex, PerformsOver, PerformsWith, ReadsHex, RefusesHex, RefusesTemplates, RefusesText, RunsInMemory, RunsPlain, RunsTask, Says, SaysAsked, SaysText, WritesHex, status_after};
 
 use crate::ended::Ended;
+use crate::lines::run_lines;
 use crate::recording::{canon_recording_in_hex, run_recording};
 use fast_build::Load;
 use fast_canon::CanonFault;
@@ -137,7 +138,7 @@ fn run_task<I: ByteInput, O: ByteOutput, E: ByteOutput>(
     notes: &mut Notes,
 ) -> Result<Ended, Refusal>
     requires turns { turns ≤ 2 ^ 40 }
-    ensures performed { RunsTask request.entry.task request.entry.form set.now turns
+    ensures performed { RunsTask request.entry.task request.entry.hex request.entry.form set.now turns
         (reader_by I.left I.calls I.errors I.ends input.old)
         (reader_by I.left I.calls I.errors I.ends input.new)
         (writer_by O.taken O.errors O.flushes out.old) (writer_by O.taken O.errors O.flushes out.new)
@@ -168,6 +169,7 @@ fn run_task<I: ByteInput, O: ByteOutput, E: ByteOutput>(
             turns,
             notes,
         ),
+        Task::Write => run_lines(alloc, request.hex, set, input, out, turns, notes),
     }
 }
 
@@ -232,6 +234,27 @@ fn canon_in_hex<O: ByteOutput>(
     }
 }
 
+/// Does what is asked of bytes in memory.
+fn run_in_memory<O: ByteOutput, E: ByteOutput>(
+    alloc: Global,
+    request: Request<'_>,
+    set: &TemplateSet,
+    stream: &[u8],
+    out: &mut O,
+    err: &mut E,
+    turns: u64,
+    notes: &mut Notes,
+) -> Result<Ended, Refusal>
+    requires turns { turns ≤ 2 ^ 40 }
+    ensures performed { RunsInMemory request.entry.task request.entry.hex request.entry.form set.now turns stream.now
+        (writer_by O.taken O.errors O.flushes out.old) (writer_by O.taken O.errors O.flushes out.new)
+        (writer_by E.taken E.errors E.flushes err.old) (writer_by E.taken E.errors E.flushes err.new) result }
+    ensures quiet { result ≡ Ok Ended.Accepted → err.new ≡ err.old }
+{
+    let mut input = Counted::new(stream);
+    run_task(alloc, request, set, &mut input, out, err, turns, notes)
+}
+
 /// Does with bytes in memory what is asked of an input in hex text.
 fn perform_in_hex<O: ByteOutput, E: ByteOutput>(
     alloc: Global,
@@ -244,7 +267,7 @@ fn perform_in_hex<O: ByteOutput, E: ByteOutput>(
     notes: &mut Notes,
 ) -> Result<Ended, Refusal>
     requires turns { turns ≤ 2 ^ 40 }
-    ensures performed { PerformsInHex request.entry.task request.entry.form set.now turns stream.now
+    ensures performed { PerformsInHex request.entry.task request.entry.hex request.entry.form set.now turns stream.now
         (writer_by O.taken O.errors O.flushes out.old) (writer_by O.taken O.errors O.flushes out.new)
         (writer_by E.taken E.errors E.flushes err.old) (writer_by E.taken E.errors E.flushes err.new) result }
     ensures quiet { result ≡ Ok Ended.Accepted → err.new ≡ err.old }
@@ -259,9 +282,9 @@ fn perform_in_hex<O: ByteOutput, E: ByteOutput>(
             mode,
         } => canon_recording_in_hex(alloc, mode, set, stream, out, turns, notes),
         Task::Stream { .. } | Task::Recording { .. } => {
-            let mut input = Counted::new(stream);
-            run_task(alloc, request, set, &mut input, out, err, turns, notes)
+            run_in_memory(alloc, request, set, stream, out, err, turns, notes)
         }
+        Task::Write => run_in_memory(alloc, request, set, stream, out, err, turns, notes),
     }
 }
 
@@ -277,7 +300,7 @@ fn perform_hex<I: ByteInput, O: ByteOutput, E: ByteOutput>(
     notes: &mut Notes,
 ) -> Result<Ended, Refusal>
     requires turns { turns ≤ 2 ^ 40 }
-    ensures performed { PerformsHexText request.entry.task request.entry.form set.now turns
+    ensures performed { PerformsHexText request.entry.task request.entry.hex request.entry.form set.now turns
         (reader_by I.left I.calls I.errors I.ends input.old)
         (reader_by I.left I.calls I.errors I.ends input.new)
         (writer_by O.taken O.errors O.flushes out.old) (writer_by O.taken O.errors O.flushes out.new)
@@ -309,7 +332,7 @@ fn perform_over<I: ByteInput, O: ByteOutput, E: ByteOutput>(
         (writer_by E.taken E.errors E.flushes err.old) (writer_by E.taken E.errors E.flushes err.new) result }
     ensures quiet { result ≡ Ok Ended.Accepted → err.new ≡ err.old }
 {
-    if request.hex {
+    if request.hex && request.task != Task::Write {
         perform_hex(alloc, request, set, input, out, err, turns, notes)
     } else {
         run_task(alloc, request, set, input, out, err, turns, notes)
@@ -462,6 +485,7 @@ fn read_as(task: Task) -> ReadAs {
     match task {
         Task::Stream { mode, .. } => ReadAs::Stream(mode.framing),
         Task::Recording { .. } => ReadAs::Recording,
+        Task::Write => ReadAs::Lines,
     }
 }
 
