@@ -1,3 +1,11 @@
-pub mod Streams
+pub mod Canonicals
+pub mod Flushed
 pub mod Machines
+pub mod Parts
+pub mod Passings
+pub mod Relayed
+pub mod Sized
+pub mod Streams
 pub mod Takings
+pub mod Wholes
+pub mod Written

@@ -1,3 +1,9 @@
+pub mod Begins
+pub mod Calls
+pub mod Faults
 pub mod Made
 pub mod Packets
+pub mod Passing
+pub mod Recorded
 pub mod Sizes
+pub mod Told

@@ -23,7 +23,7 @@ use Rattle.fast_pass.specs.declared.stop.Stop.{Stop}
 use Rattle.fast_pass.specs.Relays.{Break, HasMade, IsOfBytes, Making, Step, Way, handing, outset}
 use Rattle.fast_packets.specs.Outcomes.{Stops}
 use Rattle.fast_recording.specs.declared.packet.Taken.{Taken as PacketTaken}
-use Rattle.fast_recording.specs.Made.{FrontOfPacket, Leads, MadeBefore, MadePacket}
+use Rattle.fast_recording.specs.Made.{FrontOfPacket, Leads, MadeBefore, MadePacket, Numbering}
 
 -- all that an output made is handed on, and it has messages of the set
 abbrev pub Rests : {O E : Type 0} {receiver : Receiving O} {entries : Ghosts E} → (O → List ℕ) → Machine O E receiver entries → Type 0
@@ -105,3 +105,15 @@ TakesPacket sized makes level set taken_old taken_new bytes cut (Ok taken) =
 TakesPacket sized makes level set taken_old taken_new bytes cut (Err s) =
     (ms : List Content) × (out : List ℕ) × Appends taken_old taken_new out × Carried (plainly level) set bytes ms
     × FrontOfPacket sized makes set ms out
+
+-- ---- a packet with a number
+
+-- A packet was read and written, with its number in it, or a front of what is made of messages of it.
+abbrev pub TakesNumbered : Numbering → Bool → Making → Level → List Resolved → ℕ → Option (List ℕ) → Option (List ℕ) → List ℕ → Option Cause → Result PacketTaken Stop → Type 0
+TakesNumbered numbering sized makes level set number taken_old taken_new bytes cut (Ok taken) =
+    (ms : List Content) × (text : List ℕ) × Appends taken_old taken_new (numbering number text)
+    × (taken.written ≡ counted_by 0 (length (numbering number text)))
+    × (taken.messages ≡ length ms) × CameOf sized makes level set bytes cut ms text taken.fault
+TakesNumbered numbering sized makes level set number taken_old taken_new bytes cut (Err s) =
+    (ms : List Content) × (out : List ℕ) × Appends taken_old taken_new out × Carried (plainly level) set bytes ms
+    × ((out ≡ []) ⊎ ((text : List ℕ) × (rest : List ℕ) × MadePacket sized makes set ms text × (out ++ rest ≡ numbering number text)))
