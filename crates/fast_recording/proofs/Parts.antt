@@ -14,22 +14,21 @@ use Rattle.fast_stream.specs.Modes.{Carries, plainly}
 use Rattle.fast_stream.specs.Nodes.{Content}
 use Rattle.fast_machine.proofs.Followings.{all_carried, few_messages}
 use Rattle.fast_pass.specs.Relays.{Making}
-use Rattle.fast_pass.specs.declared.stop.Stop.{Stop}
 use Rattle.fast_packets.proofs.Sizes.{size_some}
 use Rattle.fast_packets.specs.Outcomes.{CutPacket, Outcome, Outcomes, PacketSizeFault, Stops, accepted, placed_behind, refusal_in, refused, size_place, sizeless}
-use Rattle.fast_recording.specs.Begins.{IsPartAt}
-use Rattle.fast_recording.specs.Faults.{EndsInSizeBy, Refuses, Settles, count_more, counts_refused, counts_taken, fault_at, next_fault}
+use Rattle.fast_recording.specs.Begins.{IsOpenAt, IsPartAt}
+use Rattle.fast_recording.specs.Faults.{EndsInSizeBy, OfDevice, Refuses, Settles, count_more, counted_behind, counts_refused, counts_taken, fault_at, next_fault, write_errors}
 use Rattle.fast_recording.specs.Made.{MadeBefore, Numbering, Writing, WritesMade}
-use Rattle.fast_recording.specs.Packets.{FaultOf, IsMissing, TakesNumbered}
+use Rattle.fast_recording.specs.Packets.{BreaksNumbered, CameOf, FaultOf, IsMissing}
 use Rattle.fast_recording.specs.Passing.{AreFew, Ends, EndsBy, IsEnd, Passes, by_bytes, by_cause}
-use Rattle.fast_recording.specs.Recorded.{EndsInSize, Grows, HasCome, Outputs, RecordsAll, RecordsBefore, RecordsCut, RecordsFront, Why, messages_of, read_of, summary_of}
+use Rattle.fast_recording.specs.Recorded.{EndsInSize, Grows, HasCome, Outputs, RecordsAll, RecordsBefore, RecordsCut, RecordsFront, Why, messages_of, outputs, read_of, summary_of}
 use Rattle.fast_recording.specs.Told.{line_for, told_from}
 use Rattle.fast_recording.specs.declared.fault.PacketFault.{PacketFault}
 use Rattle.fast_recording.specs.declared.halt.Halt.{Halt}
 use Rattle.fast_recording.specs.declared.packet.Taken.{Taken as PacketTaken}
 use Rattle.fast_recording.specs.declared.summary.RecordingSummary.{RecordingSummary}
 use Rattle.fast_recording.proofs.Passings.{all_read, few, messages_more, refused_few, refused_more, stops_few, told_one, written_one}
-use Rattle.fast_recording.proofs.Relayed.{breaks, breaks_telling, counts_more, cuts_off, record_on, same_summary, stops_before, stops_told}
+use Rattle.fast_recording.proofs.Relayed.{breaks, breaks_telling, counts_more, cuts_off, record_on, same_summary, stops_before, stops_between, stops_told}
 use Rattle.fast_recording.proofs.Wholes.{begin_is, faulty_within, front_written, next_number, packets_are, read_is, same_fault}
 
 -- a device's cause is none of bytes
@@ -37,6 +36,24 @@ of_device : (cause c : Cause) → IsEnd cause → c ≢ Cause.Truncated → c �
 of_device cause c (inl e) t r u same = t (same ∙ e)
 of_device cause c (inr (inl e)) t r u same = r (same ∙ e)
 of_device cause c (inr (inr e)) t r u same = u (same ∙ e)
+
+abbrev pub record_of : ℕ → Cause → Place → PacketFault
+record_of n cause place = record { packet = n; fault = record { cause = cause; place = place } }
+
+-- a fault that is placed as it is counted
+pub placed_fault : (n k begin from : ℕ) (place : Place) (cause : Cause) (f : Fault) → n ≡ k → begin ≡ from → place ≡ counted_behind begin f.place → cause ≡ f.cause → record_of n cause place ≡ fault_at k from f
+placed_fault n k begin from place cause f e g h i = rw (h, e, g, i) refl
+
+-- a packet that is not whole is refused
+pub fault_in : (sized : Bool) (makes : Making) (level : Level) (set : List Resolved) (bytes : List ℕ) (cause : Cause) (ms : List Content) (out : List ℕ) (fault : Option Fault) → CameOf sized makes level set bytes (Some cause) ms out fault
+    → (f : Fault) × (fault ≡ Some f) × MadeBefore sized makes set ms out × FaultOf level set bytes (Some cause) ms f
+fault_in sized makes level set bytes cause ms out None h = absurd cc
+fault_in sized makes level set bytes cause ms out (Some f) h = (f, refl, h.0, h.1)
+
+-- for other reasons than a device's
+pub not_device : (fault : Option Fault) (cause : Cause) (f : Fault) → fault ≡ Some f → OfDevice fault cause None → (cause ≡ Cause.Truncated) ⊎ (f.cause ≢ cause)
+not_device fault cause f is (inl e) = inl e
+not_device fault cause f is (inr h) = inr (h f is)
 
 module _ (goes_on : Bool) (level : Level) (set : List Resolved) (Writes : Writing) where
   -- ---- told, where the run goes on
@@ -136,8 +153,8 @@ module _ (goes_on : Bool) (level : Level) (set : List Resolved) (numbering : Num
     some_bytes = omega (arith, long, size_some level (take behind bytes) is.room is.size_is, size_long)
 
     -- a write failed in it, or memory was refused
-    pub part_broke : (s : Stop) → TakesNumbered numbering sized makes level set (length p.outcomes + 1) now.taken later.taken (drop behind bytes) (Some cause) (Err s) → later.told ≡ now.told → RecordsFront goes_on level set W old later (front ++ bytes)
-    part_broke s t same =
+    pub part_broke : BreaksNumbered numbering sized makes level set (length p.outcomes + 1) now.taken later.taken (drop behind bytes) → later.told ≡ now.told → RecordsFront goes_on level set W old later (front ++ bytes)
+    part_broke t same =
         breaks goes_on level set W bytes t.1 t.0 p
         (inr (record {
           size = take behind bytes;
@@ -275,3 +292,36 @@ module _ (goes_on : Bool) (level : Level) (set : List Resolved) (Writes : Writin
       let last = sizeless (size_place (length front)) Cause.Truncated in
       cuts_off goes_on level set Writes (by_cause cause) bytes [] (last ∷ []) (next_fault before cause) p (some, faulty, refl, refl) (written_one Writes last (length p.outcomes + 1) [] (nothing (length p.outcomes + 1) (size_place (length front)) Cause.Truncated))
       (Appends-nil now.taken) refl (next_number p bound) (rw (read_is p) (refl, refl)) (refl, other)
+
+  -- no more bytes come behind these of a size, or behind a packet
+  module _ (before after : RecordingSummary) (old : Outputs) (taken told_old told_new : Option (List ℕ)) (front bytes : List ℕ) (cause : Cause) (p : Passes goes_on level set Writes before old (outputs taken told_old) front) (bound : length front ≤ 2 ^ 60) where
+    device_cut : (bytes : List ℕ) → cause ≢ Cause.Truncated → IsOpenAt level bytes None → RecordsCut (by_cause cause) goes_on level set Writes old (outputs taken told_old) (front ++ bytes) (next_fault before cause)
+    device_cut bytes other (inl none) = rw (none) (device_between before old (outputs taken told_old) front cause p bound other)
+    device_cut bytes other (inr h) = device_in_size before old (outputs taken told_old) front bytes cause p bound h.0 h.1 other
+
+    size_fault_of : cause ≡ Cause.Truncated → 0 < length bytes → IsOpenAt level bytes None → PacketSizeFault level bytes cause
+    size_fault_of e some (inl none) = absurd (omega (arith, some, ap (λ (z : List ℕ). length z) none))
+    size_fault_of e some (inr h) = rw (e) h.1
+
+    size_settled : cause ≡ Cause.Truncated → 0 < length bytes → IsOpenAt level bytes None → after ≡ counts_refused before → (result : Result (Option PacketFault) Halt)
+        → Refuses goes_on (record { packet = after.packets; fault = record { cause = cause; place = size_place before.read } }) told_old told_new result → Ends cause goes_on level set Writes after old (outputs taken told_new) (front ++ bytes) result
+    size_settled e some unread counts (Ok None) r = size_told before after old (outputs taken told_old) (outputs taken told_new) front bytes cause p bound some (size_fault_of e some unread) counts refl (by_cause cause) (inl e) r
+    size_settled e some unread counts (Ok (Some g)) r = inl (size_answered before after old (outputs taken told_old) (outputs taken told_new) front bytes cause p bound some (size_fault_of e some unread) counts refl (by_cause cause) g (λ x. e) r)
+    size_settled e some unread counts (Err h) r = size_untold before after old (outputs taken told_old) (outputs taken told_new) front bytes cause p bound some (size_fault_of e some unread) counts refl h r
+
+    pub size_ends : IsOpenAt level bytes None → (result : Result (Option PacketFault) Halt) → EndsInSizeBy goes_on before after told_old told_new bytes cause result → Ends cause goes_on level set Writes after old (outputs taken told_new) (front ++ bytes) result
+    size_ends unread result (inl h) = rw (h.1, h.3) (inr (device_cut bytes h.0 unread))
+    size_ends unread result (inr (inl h)) = rw (h.2, h.3, h.4, h.1) (stops_between goes_on level set Writes (by_cause cause) p h.0)
+    size_ends unread result (inr (inr h)) = size_settled h.0 h.1 unread h.2 result h.3
+
+-- it is not the writer that fails there
+refuses_writes : (goes_on : Bool) (f : PacketFault) (old new : Option (List ℕ)) (n : ℕ) (result : Result (Option PacketFault) Halt) → Refuses goes_on f old new result → n ≡ write_errors result n
+refuses_writes goes_on f old new n (Ok r) h = refl
+refuses_writes goes_on f old new n (Err Halt.Write) h = absurd (h.1 refl)
+refuses_writes goes_on f old new n (Err Halt.Tell) h = refl
+refuses_writes goes_on f old new n (Err Halt.Memory) h = refl
+
+pub size_writes : (goes_on : Bool) (before after : RecordingSummary) (old new : Option (List ℕ)) (bytes : List ℕ) (cause : Cause) (n : ℕ) (result : Result (Option PacketFault) Halt) → EndsInSizeBy goes_on before after old new bytes cause result → n ≡ write_errors result n
+size_writes goes_on before after old new bytes cause n result (inl h) = rw (h.1) refl
+size_writes goes_on before after old new bytes cause n result (inr (inl h)) = rw (h.2) refl
+size_writes goes_on before after old new bytes cause n result (inr (inr h)) = refuses_writes goes_on _ old new n result h.3

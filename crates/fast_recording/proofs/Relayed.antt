@@ -1,5 +1,5 @@
 -- Lemmas on a recording on its way: one packet more, and how a run ends.
-use Rattle.std.proofs.Common.{Bool, true, false, List, ℕ, [], ◌∷◌, ◌++◌, ◌+◌, ◌≤◌, ◌≡◌, ◌≢◌, ◌⊎◌, inl, inr, Option, Some, None, length, map, refl, sym, ap, subst, ◌∙◌, arith, append-nil, append_assoc, length-append}
+use Rattle.std.proofs.Common.{Bool, true, false, List, ℕ, [], ◌∷◌, ◌++◌, ◌+◌, ◌≤◌, ◌^◌, ◌≡◌, ◌≢◌, ◌⊎◌, inl, inr, Option, Some, None, length, map, refl, sym, ap, subst, ◌∙◌, arith, append-nil, append_assoc, length-append}
 use Rattle.std.specs.Io.KnownBytes.{Appends}
 use Rattle.fast_io.proofs.Outputs.{Appends-nil, Appends-trans}
 use Rattle.fast_io.specs.Counts.{counted_by}
@@ -13,7 +13,7 @@ use Rattle.fast_stream.specs.Nodes.{Content}
 use Rattle.fast_packets.specs.Outcomes.{Outcome, Outcomes, accepted, refusal_in, refused, sizeless}
 use Rattle.fast_recording.specs.Told.{line_for, told_from}
 use Rattle.fast_recording.specs.Made.{FrontWritten, Writing, WrittenOf}
-use Rattle.fast_recording.specs.Faults.{counts_taken}
+use Rattle.fast_recording.specs.Faults.{count_refused, counts_taken}
 use Rattle.fast_recording.specs.Recorded.{EndsInSize, Grows, HasAccepted, HasCome, IsCutAt, Outputs, Recorded, RecordsAll, RecordsBefore, RecordsCut, RecordsFront, Why, count_refusal, messages_in, messages_of, read_of, refused_in, summary_of}
 use Rattle.fast_recording.specs.Passing.{AreFew, Passes, Settled, SettledOne}
 use Rattle.fast_recording.specs.declared.fault.PacketFault.{PacketFault}
@@ -38,9 +38,9 @@ pub same_summary : (p p' r r' m m' b b' w w' : ℕ) → p ≡ p' → r ≡ r' �
 same_summary p p' r r' m m' b b' w w' e f g h i = rw (e, f, g, h, i) refl
 
 
-count_few : (o : Option Fault) → count_refusal o ≤ 1
-count_few None = omega arith
-count_few (Some f) = omega arith
+counted_refusal : (n : ℕ) (o : Option Fault) → n ≤ 2 ^ 60 → count_refused n o ≡ n + count_refusal o
+counted_refusal n None few = omega arith
+counted_refusal n (Some f) few = omega (arith, few)
 
 module _ (goes_on : Bool) (level : Level) (set : List Resolved) where
   -- what is counted behind one packet more
@@ -53,14 +53,13 @@ module _ (goes_on : Bool) (level : Level) (set : List Resolved) where
       let ms = messages_more os (o ∷ []) in
       let rs = refused_more os (o ∷ []) in
       let less = refused_few os in
-      let at_most = count_few (refusal_in o) in
       let long = length-append front bytes in
       let wide = length-append out more in
       let before : read_of (length front) os ≡ length front = ap (λ (xs : List Outcome). read_of (length front) xs) (sym (append-nil os)) ∙ all_read goes_on level set os [] (length front) 0 front h in
       let behind : read_of (length (front ++ bytes)) (os ++ o ∷ []) ≡ length (front ++ bytes) = all_read goes_on level set os (o ∷ []) (length (front ++ bytes)) 0 front h ∙ whole (length (front ++ bytes)) in
       same_summary _ _ _ _ _ _ _ _ _ _
       (omega (arith, bound, few_os.0, count, some))
-      (omega (arith, bound, few_os.0, rs, less, faults, at_most, some))
+      (counted_refusal (refused_in os) taken.fault (omega (arith, bound, few_os.0, less)) ∙ omega (arith, rs, faults))
       (omega (arith, bound, few_os.1, small, ms, messages))
       (omega (arith, bound, before, behind, long))
       (omega (arith, written, wide))

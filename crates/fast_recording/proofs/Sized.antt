@@ -7,7 +7,7 @@ use Rattle.fast_wire.specs.declared.level.Level.{Level}
 use Rattle.fast_stream.specs.declared.fault.Cause.{Cause}
 use Rattle.fast_stream.specs.Blocks.{IsSize, size_at}
 use Rattle.fast_stream.proofs.BlockSizes.{size_found, size_refused}
-use Rattle.fast_packets.specs.Recordings.{packet_limit}
+use Rattle.fast_packets.specs.Recordings.{Packet, packet_limit}
 use Rattle.fast_packets.specs.Outcomes.{PacketSizeFault}
 use Rattle.fast_packets.proofs.Parts.{fronts}
 use Rattle.fast_recording.specs.Begins.{IsOpenAt, IsPacketAt, IsPartAt}
@@ -38,8 +38,8 @@ module _ (level : Level) (bytes : List ℕ) (room behind : ℕ) (fits : IsBytes 
   pub part_at : room ≤ packet_limit → length bytes - behind < room → IsPartAt level bytes behind
   part_at few short = record { room = room; within = within; size_is = size_is; few = few; short = let rest = length-drop behind bytes in omega (arith, rest, short) }
 
-  pub packet_at : 0 < room → room ≤ packet_limit → room ≤ length bytes - behind → IsPacketAt level (take (behind + room) bytes) behind
-  packet_at some few enough =
+  packet_found : 0 < room → room ≤ packet_limit → room ≤ length bytes - behind → (q : Packet level (take (behind + room) bytes) (drop behind (take (behind + room) bytes))) × (length q.size ≡ behind)
+  packet_found some few enough =
       let front = take behind bytes in
       let stream = take room (drop behind bytes) in
       let parts : take (behind + room) bytes ≡ front ++ stream = take-add behind room bytes in
@@ -47,7 +47,11 @@ module _ (level : Level) (bytes : List ℕ) (room behind : ℕ) (fits : IsBytes 
       let stream_is : drop behind (take (behind + room) bytes) ≡ stream = ap (λ (z : List ℕ). drop behind z) parts ∙ seam in
       let rest = length-drop behind bytes in
       let long : length stream ≡ room = length-take room (drop behind bytes) ∙ omega (arith, rest, enough) in
-      record {
-        packet = rw (stream_is) (record { size = front; parts = parts; size_is = rw (long) size_is; some = omega (arith, some, long); few = omega (arith, few, long) });
-        size_is = size_long;
-      }
+      let p : Packet level (take (behind + room) bytes) stream = record { size = front; parts = parts; size_is = rw (long) size_is; some = omega (arith, some, long); few = omega (arith, few, long) } in
+      as_packet (drop behind (take (behind + room) bytes)) stream (sym stream_is) p size_long
+    where
+      as_packet : (s t : List ℕ) → t ≡ s → (p : Packet level (take (behind + room) bytes) t) → length p.size ≡ behind → (q : Packet level (take (behind + room) bytes) s) × (length q.size ≡ behind)
+      as_packet s t e p size = (record { size = p.size; parts = p.parts ∙ ap (λ (z : List ℕ). p.size ++ z) e; size_is = rw (sym e) p.size_is; some = rw (sym e) p.some; few = rw (sym e) p.few }, size)
+
+  pub packet_at : 0 < room → room ≤ packet_limit → room ≤ length bytes - behind → IsPacketAt level (take (behind + room) bytes) behind
+  packet_at some few enough = let found = packet_found some few enough in record { packet = found.0; size_is = found.1 }

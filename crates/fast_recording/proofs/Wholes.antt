@@ -18,7 +18,7 @@ use Rattle.fast_packets.specs.Outcomes.{CutPacket, Outcome, Outcomes, RefusesPac
 use Rattle.fast_recording.specs.Begins.{IsPacketAt, IsPartAt}
 use Rattle.fast_recording.specs.Faults.{Refuses, Settles, count_more, counts_taken, fault_at}
 use Rattle.fast_recording.specs.Made.{FrontWritten, MadeBefore, MadePacket, Numbering, Writing, WritesMade}
-use Rattle.fast_recording.specs.Packets.{FaultOf, IsMissing, TakesNumbered}
+use Rattle.fast_recording.specs.Packets.{BreaksNumbered, FaultOf, IsMissing, TakesNumbered}
 use Rattle.fast_recording.specs.Passing.{After, AreFew, Ends, EndsBy, IsEnd, Passes, SettledOne, by_bytes, by_cause}
 use Rattle.fast_recording.specs.Recorded.{Grows, HasCome, Outputs, RecordsFront, read_of}
 use Rattle.fast_recording.specs.Told.{refused_line_of}
@@ -61,6 +61,18 @@ faulty_within level set stream (Some cause) ms f (inr h) = missing h.1
     missing : IsMissing level set stream ms f.place → f.place.offset ≤ length stream
     missing (inl s) = within level set stream ms f.place Cause.Truncated s
     missing (inr s) = let at = ap (λ (q : Place). q.offset) s.1 in omega (arith, at)
+
+-- of the same set, with the same number and bytes
+module _ (numbering : Numbering) (sized : Bool) (makes : Making) (level : Level) (t u : Option (List ℕ)) (templates set : List Resolved) (number k : ℕ) (stream s : List ℕ) (e : templates ≡ set) (f : number ≡ k) (g : stream ≡ s) where
+  pub takes_as : (cut : Option Cause) (r : Result PacketTaken Stop) → TakesNumbered numbering sized makes level templates number t u stream cut r → TakesNumbered numbering sized makes level set k t u s cut r
+  takes_as cut r h =
+      subst (λ (x : List Resolved). TakesNumbered numbering sized makes level x k t u s cut r) e
+      (subst (λ (x : ℕ). TakesNumbered numbering sized makes level templates x t u s cut r) f (subst (λ (x : List ℕ). TakesNumbered numbering sized makes level templates number t u x cut r) g h))
+
+  pub breaks_as : BreaksNumbered numbering sized makes level templates number t u stream → BreaksNumbered numbering sized makes level set k t u s
+  breaks_as h =
+      subst (λ (x : List Resolved). BreaksNumbered numbering sized makes level x k t u s) e
+      (subst (λ (x : ℕ). BreaksNumbered numbering sized makes level templates x t u s) f (subst (λ (x : List ℕ). BreaksNumbered numbering sized makes level templates number t u x) g h))
 
 module _ (goes_on : Bool) (level : Level) (set : List Resolved) (numbering : Numbering) (sized : Bool) (makes : Making) where
   abbrev pub W : Writing
@@ -134,8 +146,8 @@ module _ (goes_on : Bool) (level : Level) (set : List Resolved) (numbering : Num
         refused_whole taken result t.0 t.1 f came.0 came.1 t.2 t.4 t.3 is_fault counts (rw (same_refusal t.0 f came.1 number) at s)
 
     -- a write failed in it, or memory was refused
-    pub whole_broke : (s : Stop) → TakesNumbered numbering sized makes level set (length p.outcomes + 1) now.taken later.taken (drop behind bytes) None (Err s) → later.told ≡ now.told → RecordsFront goes_on level set W old later (front ++ (bytes ++ more))
-    whole_broke s t same =
+    pub whole_broke : BreaksNumbered numbering sized makes level set (length p.outcomes + 1) now.taken later.taken (drop behind bytes) → later.told ≡ now.told → RecordsFront goes_on level set W old later (front ++ (bytes ++ more))
+    whole_broke t same =
         breaks goes_on level set W (bytes ++ more) t.1 t.0 p
         (inr (record {
           size = is.packet.size;

@@ -27,5 +27,5 @@ IsOpenAt level bytes (Some behind) = IsPartAt level bytes behind
 
 abbrev pub Begins : Level → List ℕ → Begin → Type 0
 Begins level bytes (Begin.Whole behind end) = (behind ≤ end) × (end ≤ length bytes) × IsPacketAt level (take end bytes) behind
-Begins level bytes (Begin.Sizeless cause) = (0 < length bytes) × PacketSizeFault level bytes cause × (cause ≢ Cause.Truncated)
+Begins level bytes (Begin.Sizeless cause) = PacketSizeFault level bytes cause × (cause ≢ Cause.Truncated)
 Begins level bytes (Begin.Open behind) = IsOpenAt level bytes behind

@@ -13,7 +13,6 @@ use Rattle.fast_recording.specs.declared.fault.RecordingFault.{RecordingFault}
 use Rattle.fast_recording.specs.declared.halt.Halt.{Halt}
 use Rattle.fast_recording.specs.declared.packet.Taken.{Taken as PacketTaken}
 use Rattle.fast_recording.specs.declared.summary.RecordingSummary.{RecordingSummary}
-use Rattle.fast_recording.specs.Recorded.{count_refusal}
 use Rattle.fast_recording.specs.Told.{refused_line_of}
 
 abbrev pub halt_of : Stop → Halt
@@ -47,11 +46,16 @@ count_more n k = min (n + k) 18446744073709551615
 abbrev pub counts_refused : RecordingSummary → RecordingSummary
 counts_refused c = record { packets = count_more c.packets 1; refused = count_more c.refused 1; messages = c.messages; read = c.read; written = c.written }
 
+-- one more is refused, where it is a fault
+abbrev pub count_refused : ℕ → Option Fault → ℕ
+count_refused n None = n
+count_refused n (Some fault) = count_more n 1
+
 -- what came of a packet of so many bytes, its size among them
 abbrev pub counts_taken : RecordingSummary → PacketTaken → ℕ → RecordingSummary
 counts_taken c taken size = record {
   packets = count_more c.packets 1;
-  refused = count_more c.refused (count_refusal taken.fault);
+  refused = count_refused c.refused taken.fault;
   messages = count_more c.messages taken.messages;
   read = count_more c.read size;
   written = count_more c.written taken.written;

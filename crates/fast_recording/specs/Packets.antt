@@ -108,12 +108,16 @@ TakesPacket sized makes level set taken_old taken_new bytes cut (Err s) =
 
 -- ---- a packet with a number
 
--- A packet was read and written, with its number in it, or a front of what is made of messages of it.
+-- a front was written of what is made of messages of it, with its number in it
+abbrev pub BreaksNumbered : Numbering → Bool → Making → Level → List Resolved → ℕ → Option (List ℕ) → Option (List ℕ) → List ℕ → Type 0
+BreaksNumbered numbering sized makes level set number taken_old taken_new bytes =
+    (ms : List Content) × (out : List ℕ) × Appends taken_old taken_new out × Carried (plainly level) set bytes ms
+    × ((out ≡ []) ⊎ ((text : List ℕ) × (rest : List ℕ) × MadePacket sized makes set ms text × (out ++ rest ≡ numbering number text)))
+
+-- a packet was read and written, with its number in it
 abbrev pub TakesNumbered : Numbering → Bool → Making → Level → List Resolved → ℕ → Option (List ℕ) → Option (List ℕ) → List ℕ → Option Cause → Result PacketTaken Stop → Type 0
 TakesNumbered numbering sized makes level set number taken_old taken_new bytes cut (Ok taken) =
     (ms : List Content) × (text : List ℕ) × Appends taken_old taken_new (numbering number text)
     × (taken.written ≡ counted_by 0 (length (numbering number text)))
     × (taken.messages ≡ length ms) × CameOf sized makes level set bytes cut ms text taken.fault
-TakesNumbered numbering sized makes level set number taken_old taken_new bytes cut (Err s) =
-    (ms : List Content) × (out : List ℕ) × Appends taken_old taken_new out × Carried (plainly level) set bytes ms
-    × ((out ≡ []) ⊎ ((text : List ℕ) × (rest : List ℕ) × MadePacket sized makes set ms text × (out ++ rest ≡ numbering number text)))
+TakesNumbered numbering sized makes level set number taken_old taken_new bytes cut (Err s) = BreaksNumbered numbering sized makes level set number taken_old taken_new bytes

@@ -23,8 +23,10 @@ pub(crate) fn next_packet(level: Level, bytes: &[u8]) -> Begin
     ensures { Begins level bytes.now result }
 {
     match read_packet_size(level, bytes) {
-        Err(Cause::Truncated) => Begin::Open(None),
-        Err(cause) => Begin::Sizeless(cause),
+        Err(cause) => match cause {
+            Cause::Truncated => Begin::Open(None),
+            _ => Begin::Sizeless(cause),
+        },
         Ok((room, behind)) => {
             if bytes.len() - behind < room {
                 Begin::Open(Some(behind))

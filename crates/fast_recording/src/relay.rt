@@ -224,19 +224,23 @@ fn end_in_packet<O: PacketOutput, W: ByteOutput, T: ByteOutput, E: Entries>(
     let come = &bytes[behind..];
     let buffer = &mut progress.buffer;
     let taken = take_numbered(machine, alloc, manner, number, come, Some(cause), buffer, writer)?;
-    if let Some(fault) = fault_of_device(taken.fault, cause) {
-        let place = place_behind(begin, fault.place);
-        return Ok(Some(PacketFault {
-            packet: number,
-            fault: Fault { cause, place },
-        }));
+    match fault_of_device(taken.fault, cause) {
+        Some(fault) => {
+            let place = place_behind(begin, fault.place);
+            Ok(Some(PacketFault {
+                packet: number,
+                fault: Fault { cause, place },
+            }))
+        }
+        None => match settle(manner.keep_going, taken, behind, bytes.len(), progress, teller)? {
+            Some(refused) => Ok(Some(refused)),
+            None => match cause {
+                Cause::Truncated => Ok(None),
+                // (the next packet would begin behind what was read)
+                _ => Ok(Some(next_refused(progress, cause))),
+            },
+        },
     }
-    let refused = settle(manner.keep_going, taken, behind, bytes.len(), progress, teller)?;
-    if refused.is_some() || cause == Cause::Truncated {
-        return Ok(refused);
-    }
-    // (the next packet would begin behind what was read)
-    Ok(Some(next_refused(progress, cause)))
 }
 
 // No more bytes come, for this cause, of a packet that is not whole.
@@ -314,24 +318,24 @@ fn relay<O: PacketOutput, R: ByteInput, W: ByteOutput, T: ByteOutput, E: Entries
 {
     // (a packet that is not whole, and what one read gave)
     let mut held = Vec::new(alloc);
-    let mut open = None;
+    let mut unread = None;
     let mut chunk = [0u8; CHUNK];
     let mut reads = 0;
     'reads: while reads < turns {
         reads += 1;
         if let Some(cause) = read_more(reader, &mut chunk, &mut held)? {
-            return end(machine, alloc, manner, progress, &held, open, cause, writer, teller);
+            return end(machine, alloc, manner, progress, &held, unread, cause, writer, teller);
         }
         match take_packets(machine, alloc, manner, progress, &held, writer, teller)? {
             Came::Open(at, behind) => {
-                open = behind;
+                unread = behind;
                 drop(held.drain(..at));
             }
             Came::End => return Ok(None),
             Came::Refused(refused) => return Ok(Some(refused)),
         }
     }
-    end(machine, alloc, manner, progress, &held, open, Cause::Turns, writer, teller)
+    end(machine, alloc, manner, progress, &held, unread, Cause::Turns, writer, teller)
 }
 
 // Passes a recording through a machine that has read nothing, and flushes the writer where the relay went to an end or a
