@@ -1,3 +1,4 @@
 pub mod Streams
 pub mod Machines
 pub mod Takings
+pub mod Labels
