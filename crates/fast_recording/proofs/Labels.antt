@@ -1,12 +1,14 @@
 -- Labels in lines that are written piece by piece.
-use Rattle.std.proofs.Common.{◌≡◌, ℕ, zero, suc, ◌+◌, ◌-◌, ◌<◌, ◌≤◌, ◌==◌, Bool, true, false, List, [], ◌∷◌, ◌++◌, length, take, drop, slice_index, get_or, Option, None, Some, Result, Ok, Err, OnOk, OnErr, ap, sym, refl, ◌∙◌, subst, arith, append_assoc, append-nil, take-append-drop, true≢false}
-use Rattle.std.proofs.lemmas.List.{nil_from_length, take_more}
+use Rattle.std.proofs.Common.{◌≡◌, ℕ, zero, suc, ◌+◌, ◌-◌, ◌<◌, ◌≤◌, ◌==◌, Bool, true, false, List, [], ◌∷◌, ◌++◌, length, length-append, take, drop, slice_index, get_or, Option, None, Some, Result, Ok, Err, OnOk, OnErr, ap, sym, refl, min, add_assoc, add-zero, ◌∙◌, subst, arith, append_assoc, append-nil, take-append-drop}
+use Rattle.std.proofs.lemmas.List.{length-take-le, nil_from_length, take_more}
 use native.Mathlib.Numerals.{unary_clauses}
 use Rattle.std.specs.Io.KnownBytes.{Appends}
+use Rattle.fast_io.specs.Counts.{counted_by}
 use Rattle.fast_io.specs.Traffic.{Taken}
 use Rattle.fast_io.proofs.Outputs.{Appends-nil, Appends-trans}
 use Rattle.memchr.specs.Find.{IsFirstByte, is_byte}
-use Rattle.fast_recording.specs.PacketLines.{IsPiece, LeadsOn, labelled, numbered, packet_label}
+use Rattle.fast_recording.specs.PacketLines.{IsPiece, LeadsOn, Writes, labelled, numbered, packet_label, written_by}
+use Rattle.fast_recording.specs.declared.packet_lines.PacketLines.{PacketLines}
 
 -- ---- answers of one kind
 
@@ -113,57 +115,26 @@ pub piece_leads_on : (bytes : List ℕ) (n : ℕ) (label : List ℕ) (begins : B
 piece_leads_on bytes n label begins is piece more =
     rw is (piece.stays label more ∙ ap (λ (xs : List ℕ). xs ++ labelled label (slice_index bytes (n - 1) == 10) more) (sym (piece_stays bytes n label false refl piece)))
 
--- ---- pieces one behind the other
-
--- a front of the bytes is written, and what is written of the rest leads on
-pub record IsOnWay (before behind : List ℕ → List ℕ) (a b : Option (List ℕ)) (bytes rest : List ℕ) : Type 0 where
-  pub front : List ℕ
-  pub parts : bytes ≡ front ++ rest
-  pub written : Appends a b (before front)
-  pub leads_on : LeadsOn before behind front
-
-pub none_on_way : (label : List ℕ) (begins : Bool) (a : Option (List ℕ)) (bytes : List ℕ) → IsOnWay (labelled label begins) (labelled label begins) a a bytes bytes
-none_on_way label begins a bytes = record { front = []; parts = refl; written = Appends-nil a; leads_on = λ more. refl }
-
-pub piece_on_way : (before at behind : List ℕ → List ℕ) (a b c : Option (List ℕ)) (bytes rest : List ℕ) (n : ℕ) → IsOnWay before at a b bytes rest → Appends b c (at (take n rest)) → LeadsOn at behind (take n rest)
-    → IsOnWay before behind a c bytes (drop n rest)
-piece_on_way before at behind a b c bytes rest n w p leads = record {
-  front = w.front ++ take n rest;
-  parts = w.parts ∙ ap (λ (xs : List ℕ). w.front ++ xs) (sym (take-append-drop n rest)) ∙ sym (append_assoc w.front (take n rest) (drop n rest));
-  written = rw (w.leads_on (take n rest)) (Appends-trans a b c (before w.front) (at (take n rest)) w.written p);
-  leads_on = λ more.
-      ap before (append_assoc w.front (take n rest) more)
-      ∙ w.leads_on (take n rest ++ more)
-      ∙ ap (λ (xs : List ℕ). before w.front ++ xs) (leads more)
-      ∙ sym (append_assoc (before w.front) (at (take n rest)) (behind more))
-      ∙ ap (λ (xs : List ℕ). xs ++ behind more) (sym (w.leads_on (take n rest)));
-}
-
--- a write that failed wrote a front of all
-pub part_on_way : (before at : List ℕ → List ℕ) (a b c : Option (List ℕ)) (bytes rest : List ℕ) → IsOnWay before at a b bytes rest → Some_Taken b c (at rest) → Some_Taken a c (before bytes)
-part_on_way before at a b c bytes rest w t = rw (w.parts, w.leads_on rest) (taken_behind a b c (before w.front) (at rest) w.written t)
-
-all_front : (front rest bytes : List ℕ) → bytes ≡ front ++ rest → rest ≡ [] → front ≡ bytes
-all_front front rest bytes parts empty = sym (append-nil front) ∙ ap (λ (xs : List ℕ). front ++ xs) (sym empty) ∙ sym parts
-
-pub all_on_way : (before behind : List ℕ → List ℕ) (a b : Option (List ℕ)) (bytes rest : List ℕ) → IsOnWay before behind a b bytes rest → rest ≡ [] → Appends a b (before bytes) × LeadsOn before behind bytes
-all_on_way before behind a b bytes rest w empty =
-    let whole = all_front w.front rest bytes w.parts empty in
-    (subst (λ (xs : List ℕ). Appends a b (before xs)) whole w.written, subst (λ (xs : List ℕ). LeadsOn before behind xs) whole w.leads_on)
-
 -- ---- no label
 
 pub labelled_by_empty : (label : List ℕ) (begins : Bool) (bytes : List ℕ) → length label ≡ 0 → labelled label begins bytes ≡ bytes
 labelled_by_empty label begins bytes empty = ap (λ (xs : List ℕ). labelled xs begins bytes) (nil_from_length label empty) ∙ labelled_by_none begins bytes
 
-pub leads_on_by_empty : (label : List ℕ) (begins : Bool) (bytes : List ℕ) → length label ≡ 0 → LeadsOn (labelled label begins) (labelled label begins) bytes
+leads_on_by_empty : (label : List ℕ) (begins : Bool) (bytes : List ℕ) → length label ≡ 0 → LeadsOn (labelled label begins) (labelled label begins) bytes
 leads_on_by_empty label begins bytes empty more =
     labelled_by_empty label begins (bytes ++ more) empty
     ∙ ap (λ (xs : List ℕ). xs ++ more) (sym (labelled_by_empty label begins bytes empty))
     ∙ ap (λ (xs : List ℕ). labelled label begins bytes ++ xs) (sym (labelled_by_empty label begins more empty))
 
-pub part_by_label : (own label : List ℕ) (begins : Bool) (bytes : List ℕ) (a b : Option (List ℕ)) → label ≡ own → Some_Taken a b (labelled label begins bytes) → Some_Taken a b (labelled own begins bytes)
-part_by_label own label begins bytes a b same t = subst (λ (xs : List ℕ). Some_Taken a b (labelled xs begins bytes)) same t
+count_more : (m k n a : ℕ) → k ≡ min (m + a) 18446744073709551615 → m ≡ counted_by 0 n → k ≡ counted_by 0 (n + a)
+count_more m k n a e f = omega (arith, e, f)
+
+-- bytes are written as they are
+pub writes_plainly : (old : PacketLines) (count : ℕ) (a b : Option (List ℕ)) (bytes : List ℕ) → length old.label.items ≡ 0 → count ≡ min (old.written + length bytes) 18446744073709551615 → Appends a b bytes
+    → Writes old (record old { written = count }) a b bytes
+writes_plainly old count a b bytes empty counts p =
+    let same = labelled_by_empty old.label.items old.begins bytes empty in
+    record { written = rw same p; leads_on = leads_on_by_empty old.label.items old.begins bytes empty; counted = λ n before. rw same (count_more old.written count n (length bytes) counts before) }
 
 -- ---- lines one behind the other
 
@@ -182,3 +153,72 @@ labelled-append label false (b ∷ s) t = ap (λ (xs : List ℕ). b ∷ xs) (lab
 -- lines that are whole are written one by one
 pub numbered-append : (n : ℕ) (s t : List ℕ) → begins_behind true s ≡ true → numbered n (s ++ t) ≡ numbered n s ++ numbered n t
 numbered-append n s t whole = labelled-append (packet_label n) true s t ∙ ap (λ (b : Bool). numbered n s ++ labelled (packet_label n) b t) whole
+
+-- ---- bytes that are written one behind the other
+
+pub writes_none : (lines : PacketLines) (a : Option (List ℕ)) → Writes lines lines a a []
+writes_none lines a = record { written = Appends-nil a; leads_on = λ more. refl; counted = λ n before. before ∙ ap (counted_by 0) (sym (add-zero n)) }
+
+pub writes_on : {x y z : PacketLines} {a b c : Option (List ℕ)} {bytes more : List ℕ} → Writes x y a b bytes → Writes y z b c more → Writes x z a c (bytes ++ more)
+writes_on {x = x} {y = y} {z = z} {a = a} {b = b} {c = c} {bytes = bytes} {more = more} p q = record {
+  written = rw (p.leads_on more) (Appends-trans a b c (written_by x bytes) (written_by y more) p.written q.written);
+  leads_on = λ rest.
+      ap (written_by x) (append_assoc bytes more rest)
+      ∙ p.leads_on (more ++ rest)
+      ∙ ap (λ (xs : List ℕ). written_by x bytes ++ xs) (q.leads_on rest)
+      ∙ sym (append_assoc (written_by x bytes) (written_by y more) (written_by z rest))
+      ∙ ap (λ (xs : List ℕ). xs ++ written_by z rest) (sym (p.leads_on more));
+  counted = λ n before.
+      q.counted (n + length (written_by x bytes)) (p.counted n before)
+      ∙ ap (counted_by 0) (add_assoc n (length (written_by x bytes)) (length (written_by y more)) ∙ ap (λ (k : ℕ). n + k) (sym (length-append (written_by x bytes) (written_by y more))))
+      ∙ ap (λ (xs : List ℕ). counted_by 0 (n + length xs)) (sym (p.leads_on more));
+}
+
+-- where a write fails, a front is written of all that would be
+pub part_on : {x y : PacketLines} {a b c : Option (List ℕ)} {bytes : List ℕ} (more : List ℕ) → Writes x y a b bytes → Some_Taken b c (written_by y more) → Some_Taken a c (written_by x (bytes ++ more))
+part_on {x = x} {y = y} {a = a} {b = b} {c = c} {bytes = bytes} more p t = rw (p.leads_on more) (taken_behind a b c (written_by x bytes) (written_by y more) p.written t)
+
+pub part_of_more : (lines : PacketLines) (a b : Option (List ℕ)) (bytes more : List ℕ) → Some_Taken a b (written_by lines bytes) → Some_Taken a b (written_by lines (bytes ++ more))
+part_of_more lines a b bytes more t = rw (labelled-append lines.label.items lines.begins bytes more) (taken_within a b (written_by lines bytes) _ t)
+
+pub part_of_all : {x y : PacketLines} {a b : Option (List ℕ)} {bytes : List ℕ} → Writes x y a b bytes → Some_Taken a b (written_by x bytes)
+part_of_all {x = x} {bytes = bytes} p = ([], record { front = written_by x bytes; parts = sym (append-nil (written_by x bytes)); appended = p.written })
+
+-- a piece is written, and counted
+pub writes_piece : (old : PacketLines) (begins : Bool) (count n k : ℕ) (a b : Option (List ℕ)) (rest : List ℕ) → count ≡ min (old.written + n) 18446744073709551615 → n ≡ length (written_by old (take k rest)) → Appends a b (written_by old (take k rest))
+    → LeadsOn (written_by old) (labelled old.label.items begins) (take k rest) → Writes old (record old { begins = begins; written = count }) a b (take k rest)
+writes_piece old begins count n k a b rest counts many p leads = record { written = p; leads_on = leads; counted = λ m before. count_more old.written count m n counts before ∙ ap (λ (k : ℕ). counted_by 0 (m + k)) many }
+
+-- a front of the bytes is written
+pub record IsOnWay (old now : PacketLines) (a b : Option (List ℕ)) (bytes rest : List ℕ) : Type 0 where
+  pub front : List ℕ
+  pub parts : bytes ≡ front ++ rest
+  pub writes : Writes old now a b front
+
+pub none_on_way : (lines : PacketLines) (a : Option (List ℕ)) (bytes : List ℕ) → IsOnWay lines lines a a bytes bytes
+none_on_way lines a bytes = record { front = []; parts = refl; writes = writes_none lines a }
+
+pub piece_on_way : {x y z : PacketLines} {a b c : Option (List ℕ)} {bytes rest : List ℕ} (n : ℕ) → IsOnWay x y a b bytes rest → Writes y z b c (take n rest) → IsOnWay x z a c bytes (drop n rest)
+piece_on_way {rest = rest} n w p = record {
+  front = w.front ++ take n rest;
+  parts = w.parts ∙ ap (λ (xs : List ℕ). w.front ++ xs) (sym (take-append-drop n rest)) ∙ sym (append_assoc w.front (take n rest) (drop n rest));
+  writes = writes_on w.writes p;
+}
+
+pub part_on_way : {x y : PacketLines} {a b c : Option (List ℕ)} {bytes rest : List ℕ} → IsOnWay x y a b bytes rest → Some_Taken b c (written_by y rest) → Some_Taken a c (written_by x bytes)
+part_on_way {rest = rest} w t = rw (w.parts) (part_on rest w.writes t)
+
+pub all_on_way : {x y : PacketLines} {a b : Option (List ℕ)} {bytes rest : List ℕ} → IsOnWay x y a b bytes rest → rest ≡ [] → Writes x y a b bytes
+all_on_way {x = x} {y = y} {a = a} {b = b} w empty =
+    let whole = sym (append-nil w.front) ∙ ap (λ (xs : List ℕ). w.front ++ xs) (sym empty) ∙ sym w.parts in
+    subst (λ (xs : List ℕ). Writes x y a b xs) whole w.writes
+
+pub plain_part : (label : List ℕ) (begins : Bool) (bytes : List ℕ) (a b : Option (List ℕ)) → length label ≡ 0 → Some_Taken a b bytes → Some_Taken a b (labelled label begins bytes)
+plain_part label begins bytes a b empty t = rw (labelled_by_empty label begins bytes empty) t
+
+pub piece_length : (bytes : List ℕ) (n : ℕ) (label : List ℕ) (begins : Bool) → begins ≡ false → IsPiece bytes n → n ≡ length (labelled label begins (take n bytes))
+piece_length bytes n label begins is piece = rw (piece_stays bytes n label begins is piece) (sym (length-take-le n bytes piece.within))
+
+-- the lines of a packet that is to have no number
+pub begun_plainly : (label : List ℕ) (text : List ℕ) → label ≡ [] → labelled label true text ≡ text
+begun_plainly label text none = ap (λ (xs : List ℕ). labelled xs true text) none ∙ labelled_by_none true text

@@ -3,3 +3,4 @@ pub mod Packets
 pub mod Sizes
 pub mod PacketLines
 pub mod Touched
+pub mod Handing

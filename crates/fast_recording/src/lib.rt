@@ -5,6 +5,7 @@
 #![tactic(auto)]
 
 mod entries;
+mod handing;
 mod nowhere;
 mod output;
 mod packet;

@@ -1,7 +1,4 @@
-use Rattle.std.proofs.Common.{rules, ◌≡◌, ◌<◌, ℕ, List, Result, Ok, Err, OnErr, length, take, sym, subst}
-use Rattle.std.specs.Io.KnownBytes.{Appends}
-use Rattle.fast_recording.specs.PacketLines.{LeadsOn, IsPiece, labelled}
-use Rattle.fast_recording.proofs.Labels.{err_any, part_of_first, part_of_label, part_of_piece, piece_stays, piece_leads_on}
+use Rattle.fast_recording.proofs.Labels.{err_any, part_of_first, part_of_label, part_of_piece, piece_length, piece_stays, piece_leads_on}
 use Rattle.fast_recording.proofs.packet_lines.push_piece.Goals as goal
 
 pub returns-in_err-push_all-clause-part : goal.returns-in_err-push_all-clause-part
@@ -19,3 +16,6 @@ returns-clause-written g c =
 
 pub returns-clause-leads_on : goal.returns-clause-leads_on
 returns-clause-leads_on g c = piece_leads_on _ _ _ _ c.if-begins.false c.line_end-end.ensures
+
+pub returns-clause-counted : goal.returns-clause-counted
+returns-clause-counted g c = piece_length _ _ _ _ c.if-begins.false c.line_end-end.ensures
