@@ -1,6 +1,8 @@
 pub mod Canonicals
 pub mod Flushed
 pub mod Fronts
+pub mod Handings
+pub mod Labels
 pub mod Machines
 pub mod Numbered
 pub mod Parts

@@ -14,6 +14,7 @@ use Rattle.fast_recording.specs.Made.{FrontWritten, Writing, WritesMade, Written
 use Rattle.fast_recording.specs.Recorded.{Outputs, Recorded, RecordsAll, RecordsBefore, RecordsCut, RecordsFront, RecordsPackets, Why}
 use Rattle.fast_recording.specs.declared.fault.RecordingFault.{RecordingFault}
 use Rattle.fast_recording.specs.declared.summary.RecordingSummary.{RecordingSummary}
+use Rattle.fast_recording.proofs.Numbered.{nothing_numbered}
 
 module _ (One Two : Writing) (as : (number : ℕ) (o : Outcome) (bytes : List ℕ) → One number o bytes → Two number o bytes) where
   written_as : (os : List Outcome) (number : ℕ) (bytes : List ℕ) → WrittenOf One number os bytes → WrittenOf Two number os bytes
@@ -70,4 +71,4 @@ lines_as form set number (accepted ms) bytes h =
     let m = h.1 in
     (m.out, sym (same_lines form set ms) ∙ m.made, h.2 ∙ ap (λ (z : List ℕ). numbering_of (is_numbered form) number z) (m.parts ∙ ap (λ (z : List ℕ). z ++ m.out) m.leads))
 lines_as form set number (refused ms place cause) bytes h = (h.0, sym (same_lines form set ms) ∙ h.1, h.2)
-lines_as form set number (sizeless place cause) bytes h = h.2 ∙ ap (λ (z : List ℕ). numbering_of (is_numbered form) number z) h.1
+lines_as form set number (sizeless place cause) bytes h = h.2 ∙ ap (λ (z : List ℕ). numbering_of (is_numbered form) number z) h.1 ∙ sym (nothing_numbered (is_numbered form) number)

@@ -1,10 +1,11 @@
 -- What an output makes of packets, and how it is written.
-use Rattle.std.specs.Prelude.{◌≡◌, ◌⊎◌, ℕ, ◌+◌, Bool, true, false, List, [], ◌∷◌, ◌++◌, length}
+use Rattle.std.specs.Prelude.{◌≡◌, ◌⊎◌, ℕ, ◌+◌, Bool, true, false, List, [], ◌∷◌, ◌++◌, length, Option, Some, None}
 use Rattle.fast_wire.specs.Integer.{IsUnsigned}
 use Rattle.fast_wire.specs.Writing.{IsShortest}
 use Rattle.fast_template.specs.Resolved.{Resolved}
 use Rattle.fast_stream.specs.Nodes.{Content}
 use Rattle.fast_pass.specs.Relays.{Making}
+use Rattle.fast_recording.specs.PacketLines.{numbered}
 use Rattle.fast_packets.specs.Outcomes.{Outcome, accepted, refused, sizeless}
 
 -- the size in front of what is made of a packet: the shortest, or none where packets have none
@@ -30,10 +31,6 @@ MadeOne sized makes set (accepted ms) bytes = MadePacket sized makes set ms byte
 MadeOne sized makes set (refused ms place cause) bytes = MadeBefore sized makes set ms bytes
 MadeOne sized makes set (sizeless place cause) bytes = bytes ≡ []
 
--- a front of what is made of a packet's messages
-abbrev pub FrontOfPacket : Bool → Making → List Resolved → List Content → List ℕ → Type 0
-FrontOfPacket sized makes set ms bytes = (bytes ≡ []) ⊎ ((rest : List ℕ) × MadePacket sized makes set ms (bytes ++ rest))
-
 -- ---- how it is written
 
 -- what is written for a packet with a number, by what comes of it
@@ -58,9 +55,15 @@ Numbering = ℕ → List ℕ → List ℕ
 abbrev pub unnumbered : Numbering
 unnumbered number text = text
 
--- nowhere, so far
+-- in each of its lines, or nowhere
 abbrev pub numbering_of : Bool → Numbering
-numbering_of numbered = unnumbered
+numbering_of true = numbered
+numbering_of false = unnumbered
+
+-- the number that stands in the lines of a packet
+abbrev pub number_of : Bool → ℕ → Option ℕ
+number_of true number = Some number
+number_of false number = None
 
 -- what an output makes of a packet, with its number in it
 abbrev pub WritesMade : Numbering → Bool → Making → List Resolved → Writing

@@ -9,19 +9,21 @@ ghost use Rattle.fast_pass.specs.Relays.{errors_behind};
 ghost use Rattle.fast_machine.specs.Calls.{IsSameStream};
 ghost use Rattle.fast_recording.specs.Begins.{IsOpenAt, IsPacketAt, IsPartAt};
 ghost use Rattle.fast_recording.specs.Faults.{EndsInSizeBy, OfDevice, answer_of, next_fault, tell_errors, write_errors};
-ghost use Rattle.fast_recording.specs.Made.{WritesMade, numbering_of};
+ghost use Rattle.fast_recording.specs.Made.{WritesMade, number_of, numbering_of};
 ghost use Rattle.fast_recording.specs.Packets.{TakesNumbered};
 ghost use Rattle.fast_recording.specs.Passing.{EndsOpen, IsEnd, IsReady, ReadsMore, TakesOn, TakesPackets, nothing_counted};
 ghost use Rattle.fast_recording.specs.Recorded.{FlushesOnce, RecordsBy, outputs, tells_failed, writes_failed};
 
 use crate::begin::{Begin, next_packet};
+use crate::entries::PacketEntries;
 use crate::fault::{PacketFault, RecordingFault};
 use crate::halt::Halt;
 use crate::output::PacketOutput;
 use crate::packet::{Taken, take_packet};
+use crate::packet_lines::PacketLines;
 use crate::settle::{Progress, place_behind, place_of_size, refuse, settle};
 use crate::summary::RecordingSummary;
-use fast_dictionary::{Entries, SlotEntries};
+use fast_dictionary::Entries;
 use fast_io::{ByteInput, ByteOutput, Failed};
 use fast_machine::Machine;
 use fast_pass::Stop;
@@ -54,6 +56,13 @@ pub(crate) enum Came {
     Refused(PacketFault),
 }
 
+// The number that stands in the lines of a packet.
+fn number_in_lines(manner: Manner, number: u64) -> Option<u64>
+    ensures { result ≡ number_of manner.numbered number }
+{
+    if manner.numbered { Some(number) } else { None }
+}
+
 // Takes a packet with a number, or what has come of one of which no more comes for a cause.
 fn take_numbered<O: PacketOutput, W: ByteOutput, E: Entries>(
     machine: &mut Machine<'_, O, E>,
@@ -63,6 +72,7 @@ fn take_numbered<O: PacketOutput, W: ByteOutput, E: Entries>(
     bytes: &[u8],
     cut: Option<Cause>,
     size: &mut Vec<u8>,
+    lines: &mut PacketLines,
     writer: &mut W,
 ) -> Result<Taken, Stop>
     requires few { length bytes.now ≤ 2 ^ 20 }
@@ -74,7 +84,8 @@ fn take_numbered<O: PacketOutput, W: ByteOutput, E: Entries>(
     ensures flushes { W.flushes writer.new ≡ W.flushes writer.old }
     ensures same { IsSameStream machine.old machine.new }
 {
-    take_packet(machine, alloc, bytes, cut, size, writer)
+    let number = number_in_lines(manner, number);
+    take_packet(machine, alloc, bytes, cut, number, size, lines, writer)
 }
 
 // Takes a packet that is whole, whose stream begins behind so many of its bytes.
@@ -102,7 +113,9 @@ fn take_whole<O: PacketOutput, W: ByteOutput, T: ByteOutput, E: Entries>(
 {
     let number = progress.counts.packets.saturating_add(1);
     let stream = &bytes[behind..];
-    let taken = take_numbered(machine, alloc, manner, number, stream, None, &mut progress.buffer, writer)?;
+    let size = &mut progress.buffer;
+    let lines = &mut progress.lines;
+    let taken = take_numbered(machine, alloc, manner, number, stream, None, size, lines, writer)?;
     settle(manner.keep_going, taken, behind, bytes.len(), progress, teller)
 }
 
@@ -222,8 +235,10 @@ fn end_in_packet<O: PacketOutput, W: ByteOutput, T: ByteOutput, E: Entries>(
     let number = progress.counts.packets.saturating_add(1);
     let begin = progress.counts.read.saturating_add(behind as u64);
     let come = &bytes[behind..];
-    let buffer = &mut progress.buffer;
-    let taken = take_numbered(machine, alloc, manner, number, come, Some(cause), buffer, writer)?;
+    let cut = Some(cause);
+    let size = &mut progress.buffer;
+    let lines = &mut progress.lines;
+    let taken = take_numbered(machine, alloc, manner, number, come, cut, size, lines, writer)?;
     match fault_of_device(taken.fault, cause) {
         Some(fault) => {
             let place = place_behind(begin, fault.place);
@@ -402,7 +417,7 @@ pub(crate) fn pass_packets<O: PacketOutput, R: ByteInput, W: ByteOutput, T: Byte
     ensures tell { T.errors teller.new ≡ tells_failed result (T.errors teller.old) }
     ensures flush { FlushesOnce result (W.flushes writer.old) (W.flushes writer.new) }
 {
-    let entries = match SlotEntries::new(alloc, set) {
+    let entries = match PacketEntries::new(alloc, set) {
         Err(_) => return Err(RecordingFault::Memory),
         Ok(entries) => entries,
     };
@@ -420,6 +435,7 @@ pub(crate) fn pass_packets<O: PacketOutput, R: ByteInput, W: ByteOutput, T: Byte
             written: 0,
         },
         buffer: Vec::new(alloc),
+        lines: PacketLines::new(alloc),
     };
     // (the machine is let go in one place)
     pass_by(&mut machine, alloc, manner, &mut progress, reader, writer, teller, turns)

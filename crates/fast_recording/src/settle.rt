@@ -7,16 +7,19 @@ ghost use Rattle.fast_recording.specs.Faults.{Refuses, Settles, count_more, coun
 use crate::fault::PacketFault;
 use crate::halt::Halt;
 use crate::packet::Taken;
+use crate::packet_lines::PacketLines;
 use crate::summary::RecordingSummary;
 use crate::told::tell;
 use fast_io::ByteOutput;
 use fast_stream::{Fault, Place};
 
-/// What was counted of a recording so far, and a buffer that is kept from packet to packet, for sizes and lines.
+/// What was counted of a recording so far, and what is kept from packet to packet: a buffer for sizes and for the lines that
+/// tell of refusals, and the lines of packets.
 #[derive(Drop)]
 pub(crate) struct Progress {
     pub(crate) counts: RecordingSummary,
     pub(crate) buffer: Vec<u8>,
+    pub(crate) lines: PacketLines,
 }
 
 /// The place of a size, and of a packet that is not there.

@@ -6,6 +6,7 @@ use Rattle.fast_recording.specs.Made.{WritesMade, numbering_of}
 use Rattle.fast_recording.specs.Passing.{EndsBy, by_bytes}
 use Rattle.fast_recording.specs.Recorded.{RecordsAll, RecordsBefore, RecordsFront, outputs}
 use Rattle.fast_recording.proofs.Fronts.{few_front, few_step, rest_is, rest_long, step_is, whole_is}
+use Rattle.fast_recording.proofs.Numbered.{nothing_numbered}
 use Rattle.fast_recording.proofs.Parts.{size_answered, size_told, size_untold}
 use Rattle.fast_recording.proofs.relay.take_packets.Goals as goal
 
@@ -25,7 +26,7 @@ returns-in_err-refuse-in-Sizeless-clause-takes g c = λ set old front set_is bou
     let cause = c.in-Sizeless.cause in
     let e = err_from_is_err_and c.from_residual.result c.from_residual.ensures.1 in
     let r = rw (c.place_of_size-place.ensures) at c.in_err-refuse-in-Sizeless.ensures.refuses in
-    let broke = size_untold m.keep_going m.level set Writes (λ number at cause. ([], refl, refl)) c.packets.progress.counts c.refuse.new.progress.counts old now later (front ++ take at B) (take (length B - at) (drop at B)) cause passes (omega (arith, bound, fewer))
+    let broke = size_untold m.keep_going m.level set Writes (λ number at cause. ([], refl, nothing_numbered m.numbered number)) c.packets.progress.counts c.refuse.new.progress.counts old now later (front ++ take at B) (take (length B - at) (drop at B)) cause passes (omega (arith, bound, fewer))
     (omega (arith, long, c.packets-test.true)) c.in-Sizeless.ensures.0 c.in_err-refuse-in-Sizeless.ensures.counts refl _ r in
     rw (e.1) (subst (λ (z : List ℕ). RecordsFront m.keep_going m.level set Writes old later z) (rest_is front B at) broke)
 
@@ -44,7 +45,7 @@ returns-in-None-clause-takes g c = λ set old front set_is bound p.
     let later = outputs (g.W.ByteOutput.taken c.packets.writer) (g.T.ByteOutput.taken c.refuse.new.teller) in
     let cause = c.in-Sizeless.cause in
     let r = rw (c.in-None.is, c.place_of_size-place.ensures) at c.in_ok-refuse-in-Sizeless.ensures.refuses in
-    let told = size_told m.keep_going m.level set Writes (λ number at cause. ([], refl, refl)) c.packets.progress.counts c.refuse.new.progress.counts old now later (front ++ take at B) (take (length B - at) (drop at B)) cause passes (omega (arith, bound, fewer))
+    let told = size_told m.keep_going m.level set Writes (λ number at cause. ([], refl, nothing_numbered m.numbered number)) c.packets.progress.counts c.refuse.new.progress.counts old now later (front ++ take at B) (take (length B - at) (drop at B)) cause passes (omega (arith, bound, fewer))
     (omega (arith, long, c.packets-test.true)) c.in-Sizeless.ensures.0 c.in_ok-refuse-in-Sizeless.ensures.counts refl by_bytes (inr (c.in-Sizeless.ensures.1, tt)) r in
     subst (λ (z : List ℕ). RecordsAll by_bytes m.keep_going m.level set Writes old later z c.refuse.new.progress.counts) (rest_is front B at) told
 
@@ -64,7 +65,7 @@ returns-in-Some-clause-takes g c = λ set old front set_is bound p.
     let cause = c.in-Sizeless.cause in
     let r = rw (c.in-Some.is, c.place_of_size-place.ensures) at c.in_ok-refuse-in-Sizeless.ensures.refuses in
     let f = c.in-Some.refused in
-    let answered = size_answered m.keep_going m.level set Writes (λ number at cause. ([], refl, refl)) c.packets.progress.counts c.refuse.new.progress.counts old now later (front ++ take at B) (take (length B - at) (drop at B)) cause passes (omega (arith, bound, fewer))
+    let answered = size_answered m.keep_going m.level set Writes (λ number at cause. ([], refl, nothing_numbered m.numbered number)) c.packets.progress.counts c.refuse.new.progress.counts old now later (front ++ take at B) (take (length B - at) (drop at B)) cause passes (omega (arith, bound, fewer))
     (omega (arith, long, c.packets-test.true)) c.in-Sizeless.ensures.0 c.in_ok-refuse-in-Sizeless.ensures.counts refl by_bytes f (λ e. absurd (c.in-Sizeless.ensures.1 e)) r in
     inl (answered.0, subst (λ (z : List ℕ). RecordsBefore by_bytes m.level set Writes old later z f) (rest_is front B at) answered.1)
 
