@@ -7,6 +7,7 @@ pub mod Machines
 pub mod Numbered
 pub mod Parts
 pub mod Passings
+pub mod Readings
 pub mod Relayed
 pub mod Sized
 pub mod Streams

@@ -1,6 +1,6 @@
 //! Recordings on their way through an output.
 
-ghost use Rattle.std.specs.Prelude.{◌≡◌, ◌≤◌, ◌^◌, ◌+◌, ◌++◌, ◌⊎◌, ◌∷◌, [], ℕ, List, Option, Ok, OnOk, length};
+ghost use Rattle.std.specs.Prelude.{◌≡◌, ◌≤◌, ◌^◌, ◌+◌, ◌++◌, ◌⊎◌, ◌∷◌, [], ℕ, List, Option, Ok, OnOk, length, drop};
 ghost use Rattle.std.specs.FinMap as finite;
 ghost use Rattle.fast_template.specs.TemplateSets.{templates_in};
 ghost use Rattle.fast_walk.specs.Received.{handed_on};
@@ -308,6 +308,14 @@ fn read_more<R: ByteInput>(
     }
 }
 
+// Forgets so many bytes from the front.
+fn forget(held: &mut Vec<u8>, count: usize)
+    requires { count ≤ length held.now.items }
+    ensures { held.new.items ≡ drop count held.old.items }
+{
+    drop(held.drain(..count));
+}
+
 // Reads to the end of the recording, to what ends it, or to the last of the reads; answers the refusal, if it is one.
 fn relay<O: PacketOutput, R: ByteInput, W: ByteOutput, T: ByteOutput, E: Entries>(
     machine: &mut Machine<'_, O, E>,
@@ -338,13 +346,18 @@ fn relay<O: PacketOutput, R: ByteInput, W: ByteOutput, T: ByteOutput, E: Entries
     let mut reads = 0;
     'reads: while reads < turns {
         reads += 1;
-        if let Some(cause) = read_more(reader, &mut chunk, &mut held)? {
-            return end(machine, alloc, manner, progress, &held, unread, cause, writer, teller);
+        let ended = read_more(reader, &mut chunk, &mut held)?;
+        match ended {
+            Some(cause) => {
+                return end(machine, alloc, manner, progress, &held, unread, cause, writer, teller);
+            }
+            None => {}
         }
-        match take_packets(machine, alloc, manner, progress, &held, writer, teller)? {
+        let came = take_packets(machine, alloc, manner, progress, &held, writer, teller)?;
+        match came {
             Came::Open(at, behind) => {
                 unread = behind;
-                drop(held.drain(..at));
+                forget(&mut held, at);
             }
             Came::End => return Ok(None),
             Came::Refused(refused) => return Ok(Some(refused)),
