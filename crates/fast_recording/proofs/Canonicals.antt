@@ -1,5 +1,5 @@
 -- What is written of accepted packets by the writer of canonical bytes is their canonical recording.
-use Rattle.std.proofs.Common.{true, false, List, ℕ, [], ◌∷◌, ◌++◌, ◌+◌, ◌≤◌, ◌≡◌, ◌⊎◌, inl, inr, Option, Some, None, Result, Ok, Err, length, map, refl, sym, ap, subst, ◌∙◌, arith, append-nil}
+use Rattle.std.proofs.Common.{true, false, List, ℕ, [], ◌∷◌, ◌++◌, ◌+◌, ◌≤◌, ◌≡◌, ◌≢◌, ◌⊎◌, inl, inr, Option, Some, None, Result, Ok, Err, length, map, refl, sym, ap, subst, ◌∙◌, arith, append-nil}
 use Rattle.fast_wire.specs.declared.level.Level.{Level}
 use Rattle.fast_template.specs.TemplateSets.{IsSound, TemplateList, templates_in}
 use Rattle.fast_stream.specs.declared.fault.Cause.{Cause}
@@ -106,3 +106,13 @@ module _ (set : TemplateList) (sound : IsSound set) (level : Level) where
   canonicalised why taken_old taken_new input (Err RecordingFault.Tell) exact quiet h = let one : 1 ≡ 0 = quiet in absurd (omega (arith, one))
   canonicalised why taken_old taken_new input (Err RecordingFault.Write) exact quiet h = h
   canonicalised why taken_old taken_new input (Err RecordingFault.Memory) exact quiet h = h
+
+-- the set is sound where memory was not refused
+module _ (set : TemplateList) (level : Level) (why : Why) (taken_old taken_new : Option (List ℕ)) (input : List ℕ) (exact : (n : ℕ) → n ≤ length input → counted_by 0 n ≡ n) where
+  pub canonicalised_by : (r : Result RecordingSummary RecordingFault) → (r ≢ Err RecordingFault.Memory → IsSound set) → tells_failed r 0 ≡ 0
+      → RecordsPackets why false level (templates_in set) (WritesCanonical set) (outputs taken_old None) (outputs taken_new None) input r → CanonicalisesAs why level set taken_old taken_new input r
+  canonicalised_by (Ok summary) sound quiet h = canonicalised set (sound (λ e. absurd cc)) level why taken_old taken_new input (Ok summary) exact quiet h
+  canonicalised_by (Err (RecordingFault.Packet f)) sound quiet h = canonicalised set (sound (λ e. absurd cc)) level why taken_old taken_new input (Err (RecordingFault.Packet f)) exact quiet h
+  canonicalised_by (Err RecordingFault.Tell) sound quiet h = let one : 1 ≡ 0 = quiet in absurd (omega (arith, one))
+  canonicalised_by (Err RecordingFault.Write) sound quiet h = h
+  canonicalised_by (Err RecordingFault.Memory) sound quiet h = h

@@ -15,7 +15,7 @@ use Rattle.fast_recording.specs.Told.{line_for, told_from}
 use Rattle.fast_recording.specs.Made.{FrontWritten, Writing, WrittenOf}
 use Rattle.fast_recording.specs.Faults.{count_refused, counts_taken}
 use Rattle.fast_recording.specs.Recorded.{EndsInSize, Grows, HasAccepted, HasCome, IsCutAt, Outputs, Recorded, RecordsAll, RecordsBefore, RecordsCut, RecordsFront, Why, count_refusal, messages_in, messages_of, read_of, refused_in, summary_of}
-use Rattle.fast_recording.specs.Passing.{AreFew, Passes, Settled, SettledOne}
+use Rattle.fast_recording.specs.Passing.{AreFew, Passes, Settled, SettledOne, nothing_counted}
 use Rattle.fast_recording.specs.declared.fault.PacketFault.{PacketFault}
 use Rattle.fast_recording.specs.declared.packet.Taken.{Taken as PacketTaken}
 use Rattle.fast_recording.specs.declared.summary.RecordingSummary.{RecordingSummary}
@@ -96,6 +96,10 @@ module _ (goes_on : Bool) (level : Level) (set : List Resolved) where
           grown = rw (told_more 1 p.outcomes (o ∷ []), number, told_one (length p.outcomes + 1) o) (grows_on old now later p.out more (told_from 1 p.outcomes) (line_for (length p.outcomes + 1) (refusal_in o)) p.grown grows);
           counts_are = counts ∙ ap (λ (c : RecordingSummary). counts_taken c taken (length bytes)) p.counts_are ∙ counts_more p.outcomes o front bytes p.out more taken bound p.settled few_one.0 few_one.1 (whole_read o (length front) bytes one) messages written faults;
         }
+
+    -- no packet came yet
+    pub passes_none : (old : Outputs) → Passes goes_on level set Writes nothing_counted old old []
+    passes_none old = record { outcomes = []; settled = refl; out = []; made = refl; grown = record { written = Appends-nil old.taken; said = Appends-nil old.told }; counts_are = refl }
 
     -- behind whole packets comes the last, and lines are told of some of it
     pub record_on : {counts : RecordingSummary} {old now later : Outputs} {front : List ℕ} (rest more : List ℕ) (last told : List Outcome) (p : Passes goes_on level set Writes counts old now front)

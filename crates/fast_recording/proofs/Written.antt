@@ -16,14 +16,14 @@ use Rattle.fast_recording.specs.declared.fault.RecordingFault.{RecordingFault}
 use Rattle.fast_recording.specs.declared.summary.RecordingSummary.{RecordingSummary}
 use Rattle.fast_recording.proofs.Numbered.{nothing_numbered}
 
-module _ (One Two : Writing) (as : (number : ℕ) (o : Outcome) (bytes : List ℕ) → One number o bytes → Two number o bytes) where
+module _ (One Two : Writing) (same : (number : ℕ) (o : Outcome) (bytes : List ℕ) → One number o bytes → Two number o bytes) where
   written_as : (os : List Outcome) (number : ℕ) (bytes : List ℕ) → WrittenOf One number os bytes → WrittenOf Two number os bytes
   written_as [] number bytes h = h
-  written_as (o ∷ os) number bytes h = (h.0, h.1, h.2, as number o h.0 h.3, written_as os (number + 1) h.1 h.4)
+  written_as (o ∷ os) number bytes h = (h.0, h.1, h.2, same number o h.0 h.3, written_as os (number + 1) h.1 h.4)
 
   front_as : (number : ℕ) (ms : List Content) (bytes : List ℕ) → FrontWritten One number ms bytes → FrontWritten Two number ms bytes
   front_as number ms bytes (inl none) = inl none
-  front_as number ms bytes (inr h) = inr (h.0, as number (accepted ms) (bytes ++ h.0) h.1)
+  front_as number ms bytes (inr h) = inr (h.0, same number (accepted ms) (bytes ++ h.0) h.1)
 
   module _ (why : Why) (goes_on : Bool) (level : Level) (set : List Resolved) (old new : Outputs) (input : List ℕ) where
     recorded_as : (w : Bool) (os told : List Outcome) → Recorded w level set One old new input os told → Recorded w level set Two old new input os told
@@ -44,7 +44,7 @@ module _ (One Two : Writing) (as : (number : ℕ) (o : Outcome) (bytes : List �
       next = front_as (length h.outcomes + 1) h.messages h.more h.next;
       told = h.told;
       untold = h.untold;
-      lines_are = h.said_are;
+      lines_are = h.lines_are;
       grown = h.grown;
     }
 

@@ -1,8 +1,8 @@
 //! Recordings on their way through an output.
 
-ghost use Rattle.std.specs.Prelude.{◌≡◌, ◌≤◌, ◌^◌, ◌+◌, ◌++◌, ◌⊎◌, ◌∷◌, [], ℕ, List, Option, Ok, OnOk, length, drop};
+ghost use Rattle.std.specs.Prelude.{◌≡◌, ◌≢◌, ◌≤◌, ◌^◌, ◌+◌, ◌++◌, ◌⊎◌, ◌∷◌, [], ℕ, List, Option, Ok, Err, OnOk, length, drop};
 ghost use Rattle.std.specs.FinMap as finite;
-ghost use Rattle.fast_template.specs.TemplateSets.{templates_in};
+ghost use Rattle.fast_template.specs.TemplateSets.{IsSound, templates_in};
 ghost use Rattle.fast_walk.specs.Received.{handed_on};
 ghost use Rattle.fast_decoder.specs.Inputs.{told_by};
 ghost use Rattle.fast_pass.specs.Relays.{errors_behind};
@@ -429,6 +429,7 @@ pub(crate) fn pass_packets<O: PacketOutput, R: ByteInput, W: ByteOutput, T: Byte
     ensures write { W.errors writer.new ≡ writes_failed result (W.errors writer.old) }
     ensures tell { T.errors teller.new ≡ tells_failed result (T.errors teller.old) }
     ensures flush { FlushesOnce result (W.flushes writer.old) (W.flushes writer.new) }
+    ensures sound { result ≢ Err RecordingFault.Memory → IsSound set.now }
 {
     let entries = match PacketEntries::new(alloc, set) {
         Err(_) => return Err(RecordingFault::Memory),
