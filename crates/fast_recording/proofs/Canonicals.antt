@@ -1,5 +1,5 @@
 -- What is written of accepted packets by the writer of canonical bytes is their canonical recording.
-use Rattle.std.proofs.Common.{true, false, List, ℕ, [], ◌∷◌, ◌++◌, ◌+◌, ◌≤◌, ◌≡◌, ◌≢◌, ◌⊎◌, inl, inr, Option, Some, None, Result, Ok, Err, length, map, refl, sym, ap, subst, ◌∙◌, arith, append-nil}
+use Rattle.std.proofs.Common.{false, List, ℕ, [], ◌∷◌, ◌++◌, ◌+◌, ◌≤◌, ◌≡◌, ◌≢◌, ◌⊎◌, inl, inr, Option, Some, None, Result, Ok, Err, length, map, refl, sym, subst, ◌∙◌, arith, append-nil}
 use Rattle.fast_wire.specs.declared.level.Level.{Level}
 use Rattle.fast_template.specs.TemplateSets.{IsSound, TemplateList, templates_in}
 use Rattle.fast_stream.specs.declared.fault.Cause.{Cause}

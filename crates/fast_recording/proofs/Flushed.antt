@@ -1,20 +1,18 @@
 -- What a run answers, by its reader, and once the writer is flushed.
-use Rattle.std.proofs.Common.{Bool, false, List, ℕ, [], ◌∷◌, ◌++◌, ◌+◌, ◌≤◌, ◌≡◌, ◌≢◌, ◌⊎◌, inl, inr, Option, Some, None, Result, Ok, Err, length, map, refl, sym, ap, subst, ◌∙◌, arith, append-nil}
+use Rattle.std.proofs.Common.{Bool, false, List, ℕ, [], ◌∷◌, ◌++◌, ◌+◌, ◌≡◌, ◌≢◌, inl, inr, Option, Some, None, Result, Ok, Err, length, map, refl, sym, subst, append-nil}
 use Rattle.std.specs.Io.KnownBytes.{Keeps}
 use Rattle.fast_io.proofs.Outputs.{Appends-kept}
-use Rattle.fast_io.specs.Counts.{counted}
 use Rattle.fast_decoder.specs.Inputs.{Reader}
 use Rattle.fast_wire.specs.declared.level.Level.{Level}
 use Rattle.fast_template.specs.Resolved.{Resolved}
 use Rattle.fast_stream.specs.declared.fault.Cause.{Cause}
-use Rattle.fast_packets.specs.Outcomes.{Outcome, Outcomes, accepted}
+use Rattle.fast_packets.specs.Outcomes.{Outcome, accepted}
 use Rattle.fast_recording.specs.Told.{told_from}
-use Rattle.fast_recording.specs.Made.{Writing, WrittenOf}
+use Rattle.fast_recording.specs.Made.{Writing}
 use Rattle.fast_recording.specs.Faults.{answer_of}
-use Rattle.fast_recording.specs.Passing.{Ends, EndsBy, IsEnd, by_bytes, by_cause}
-use Rattle.fast_recording.specs.Recorded.{Grows, HasEnded, HasFailed, IsOpen, Outputs, Recorded, RecordsAll, RecordsBefore, RecordsCut, RecordsFront, RecordsPackets, Why, by_reader}
+use Rattle.fast_recording.specs.Passing.{Ends, EndsBy, by_bytes, by_cause}
+use Rattle.fast_recording.specs.Recorded.{Grows, HasEnded, HasFailed, IsOpen, Outputs, Recorded, RecordsFront, RecordsPackets, Why, by_reader}
 use Rattle.fast_recording.specs.declared.fault.PacketFault.{PacketFault}
-use Rattle.fast_recording.specs.declared.fault.RecordingFault.{RecordingFault}
 use Rattle.fast_recording.specs.declared.halt.Halt.{Halt}
 use Rattle.fast_recording.specs.declared.summary.RecordingSummary.{RecordingSummary}
 use Rattle.fast_recording.proofs.Passings.{told_more}

@@ -1,5 +1,5 @@
 -- How bytes part at a place.
-use Rattle.std.proofs.Common.{List, ℕ, ◌++◌, ◌+◌, ◌-◌, ◌≤◌, ◌≡◌, take, drop, length, min, sym, ap, ◌∙◌, arith, append_assoc, length-append}
+use Rattle.std.proofs.Common.{List, ℕ, ◌++◌, ◌+◌, ◌-◌, ◌≤◌, ◌≡◌, take, drop, length, sym, ap, ◌∙◌, arith, append_assoc, length-append}
 use Rattle.std.proofs.Math.Seq.{take-add}
 use Rattle.std.proofs.lemmas.List.{length-drop, length-take, take-append-drop, take_rest}
 use Rattle.fast_recording.specs.Passing.{AreFew}

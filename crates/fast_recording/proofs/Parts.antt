@@ -1,5 +1,5 @@
 -- What comes of the packet that is open where a recording ends, put behind those before.
-use Rattle.std.proofs.Common.{Bool, true, false, List, ℕ, [], ◌∷◌, ◌++◌, ◌+◌, ◌≤◌, ◌<◌, ◌^◌, ◌≡◌, ◌≢◌, ◌⊎◌, inl, inr, Option, Some, None, Result, Ok, Err, drop, take, length, min, refl, sym, ap, subst, ◌∙◌, arith, append-nil, append_assoc, length-append}
+use Rattle.std.proofs.Common.{Bool, true, false, List, ℕ, [], ◌∷◌, ◌++◌, ◌+◌, ◌≤◌, ◌<◌, ◌^◌, ◌≡◌, ◌≢◌, ◌⊎◌, inl, inr, Option, Some, None, Result, Ok, Err, drop, take, length, refl, sym, ap, subst, ◌∙◌, arith, append-nil, length-append}
 use Rattle.std.proofs.lemmas.List.{take-append-drop, length-take}
 use Rattle.std.specs.Io.KnownBytes.{Appends}
 use Rattle.fast_io.proofs.Outputs.{Appends-nil}
@@ -15,21 +15,21 @@ use Rattle.fast_stream.specs.Nodes.{Content}
 use Rattle.fast_machine.proofs.Followings.{all_carried, few_messages}
 use Rattle.fast_pass.specs.Relays.{Making}
 use Rattle.fast_packets.proofs.Sizes.{size_some}
-use Rattle.fast_packets.specs.Outcomes.{CutPacket, Outcome, Outcomes, PacketSizeFault, Stops, accepted, placed_behind, refusal_in, refused, size_place, sizeless}
+use Rattle.fast_packets.specs.Outcomes.{CutPacket, Outcome, Outcomes, PacketSizeFault, Stops, placed_behind, refusal_in, refused, size_place, sizeless}
 use Rattle.fast_recording.specs.Begins.{IsOpenAt, IsPartAt}
-use Rattle.fast_recording.specs.Faults.{EndsInSizeBy, OfDevice, Refuses, Settles, count_more, counted_behind, counts_refused, counts_taken, fault_at, next_fault, write_errors}
+use Rattle.fast_recording.specs.Faults.{EndsInSizeBy, OfDevice, Refuses, count_more, counted_behind, counts_refused, counts_taken, fault_at, next_fault, write_errors}
 use Rattle.fast_recording.specs.Made.{MadeBefore, Numbering, Writing, WritesMade}
 use Rattle.fast_recording.specs.Packets.{BreaksNumbered, CameOf, FaultOf, IsMissing}
-use Rattle.fast_recording.specs.Passing.{AreFew, Ends, EndsBy, IsEnd, Passes, by_bytes, by_cause}
-use Rattle.fast_recording.specs.Recorded.{EndsInSize, Grows, HasCome, Outputs, RecordsAll, RecordsBefore, RecordsCut, RecordsFront, Why, messages_of, outputs, read_of, summary_of}
-use Rattle.fast_recording.specs.Told.{line_for, told_from}
+use Rattle.fast_recording.specs.Passing.{AreFew, Ends, IsEnd, Passes, by_cause}
+use Rattle.fast_recording.specs.Recorded.{EndsInSize, Grows, Outputs, RecordsAll, RecordsBefore, RecordsCut, RecordsFront, Why, outputs, read_of, summary_of}
+use Rattle.fast_recording.specs.Told.{line_for}
 use Rattle.fast_recording.specs.declared.fault.PacketFault.{PacketFault}
 use Rattle.fast_recording.specs.declared.halt.Halt.{Halt}
 use Rattle.fast_recording.specs.declared.packet.Taken.{Taken as PacketTaken}
 use Rattle.fast_recording.specs.declared.summary.RecordingSummary.{RecordingSummary}
 use Rattle.fast_recording.proofs.Passings.{all_read, few, messages_more, refused_few, refused_more, stops_few, told_one, written_one}
 use Rattle.fast_recording.proofs.Relayed.{breaks, breaks_telling, counts_more, cuts_off, record_on, same_summary, stops_before, stops_between, stops_told}
-use Rattle.fast_recording.proofs.Wholes.{begin_is, faulty_within, front_written, next_number, packets_are, read_is, same_fault}
+use Rattle.fast_recording.proofs.Wholes.{begin_is, faulty_within, front_written, next_number, read_is, same_fault}
 
 -- a device's cause is none of bytes
 of_device : (cause c : Cause) → IsEnd cause → c ≢ Cause.Truncated → c ≢ Cause.Read → c ≢ Cause.Turns → c ≡ cause → ⊥
@@ -199,7 +199,7 @@ module _ (goes_on : Bool) (level : Level) (set : List Resolved) (numbering : Num
           let h = subst (λ (x : PacketFault). Refuses goes_on x now.told later.told (Ok (Some g))) same r in (
             h.0,
             stops_before goes_on level set W (by_cause cause) bytes out last g p h.0 outcome (text, made, refl) wrote h.2 (rw (h.1) refl) (rw (h.1) refl)
-            (λ e. ended_so ms f faulty (sym (ap (λ (x : PacketFault). x.fault.cause) h.1) ∙ e)),
+                (λ e. ended_so ms f faulty (sym (ap (λ (x : PacketFault). x.fault.cause) h.1) ∙ e)),
           )
 
       grows : Refuses goes_on (fault_at after.packets (count_more before.read behind) f) now.told later.told (Ok None) → Grows now later out (line_for (length p.outcomes + 1) (refusal_in last))
@@ -247,7 +247,7 @@ module _ (goes_on : Bool) (level : Level) (set : List Resolved) (Writes : Writin
         let h = subst (λ (x : PacketFault). Refuses goes_on x now.told later.told (Ok (Some g))) size_same r in (
           h.0,
           stops_before goes_on level set Writes why bytes [] size_last g p h.0 size_outcome (nothing (length p.outcomes + 1) (size_place (length front)) cause) size_written h.2 (rw (h.1) refl) (rw (h.1) refl)
-          (λ e. ended (sym (ap (λ (x : PacketFault). x.fault.cause) h.1) ∙ e)),
+              (λ e. ended (sym (ap (λ (x : PacketFault). x.fault.cause) h.1) ∙ e)),
         )
 
     size_counts : after ≡ summary_of (p.outcomes ++ sizeless (size_place (length front)) cause ∷ []) (length (front ++ bytes)) (length (p.out ++ []))

@@ -1,18 +1,17 @@
 -- Lemmas on what comes of packets, one behind the other.
-use Rattle.std.proofs.Common.{Bool, true, false, List, ℕ, zero, suc, [], ◌∷◌, ◌++◌, ◌+◌, ◌<◌, ◌≤◌, ◌≡◌, ◌⊎◌, inl, inr, Option, Some, None, length, map, refl, sym, ap, subst, ◌∙◌, arith, append-nil, append_assoc, length-append}
+use Rattle.std.proofs.Common.{Bool, true, false, List, ℕ, suc, [], ◌∷◌, ◌++◌, ◌+◌, ◌≤◌, ◌≡◌, inl, length, map, refl, sym, ap, subst, ◌∙◌, arith, append-nil, append_assoc, length-append}
 use Rattle.fast_wire.specs.declared.level.Level.{Level}
 use Rattle.fast_template.specs.Resolved.{Resolved}
 use Rattle.fast_stream.specs.declared.fault.Cause.{Cause}
 use Rattle.fast_stream.specs.declared.place.Place.{Place}
-use Rattle.fast_stream.specs.Blocks.{at_start}
-use Rattle.fast_stream.specs.Modes.{Carries, plainly}
+use Rattle.fast_stream.specs.Modes.{plainly}
 use Rattle.fast_stream.specs.Nodes.{Content}
 use Rattle.fast_machine.proofs.Followings.{all_carried, few_messages}
 use Rattle.fast_packets.specs.Recordings.{Packet}
-use Rattle.fast_packets.specs.Outcomes.{Behind, Onward, Outcome, Outcomes, RefusesPacket, Stops, accepted, refusal_in, refused, sizeless}
+use Rattle.fast_packets.specs.Outcomes.{Onward, Outcome, Outcomes, RefusesPacket, Stops, accepted, refusal_in, refused, sizeless}
 use Rattle.fast_recording.specs.Told.{line_for, told_from}
 use Rattle.fast_recording.specs.Made.{Writing, WrittenOf}
-use Rattle.fast_recording.specs.Recorded.{count_refusal, messages_in, messages_of, read_of, refused_in}
+use Rattle.fast_recording.specs.Recorded.{messages_in, messages_of, read_of, refused_in}
 use Rattle.fast_recording.specs.Passing.{Settled, SettledOne}
 
 -- ---- what is written, told and counted

@@ -1,5 +1,5 @@
 -- Lemmas on the reads of a recording.
-use Rattle.std.proofs.Common.{List, ℕ, ◌++◌, ◌+◌, ◌*◌, ◌≤◌, ◌^◌, ◌≡◌, ◌≢◌, ◌⊎◌, inl, inr, length, sym, ap, subst, ◌∙◌, arith, length-append}
+use Rattle.std.proofs.Common.{List, ℕ, ◌++◌, ◌*◌, ◌≤◌, ◌^◌, ◌≡◌, ◌≢◌, ◌⊎◌, inl, inr, length, sym, ap, subst, ◌∙◌, arith, length-append}
 use Rattle.fast_io.specs.Counts.{counted}
 use Rattle.fast_decoder.specs.Inputs.{Reader}
 use Rattle.fast_stream.specs.declared.fault.Cause.{Cause}

@@ -1,5 +1,5 @@
 -- Lemmas on a recording on its way: one packet more, and how a run ends.
-use Rattle.std.proofs.Common.{Bool, true, false, List, ℕ, [], ◌∷◌, ◌++◌, ◌+◌, ◌≤◌, ◌^◌, ◌≡◌, ◌≢◌, ◌⊎◌, inl, inr, Option, Some, None, length, map, refl, sym, ap, subst, ◌∙◌, arith, append-nil, append_assoc, length-append}
+use Rattle.std.proofs.Common.{Bool, true, false, List, ℕ, [], ◌∷◌, ◌++◌, ◌+◌, ◌≤◌, ◌^◌, ◌≡◌, ◌⊎◌, inl, Option, Some, None, length, map, refl, sym, ap, subst, ◌∙◌, arith, append-nil, append_assoc, length-append}
 use Rattle.std.specs.Io.KnownBytes.{Appends}
 use Rattle.fast_io.proofs.Outputs.{Appends-nil, Appends-trans}
 use Rattle.fast_io.specs.Counts.{counted_by}
@@ -8,13 +8,12 @@ use Rattle.fast_wire.specs.declared.level.Level.{Level}
 use Rattle.fast_template.specs.Resolved.{Resolved}
 use Rattle.fast_stream.specs.declared.fault.Cause.{Cause}
 use Rattle.fast_stream.specs.declared.fault.Fault.{Fault}
-use Rattle.fast_stream.specs.declared.place.Place.{Place}
 use Rattle.fast_stream.specs.Nodes.{Content}
 use Rattle.fast_packets.specs.Outcomes.{Outcome, Outcomes, accepted, refusal_in, refused, sizeless}
 use Rattle.fast_recording.specs.Told.{line_for, told_from}
 use Rattle.fast_recording.specs.Made.{FrontWritten, Writing, WrittenOf}
 use Rattle.fast_recording.specs.Faults.{count_refused, counts_taken}
-use Rattle.fast_recording.specs.Recorded.{EndsInSize, Grows, HasAccepted, HasCome, IsCutAt, Outputs, Recorded, RecordsAll, RecordsBefore, RecordsCut, RecordsFront, Why, count_refusal, messages_in, messages_of, read_of, refused_in, summary_of}
+use Rattle.fast_recording.specs.Recorded.{EndsInSize, Grows, HasCome, IsCutAt, Outputs, Recorded, RecordsAll, RecordsBefore, RecordsCut, RecordsFront, Why, count_refusal, messages_of, read_of, refused_in, summary_of}
 use Rattle.fast_recording.specs.Passing.{AreFew, Passes, Settled, SettledOne, nothing_counted}
 use Rattle.fast_recording.specs.declared.fault.PacketFault.{PacketFault}
 use Rattle.fast_recording.specs.declared.packet.Taken.{Taken as PacketTaken}
@@ -36,7 +35,6 @@ summary_by p r m b w = record { packets = p; refused = r; messages = m; read = b
 
 pub same_summary : (p p' r r' m m' b b' w w' : ℕ) → p ≡ p' → r ≡ r' → m ≡ m' → b ≡ b' → w ≡ w' → summary_by p r m b w ≡ summary_by p' r' m' b' w'
 same_summary p p' r r' m m' b b' w w' e f g h i = rw (e, f, g, h, i) refl
-
 
 counted_refusal : (n : ℕ) (o : Option Fault) → n ≤ 2 ^ 60 → count_refused n o ≡ n + count_refusal o
 counted_refusal n None few = omega arith

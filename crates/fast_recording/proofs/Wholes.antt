@@ -1,8 +1,6 @@
 -- What comes of one packet, put behind those before.
-use Rattle.std.proofs.Common.{Bool, true, false, List, ℕ, [], ◌∷◌, ◌++◌, ◌+◌, ◌≤◌, ◌<◌, ◌^◌, ◌≡◌, ◌≢◌, ◌⊎◌, inl, inr, Option, Some, None, Result, Ok, Err, drop, take, length, refl, sym, ap, subst, ◌∙◌, arith, append-nil, append_assoc, length-append}
-use Rattle.std.proofs.lemmas.List.{take-append-drop, length-take}
+use Rattle.std.proofs.Common.{Bool, true, List, ℕ, [], ◌++◌, ◌+◌, ◌≤◌, ◌^◌, ◌≡◌, ◌⊎◌, inl, inr, Option, Some, None, Result, Ok, Err, drop, length, refl, sym, ap, subst, ◌∙◌, arith, append-nil, append_assoc, length-append}
 use Rattle.std.specs.Io.KnownBytes.{Appends}
-use Rattle.fast_io.proofs.Outputs.{Appends-nil}
 use Rattle.fast_io.specs.Counts.{counted_by}
 use Rattle.fast_wire.specs.declared.level.Level.{Level}
 use Rattle.fast_template.specs.Resolved.{Resolved}
@@ -13,15 +11,13 @@ use Rattle.fast_stream.specs.Blocks.{block_cause}
 use Rattle.fast_stream.specs.Nodes.{Content}
 use Rattle.fast_pass.specs.Relays.{Making}
 use Rattle.fast_pass.specs.declared.stop.Stop.{Stop}
-use Rattle.fast_packets.specs.Recordings.{Packet}
-use Rattle.fast_packets.specs.Outcomes.{CutPacket, Outcome, Outcomes, RefusesPacket, Stops, accepted, placed_behind, refusal_in, refused, size_place, sizeless}
-use Rattle.fast_recording.specs.Begins.{IsPacketAt, IsPartAt}
+use Rattle.fast_packets.specs.Outcomes.{Outcome, RefusesPacket, Stops, accepted, placed_behind, refused}
+use Rattle.fast_recording.specs.Begins.{IsPacketAt}
 use Rattle.fast_recording.specs.Faults.{Refuses, Settles, count_more, counts_taken, fault_at}
 use Rattle.fast_recording.specs.Made.{FrontWritten, MadeBefore, MadePacket, Numbering, Writing, WritesMade}
 use Rattle.fast_recording.specs.Packets.{BreaksNumbered, FaultOf, IsMissing, TakesNumbered}
-use Rattle.fast_recording.specs.Passing.{After, AreFew, Ends, EndsBy, IsEnd, Passes, SettledOne, by_bytes, by_cause}
-use Rattle.fast_recording.specs.Recorded.{Grows, HasCome, Outputs, RecordsFront, read_of}
-use Rattle.fast_recording.specs.Told.{refused_line_of}
+use Rattle.fast_recording.specs.Passing.{After, AreFew, Passes, by_bytes}
+use Rattle.fast_recording.specs.Recorded.{Outputs, RecordsFront, read_of}
 use Rattle.fast_recording.specs.declared.fault.PacketFault.{PacketFault}
 use Rattle.fast_recording.specs.declared.halt.Halt.{Halt}
 use Rattle.fast_recording.specs.declared.packet.Taken.{Taken as PacketTaken}
@@ -124,8 +120,8 @@ module _ (goes_on : Bool) (level : Level) (set : List Resolved) (numbering : Num
         inl (
           r.0,
           stops_before goes_on level set W by_bytes (bytes ++ more) (numbering (length p.outcomes + 1) text) (refused ms (placed_behind (length front + behind) f.place) f.cause) g p r.0
-          (refused_last goes_on level set ms (placed_behind (length front + behind) f.place) f.cause (length front) bytes more r.0 (refuses_packet ms f faulty)) (text, made, refl) wrote r.2 (rw (r.1) refl) (rw (r.1) refl)
-          (λ e. absurd (ends_whole ms f faulty (sym (ap (λ (x : PacketFault). x.fault.cause) r.1) ∙ e))),
+              (refused_last goes_on level set ms (placed_behind (length front + behind) f.place) f.cause (length front) bytes more r.0 (refuses_packet ms f faulty)) (text, made, refl) wrote r.2 (rw (r.1) refl) (rw (r.1) refl)
+              (λ e. absurd (ends_whole ms f faulty (sym (ap (λ (x : PacketFault). x.fault.cause) r.1) ∙ e))),
         )
     refused_whole taken (Err e) ms text f made faulty wrote messages written is_fault counts r =
         let told = r.2 in

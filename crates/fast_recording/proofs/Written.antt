@@ -1,5 +1,5 @@
 -- What is written of packets, said in other words.
-use Rattle.std.proofs.Common.{Bool, false, List, ℕ, [], ◌∷◌, ◌++◌, ◌+◌, ◌≡◌, ◌⊎◌, inl, inr, Option, Some, Result, Ok, Err, length, map, refl, sym, ap, ◌∙◌}
+use Rattle.std.proofs.Common.{Bool, false, List, ℕ, [], ◌∷◌, ◌++◌, ◌+◌, ◌≡◌, inl, inr, Some, Result, Ok, Err, length, map, sym, ap, ◌∙◌}
 use Rattle.fast_wire.specs.declared.level.Level.{Level}
 use Rattle.fast_template.specs.Resolved.{Resolved}
 use Rattle.fast_template.specs.TemplateSets.{TemplateList, templates_in}
@@ -9,9 +9,9 @@ use Rattle.fast_told.specs.Told.{lines_of_set}
 use Rattle.fast_told.proofs.SameLines.{same_lines}
 use Rattle.fast_pass.specs.Relays.{Making}
 use Rattle.fast_packets.specs.Outcomes.{Outcome, accepted, refused, sizeless}
-use Rattle.fast_recording.specs.Calls.{LinesOfPacket, WritesLines, is_numbered}
+use Rattle.fast_recording.specs.Calls.{WritesLines, is_numbered}
 use Rattle.fast_recording.specs.Made.{FrontWritten, Writing, WritesMade, WrittenOf, numbering_of}
-use Rattle.fast_recording.specs.Recorded.{Outputs, Recorded, RecordsAll, RecordsBefore, RecordsCut, RecordsFront, RecordsPackets, Why}
+use Rattle.fast_recording.specs.Recorded.{Outputs, Recorded, RecordsFront, RecordsPackets, Why}
 use Rattle.fast_recording.specs.declared.fault.RecordingFault.{RecordingFault}
 use Rattle.fast_recording.specs.declared.summary.RecordingSummary.{RecordingSummary}
 use Rattle.fast_recording.proofs.Numbered.{nothing_numbered}

@@ -1,25 +1,23 @@
 -- What is answered and written of a recording by each call.
-use Rattle.std.specs.Prelude.{◌≡◌, ◌≤◌, ◌⊎◌, ℕ, Bool, true, false, List, [], ◌++◌, length, map, Option, Some, None, Result, Ok, Err}
+use Rattle.std.specs.Prelude.{◌≡◌, ◌≤◌, ◌⊎◌, ℕ, Bool, true, false, List, [], length, map, Option, Some, None, Result, Ok, Err}
 use Rattle.std.specs.Io.KnownBytes.{Appends}
 use Rattle.fast_decoder.specs.Inputs.{Reader, Reads}
 use Rattle.fast_wire.specs.declared.level.Level.{Level}
-use Rattle.fast_template.specs.Resolved.{Resolved}
 use Rattle.fast_template.specs.TemplateSets.{TemplateList, templates_in}
 use Rattle.fast_stream.specs.declared.fault.Cause.{Cause}
 use Rattle.fast_stream.specs.Nodes.{Content}
 use Rattle.fast_lines.specs.declared.form.Form.{Form}
 use Rattle.fast_lines.specs.declared.form.Form.TheVariants.{Text, Json}
 use Rattle.fast_lines.specs.Lines.{lines_in}
-use Rattle.fast_pass.specs.Relays.{Making}
 use Rattle.fast_writer.specs.Canonical.{IsCanonical}
-use Rattle.fast_packets.specs.Outcomes.{FirstRefusal, Outcome, accepted, refused, sizeless}
+use Rattle.fast_packets.specs.Outcomes.{FirstRefusal, accepted, refused, sizeless}
 use Rattle.fast_packets.specs.Recordings.{CarriesPackets}
 use Rattle.fast_packet_laws.specs.CanonicalRecordings.{IsCanonicalRecording}
 use Rattle.fast_recording.specs.declared.fault.PacketFault.{PacketFault}
 use Rattle.fast_recording.specs.declared.fault.RecordingFault.{RecordingFault}
 use Rattle.fast_recording.specs.declared.mode.PacketMode.{PacketMode}
 use Rattle.fast_recording.specs.declared.summary.RecordingSummary.{RecordingSummary}
-use Rattle.fast_recording.specs.Made.{Numbering, Writing, WritesMade, numbering_of, unnumbered}
+use Rattle.fast_recording.specs.Made.{Writing, WritesMade, numbering_of, unnumbered}
 use Rattle.fast_recording.specs.Recorded.{Outputs, RecordsBy, RecordsCut, RecordsFront, Why, by_reader, messages_in, outputs}
 
 -- ---- show

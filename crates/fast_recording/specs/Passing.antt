@@ -8,12 +8,11 @@ use Rattle.fast_template.specs.Resolved.{Resolved}
 use Rattle.fast_template.specs.TemplateSets.{IsSound}
 use Rattle.fast_dictionary.specs.declared.entries.Entries.{Ghosts}
 use Rattle.fast_stream.specs.declared.fault.Cause.{Cause}
-use Rattle.fast_stream.specs.declared.fault.Fault.{Fault}
 use Rattle.fast_stream.specs.Modes.{plainly}
 use Rattle.fast_walk.specs.declared.receiver.Receiver.{Ghosts as Receiving}
 use Rattle.fast_machine.specs.declared.machine.Machine.{Machine}
 use Rattle.fast_machine.specs.Following.{mode_of}
-use Rattle.fast_packets.specs.Outcomes.{Accepts, Behind, Outcome, RefusesPacket, accepted, placed_behind, refused, sizeless}
+use Rattle.fast_packets.specs.Outcomes.{Accepts, Behind, Outcome, RefusesPacket, accepted, refused, sizeless}
 use Rattle.fast_recording.specs.Told.{told_from}
 use Rattle.fast_recording.specs.Made.{Writing, WrittenOf}
 use Rattle.fast_recording.specs.Packets.{Rests}

@@ -56,7 +56,16 @@ pub fn canonicalise_packets<R: ByteInput, W: ByteOutput>(
         keep_going: false,
         numbered: false,
     };
-    pass_packets(alloc, set, manner, Writer::new(alloc), reader, writer, &mut teller, turns)
+    pass_packets(
+        alloc,
+        set,
+        manner,
+        Writer::new(alloc),
+        reader,
+        writer,
+        &mut teller,
+        turns,
+    )
 }
 
 /// Reads a recording as `canonicalise_packets` does, and writes nothing: it answers what that would count. Where it keeps
@@ -90,7 +99,16 @@ pub fn check_packets<R: ByteInput, T: ByteOutput>(
         keep_going: mode.keep_going,
         numbered: false,
     };
-    pass_packets(alloc, set, manner, Writer::new(alloc), reader, &mut nowhere, teller, turns)
+    pass_packets(
+        alloc,
+        set,
+        manner,
+        Writer::new(alloc),
+        reader,
+        &mut nowhere,
+        teller,
+        turns,
+    )
 }
 
 // Shows a recording by the signs of a form.

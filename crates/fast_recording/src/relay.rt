@@ -115,8 +115,17 @@ fn take_whole<O: PacketOutput, W: ByteOutput, T: ByteOutput, E: Entries>(
     let stream = &bytes[behind..];
     let size = &mut progress.buffer;
     let lines = &mut progress.lines;
-    let taken = take_numbered(machine, alloc, manner, number, stream, None, size, lines, writer)?;
-    settle(manner.keep_going, taken, behind, bytes.len(), progress, teller)
+    let taken = take_numbered(
+        machine, alloc, manner, number, stream, None, size, lines, writer,
+    )?;
+    settle(
+        manner.keep_going,
+        taken,
+        behind,
+        bytes.len(),
+        progress,
+        teller,
+    )
 }
 
 // Takes the packets that these bytes begin with, one behind the other.
@@ -154,7 +163,9 @@ fn take_packets<O: PacketOutput, W: ByteOutput, T: ByteOutput, E: Entries>(
             }
             Begin::Whole(behind, end) => {
                 let packet = &rest[..end];
-                match take_whole(machine, alloc, manner, progress, packet, behind, writer, teller)? {
+                match take_whole(
+                    machine, alloc, manner, progress, packet, behind, writer, teller,
+                )? {
                     None => at += end,
                     Some(refused) => return Ok(Came::Refused(refused)),
                 }
@@ -238,7 +249,9 @@ fn end_in_packet<O: PacketOutput, W: ByteOutput, T: ByteOutput, E: Entries>(
     let cut = Some(cause);
     let size = &mut progress.buffer;
     let lines = &mut progress.lines;
-    let taken = take_numbered(machine, alloc, manner, number, come, cut, size, lines, writer)?;
+    let taken = take_numbered(
+        machine, alloc, manner, number, come, cut, size, lines, writer,
+    )?;
     match fault_of_device(taken.fault, cause) {
         Some(fault) => {
             let place = place_behind(begin, fault.place);
@@ -247,7 +260,14 @@ fn end_in_packet<O: PacketOutput, W: ByteOutput, T: ByteOutput, E: Entries>(
                 fault: Fault { cause, place },
             }))
         }
-        None => match settle(manner.keep_going, taken, behind, bytes.len(), progress, teller)? {
+        None => match settle(
+            manner.keep_going,
+            taken,
+            behind,
+            bytes.len(),
+            progress,
+            teller,
+        )? {
             Some(refused) => Ok(Some(refused)),
             None => match cause {
                 Cause::Truncated => Ok(None),
@@ -349,7 +369,9 @@ fn relay<O: PacketOutput, R: ByteInput, W: ByteOutput, T: ByteOutput, E: Entries
         let ended = read_more(reader, &mut chunk, &mut held)?;
         match ended {
             Some(cause) => {
-                return end(machine, alloc, manner, progress, &held, unread, cause, writer, teller);
+                return end(
+                    machine, alloc, manner, progress, &held, unread, cause, writer, teller,
+                );
             }
             None => {}
         }
@@ -363,7 +385,17 @@ fn relay<O: PacketOutput, R: ByteInput, W: ByteOutput, T: ByteOutput, E: Entries
             Came::Refused(refused) => return Ok(Some(refused)),
         }
     }
-    end(machine, alloc, manner, progress, &held, unread, Cause::Turns, writer, teller)
+    end(
+        machine,
+        alloc,
+        manner,
+        progress,
+        &held,
+        unread,
+        Cause::Turns,
+        writer,
+        teller,
+    )
 }
 
 // Passes a recording through a machine that has read nothing, and flushes the writer where the relay went to an end or a
@@ -389,7 +421,9 @@ fn pass_by<O: PacketOutput, R: ByteInput, W: ByteOutput, T: ByteOutput, E: Entri
     ensures tell { T.errors teller.new ≡ tells_failed result (T.errors teller.old) }
     ensures flush { FlushesOnce result (W.flushes writer.old) (W.flushes writer.new) }
 {
-    match relay(machine, alloc, manner, progress, reader, writer, teller, turns) {
+    match relay(
+        machine, alloc, manner, progress, reader, writer, teller, turns,
+    ) {
         Err(Halt::Write) => Err(RecordingFault::Write),
         Err(Halt::Tell) => Err(RecordingFault::Tell),
         Err(Halt::Memory) => Err(RecordingFault::Memory),
@@ -452,5 +486,14 @@ pub(crate) fn pass_packets<O: PacketOutput, R: ByteInput, W: ByteOutput, T: Byte
         lines: PacketLines::new(alloc),
     };
     // (the machine is let go in one place)
-    pass_by(&mut machine, alloc, manner, &mut progress, reader, writer, teller, turns)
+    pass_by(
+        &mut machine,
+        alloc,
+        manner,
+        &mut progress,
+        reader,
+        writer,
+        teller,
+        turns,
+    )
 }

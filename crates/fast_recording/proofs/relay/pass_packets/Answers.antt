@@ -1,4 +1,4 @@
-use Rattle.std.proofs.Common.{[], arith, inr, sym, ap}
+use Rattle.std.proofs.Common.{[], arith, inr}
 use Rattle.std.specs.FinMap as finite
 use Rattle.fast_decoder.proofs.Inputs.{none_read}
 use Rattle.fast_template.specs.TemplateSets.{templates_in}

@@ -1,4 +1,4 @@
-use Rattle.std.proofs.Common.{◌≡◌, ◌++◌, ◌+◌, ◌∙◌, ◌⊎◌, List, ℕ, [], Some, None, Ok, Err, arith, refl, inl, inr, drop, take, length, ap, sym, subst, append-nil, append_assoc, take-append-drop}
+use Rattle.std.proofs.Common.{◌≡◌, ◌++◌, ◌+◌, ◌∙◌, List, ℕ, Some, None, arith, drop, take, ap, sym, append-nil, append_assoc, take-append-drop}
 use Rattle.std.proofs.lemmas.Result.{err_from_is_err_and}
 use Rattle.fast_decoder.proofs.Inputs.{more_read}
 use Rattle.fast_decoder.specs.Inputs.{Reads, told_by}
@@ -6,8 +6,7 @@ use Rattle.fast_stream.specs.declared.fault.Cause.{Cause}
 use Rattle.fast_template.specs.TemplateSets.{templates_in}
 use Rattle.fast_machine.proofs.Calls.{same_on}
 use Rattle.fast_recording.specs.Made.{WritesMade, numbering_of}
-use Rattle.fast_recording.specs.Passing.{Comes, EndsBy, Ends, by_bytes}
-use Rattle.fast_recording.specs.Recorded.{RecordsFront, by_reader, outputs}
+use Rattle.fast_recording.specs.Recorded.{by_reader, outputs}
 use Rattle.fast_recording.proofs.Flushed.{answers_front, ended_by_bytes, ended_by_reader}
 use Rattle.fast_recording.proofs.Readings.{few_read, more_open, reader_ended, reader_failed}
 use Rattle.fast_recording.proofs.Relayed.{breaks_between}
@@ -73,7 +72,7 @@ returns-in-Some-clause-answer g c =
       whole,
       omega (arith, some),
       ended_by_reader m.keep_going m.level set Writes (c.reads.reads + 1 ≡ c.args.turns) from now c.in-Some.cause c.end.new.progress.counts old _ (front ++ c.deref.result.now) c.end.result
-      (reader_ended from mid now c.in-Some.cause v.still on.2) (reader_failed (c.reads.reads + 1 ≡ c.args.turns) from mid now c.in-Some.cause v.still on.2) ends,
+          (reader_ended from mid now c.in-Some.cause v.still on.2) (reader_failed (c.reads.reads + 1 ≡ c.args.turns) from mid now c.in-Some.cause v.still on.2) ends,
     )
 
 pub returns-in_err-came-clause-answer : goal.returns-in_err-came-clause-answer
@@ -170,8 +169,8 @@ reads-preserved g c =
     let at = c.in-Open.at in
     let left : c.forget.new.held.items ≡ drop at c.deref-in-reads.result.now = c.forget.ensures ∙ ap (λ (z : List ℕ). drop at z) (sym c.deref-in-reads.ensures.value) in
     let parts : (front ++ take at c.deref-in-reads.result.now) ++ c.forget.new.held.items ≡ front ++ (held ++ got) =
-        ap (λ (z : List ℕ). (front ++ take at c.deref-in-reads.result.now) ++ z) left ∙ append_assoc front (take at c.deref-in-reads.result.now) (drop at c.deref-in-reads.result.now)
-        ∙ ap (λ (z : List ℕ). front ++ z) (take-append-drop at c.deref-in-reads.result.now ∙ bytes) in
+    ap (λ (z : List ℕ). (front ++ take at c.deref-in-reads.result.now) ++ z) left ∙ append_assoc front (take at c.deref-in-reads.result.now) (drop at c.deref-in-reads.result.now)
+    ∙ ap (λ (z : List ℕ). front ++ z) (take-append-drop at c.deref-in-reads.result.now ∙ bytes) in
     record {
       few = omega (arith, some);
       ready = e.ready;

@@ -1,4 +1,4 @@
-use Rattle.std.proofs.Common.{◌≡◌, ap, ◌∙◌, sym}
+use Rattle.std.proofs.Common.{◌≡◌, ap}
 use Rattle.fast_stream.specs.declared.mode.Mode.{Mode}
 use Rattle.fast_recording.proofs.Numbered.{numbered_taken}
 use Rattle.fast_recording.proofs.relay.take_numbered.Goals as goal

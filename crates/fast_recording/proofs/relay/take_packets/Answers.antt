@@ -1,9 +1,9 @@
-use Rattle.std.proofs.Common.{◌≡◌, ◌++◌, ◌+◌, ◌-◌, ◌∙◌, ◌⊎◌, List, ℕ, [], Some, None, Ok, Err, arith, refl, inl, inr, drop, take, length, ap, sym, subst}
+use Rattle.std.proofs.Common.{◌++◌, ◌-◌, ◌∙◌, List, ℕ, [], arith, refl, inl, inr, drop, take, length, ap, subst}
 use Rattle.std.proofs.lemmas.Result.{err_from_is_err_and}
 use Rattle.fast_template.specs.TemplateSets.{templates_in}
 use Rattle.fast_machine.proofs.Calls.{same_on}
 use Rattle.fast_recording.specs.Made.{WritesMade, numbering_of}
-use Rattle.fast_recording.specs.Passing.{EndsBy, by_bytes}
+use Rattle.fast_recording.specs.Passing.{by_bytes}
 use Rattle.fast_recording.specs.Recorded.{RecordsAll, RecordsBefore, RecordsFront, outputs}
 use Rattle.fast_recording.proofs.Fronts.{few_front, few_step, rest_is, rest_long, step_is, whole_is}
 use Rattle.fast_recording.proofs.Numbered.{nothing_numbered}

@@ -1,4 +1,4 @@
-use Rattle.std.proofs.Common.{◌≡◌, ◌∙◌, arith, refl, drop, None, Ok}
+use Rattle.std.proofs.Common.{◌∙◌, arith, refl, drop, None, Ok}
 use Rattle.std.proofs.lemmas.List.{take_rest}
 use Rattle.std.proofs.lemmas.Result.{err_from_is_err_and}
 use Rattle.fast_template.specs.TemplateSets.{templates_in}
