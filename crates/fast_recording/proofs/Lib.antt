@@ -2,6 +2,7 @@ pub mod Canonicals
 pub mod Flushed
 pub mod Fronts
 pub mod Handings
+pub mod Held
 pub mod Labels
 pub mod Machines
 pub mod Numbered

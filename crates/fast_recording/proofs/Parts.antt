@@ -21,7 +21,7 @@ use Rattle.fast_recording.specs.Faults.{EndsInSizeBy, OfDevice, Refuses, count_m
 use Rattle.fast_recording.specs.Made.{MadeBefore, Numbering, Writing, WritesMade}
 use Rattle.fast_recording.specs.Packets.{BreaksNumbered, CameOf, FaultOf, IsMissing}
 use Rattle.fast_recording.specs.Passing.{AreFew, Ends, IsEnd, Passes, by_cause}
-use Rattle.fast_recording.specs.Recorded.{EndsInSize, Grows, Outputs, RecordsAll, RecordsBefore, RecordsCut, RecordsFront, Why, outputs, read_of, summary_of}
+use Rattle.fast_recording.specs.Recorded.{HasAccepted, EndsInSize, Grows, Outputs, RecordsAll, RecordsBefore, RecordsCut, RecordsFront, Why, outputs, read_of, summary_of}
 use Rattle.fast_recording.specs.Told.{line_for}
 use Rattle.fast_recording.specs.declared.fault.PacketFault.{PacketFault}
 use Rattle.fast_recording.specs.declared.halt.Halt.{Halt}
@@ -58,24 +58,27 @@ not_device fault cause f is (inr h) = inr (h f is)
 module _ (goes_on : Bool) (level : Level) (set : List Resolved) (Writes : Writing) where
   -- ---- told, where the run goes on
 
+  goes_on_accepts : (os : List Outcome) → goes_on ≡ true → HasAccepted goes_on os
+  goes_on_accepts os on off = let both : true ≡ false = sym on ∙ off in absurd cc
+
   -- no more bytes come behind a packet that is refused and told: the recording has ended, or a device fails
   pub ends_told : {before after : RecordingSummary} {old now later : Outputs} {front : List ℕ} (bytes more : List ℕ) (o : Outcome) (cause : Cause) (p : Passes goes_on level set Writes before old now front) → goes_on ≡ true
       → Outcomes goes_on level set (length front) bytes (o ∷ []) → Writes (length p.outcomes + 1) o more → Grows now later more (line_for (length p.outcomes + 1) (refusal_in o))
       → after ≡ summary_of (p.outcomes ++ o ∷ []) (length (front ++ bytes)) (length (p.out ++ more)) → read_of (length (front ++ bytes)) (p.outcomes ++ o ∷ []) ≡ length (front ++ bytes) → AreFew front bytes → 1 ≤ length bytes → cause ≢ Cause.Truncated
       → RecordsCut (by_cause cause) goes_on level set Writes old later (front ++ bytes) (next_fault after cause)
-  ends_told {front = front} bytes more o cause p on are writes grows counts read bound some other =
-      let r = record_on goes_on level set Writes bytes more (o ∷ []) (o ∷ []) p are (written_one Writes o (length p.outcomes + 1) more writes) (rw (told_one (length p.outcomes + 1) o) grows) in
-      let os : (p.outcomes ++ o ∷ []) ++ [] ≡ p.outcomes ++ o ∷ [] = append-nil (p.outcomes ++ o ∷ []) in
+  ends_told {after = after} {front = front} bytes more o cause p on are writes grows counts read bound some other =
       let packets = ap (λ (c : RecordingSummary). c.packets) counts in
       let at = ap (λ (c : RecordingSummary). c.read) counts ∙ read in
       let less = few goes_on level set p.outcomes 0 front p.settled in
       let count = length-append p.outcomes (o ∷ []) in
+      let number : count_more after.packets 1 ≡ length (p.outcomes ++ o ∷ []) + 1 = omega (arith, packets, count, less.0, bound, some) in
+      let os : (p.outcomes ++ o ∷ []) ++ [] ≡ p.outcomes ++ o ∷ [] = append-nil (p.outcomes ++ o ∷ []) in
       record {
         outcomes = p.outcomes ++ o ∷ [];
         cut = [];
-        recorded = rw (os) r;
-        accepts = λ off. let both : true ≡ false = sym on ∙ off in absurd cc;
-        number_is = omega (arith, packets, count, less.0, bound, some);
+        recorded = rw (os) (record_on goes_on level set Writes bytes more (o ∷ []) (o ∷ []) p are (written_one Writes o (length p.outcomes + 1) more writes) (rw (told_one (length p.outcomes + 1) o) grows));
+        accepts = goes_on_accepts (p.outcomes ++ o ∷ []) on;
+        number_is = number;
         place_is = ap size_place at;
         failed = (refl, other);
       }

@@ -104,6 +104,11 @@ TakesPackets goes_on level Writes templates before after now later bytes result 
     → Passes goes_on level set (Writes set) before old now front
     → Comes goes_on level set (Writes set) after old later front bytes result
 
+-- what is left of the bytes is less than a packet with its size may have
+abbrev pub LeavesFew : List ℕ → Came → Type 0
+LeavesFew bytes (Came.Open at behind) = length (drop at bytes) ≤ 65544
+LeavesFew bytes came = Unit {0}
+
 -- a packet that is not whole, of which no more comes for a cause
 abbrev pub Ends : Cause → Bool → Level → List Resolved → Writing → RecordingSummary → Outputs → Outputs → List ℕ → Result (Option PacketFault) Halt → Type 0
 Ends cause goes_on level set Writes counts old new input (Ok refusal) = EndsBy (by_cause cause) goes_on level set Writes counts old new input refusal

@@ -1,6 +1,6 @@
 //! Recordings on their way through an output.
 
-ghost use Rattle.std.specs.Prelude.{◌≡◌, ◌≢◌, ◌≤◌, ◌^◌, ◌+◌, ◌++◌, ◌⊎◌, ◌∷◌, [], ℕ, List, Option, Ok, Err, OnOk, length, drop};
+ghost use Rattle.std.specs.Prelude.{◌≡◌, ◌≢◌, ◌≤◌, ◌^◌, ◌+◌, ◌++◌, ◌⊎◌, ◌∷◌, [], ℕ, List, Option, Ok, Err, IfOk, OnOk, length, drop};
 ghost use Rattle.std.specs.FinMap as finite;
 ghost use Rattle.fast_template.specs.TemplateSets.{IsSound, templates_in};
 ghost use Rattle.fast_walk.specs.Received.{handed_on};
@@ -11,7 +11,7 @@ ghost use Rattle.fast_recording.specs.Begins.{IsOpenAt, IsPacketAt, IsPartAt};
 ghost use Rattle.fast_recording.specs.Faults.{EndsInSizeBy, OfDevice, answer_of, next_fault, tell_errors, write_errors};
 ghost use Rattle.fast_recording.specs.Made.{WritesMade, number_of, numbering_of};
 ghost use Rattle.fast_recording.specs.Packets.{TakesNumbered};
-ghost use Rattle.fast_recording.specs.Passing.{EndsOpen, IsEnd, IsReady, ReadsMore, TakesOn, TakesPackets, nothing_counted};
+ghost use Rattle.fast_recording.specs.Passing.{EndsOpen, IsEnd, IsReady, LeavesFew, ReadsMore, TakesOn, TakesPackets, nothing_counted};
 ghost use Rattle.fast_recording.specs.Recorded.{FlushesOnce, RecordsBy, outputs, tells_failed, writes_failed};
 
 use crate::begin::{Begin, next_packet};
@@ -143,6 +143,7 @@ fn take_packets<O: PacketOutput, W: ByteOutput, T: ByteOutput, E: Entries>(
         (templates_in machine.old.traversal.set.now) progress.old.counts progress.new.counts
         (outputs (W.taken writer.old) (T.taken teller.old)) (outputs (W.taken writer.new) (T.taken teller.new))
         bytes.now result }
+    ensures few { IfOk result (LeavesFew bytes.now) }
     ensures ready { OnOk result (IsReady O.waiting manner.level machine.new) }
     ensures write { W.errors writer.new ≡ write_errors result (W.errors writer.old) }
     ensures tell { T.errors teller.new ≡ tell_errors result (T.errors teller.old) }

@@ -1,4 +1,5 @@
 use Rattle.std.proofs.Common.{◌++◌, ◌-◌, ◌∙◌, List, ℕ, [], arith, refl, inl, inr, drop, take, length, ap, subst}
+use Rattle.std.proofs.lemmas.List.{take_rest}
 use Rattle.std.proofs.lemmas.Result.{err_from_is_err_and}
 use Rattle.fast_template.specs.TemplateSets.{templates_in}
 use Rattle.fast_machine.proofs.Calls.{same_on}
@@ -6,6 +7,7 @@ use Rattle.fast_recording.specs.Made.{WritesMade, numbering_of}
 use Rattle.fast_recording.specs.Passing.{by_bytes}
 use Rattle.fast_recording.specs.Recorded.{RecordsAll, RecordsBefore, RecordsFront, outputs}
 use Rattle.fast_recording.proofs.Fronts.{few_front, few_step, rest_is, rest_long, step_is, whole_is}
+use Rattle.fast_recording.proofs.Held.{held_few}
 use Rattle.fast_recording.proofs.Numbered.{nothing_numbered}
 use Rattle.fast_recording.proofs.Parts.{size_answered, size_told, size_untold}
 use Rattle.fast_recording.proofs.relay.take_packets.Goals as goal
@@ -118,3 +120,6 @@ returns-in-Some-2-clause-takes g c = λ set old front set_is bound p.
     let e = c.in_ok-take_whole-in-Whole.ensures in
     let after = e.takes set old (front ++ take at B) (drop end (take (length B - at) (drop at B))) templates (few_step front B at end bound v.place c.in-Whole.ensures.1) passes in
     rw (← whole_is front B at end) (rw (c.in-Some-2.is) at after)
+
+pub returns-in-Open-clause-few : goal.returns-in-Open-clause-few
+returns-in-Open-clause-few g c = rw (take_rest c.args.bytes.now c.packets.at) at (held_few c.args.manner.level _ c.in-Open.behind c.in-Open.ensures)
