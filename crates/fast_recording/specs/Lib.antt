@@ -1,3 +1,12 @@
+pub mod Begins
+pub mod Calls
+pub mod Faults
+pub mod Handing
 pub mod Made
+pub mod PacketLines
 pub mod Packets
+pub mod Passing
+pub mod Recorded
 pub mod Sizes
+pub mod Told
+pub mod Touched

@@ -1,0 +1,184 @@
+//! Recordings whose refused packets are told of, and behind which the next one is read.
+
+use crate::runs::{Call, Given, counted, gives, loaded, refused, usually};
+use fast_recording::PacketMode;
+use fast_stream::Cause;
+use fast_wire::Level;
+use std::alloc::AllocError;
+use template_tests::texts::WORKED;
+
+const KEEPS_GOING: PacketMode = PacketMode {
+    level: Level::Usual,
+    keep_going: true,
+};
+
+const QUOTE_LINE: &str = "1 Quote Seq=1 Sym=\"AB\" Px=100e-2 Qty=-\n";
+
+// How many packets are refused, what is shown and told, and the counts.
+struct Row {
+    bytes: &'static [u8],
+    packets: u64,
+    refused: u64,
+    messages: u64,
+    read: u64,
+    canonical: u64,
+    quotes: usize,
+    told: &'static str,
+}
+
+#[test]
+fn refused_packets_are_told(rt: HostRuntime) -> Result<(), AllocError> {
+    const ROWS: &[Row] = &[
+        Row {
+            bytes: b"\x88\xf0\x81\x81\x41\xc2\xfe\x00\xe4",
+            packets: 1,
+            refused: 0,
+            messages: 1,
+            read: 9,
+            canonical: 9,
+            quotes: 1,
+            told: "",
+        },
+        // an unknown template between two quotes
+        Row {
+            bytes: b"\x88\xf0\x81\x81\x41\xc2\xfe\x00\xe4\x84\xc0\xff\x81\x82\x88\xf0\x81\x81\x41\xc2\xfe\x00\xe4",
+            packets: 3,
+            refused: 1,
+            messages: 2,
+            read: 23,
+            canonical: 18,
+            quotes: 2,
+            told: "refused D9 packet=2 message=1 offset=11 template=0 instruction=0\n",
+        },
+        // a packet ends inside a message, and its entries are not those of the next one
+        Row {
+            bytes: b"\x8a\xf0\x81\x81\x41\xc2\xfe\x00\xe4\x80\x80\x83\x80\x80\x81\x88\xf0\x81\x81\x41\xc2\xfe\x00\xe4",
+            packets: 3,
+            refused: 2,
+            messages: 2,
+            read: 24,
+            canonical: 9,
+            quotes: 2,
+            told: "refused BlockEnd packet=1 message=2 offset=10 template=1 instruction=3\nrefused D5 packet=2 message=1 offset=13 template=0 instruction=0\n",
+        },
+        // a size ends the run: behind it no packet is known
+        Row {
+            bytes: b"\x88\xf0\x81\x81\x41\xc2\xfe\x00\xe4\x80\x88\xf0\x81\x81\x41\xc2\xfe\x00\xe4",
+            packets: 2,
+            refused: 1,
+            messages: 1,
+            read: 9,
+            canonical: 9,
+            quotes: 1,
+            told: "refused D12 packet=2 message=1 offset=9 template=0 instruction=0\n",
+        },
+        // a size that is not whole
+        Row {
+            bytes: b"\x88\xf0\x81\x81\x41\xc2\xfe\x00\xe4\x01",
+            packets: 2,
+            refused: 1,
+            messages: 1,
+            read: 9,
+            canonical: 9,
+            quotes: 1,
+            told: "refused Truncated packet=2 message=1 offset=9 template=0 instruction=0\n",
+        },
+        // a packet that is not whole
+        Row {
+            bytes: b"\x90\xf0\x81\x81\x41\xc2\xfe\x00\xe4",
+            packets: 1,
+            refused: 1,
+            messages: 1,
+            read: 9,
+            canonical: 0,
+            quotes: 1,
+            told: "refused Truncated packet=1 message=2 offset=9 template=0 instruction=0\n",
+        },
+        // one that is not whole, and is refused for what has come of it
+        Row {
+            bytes: b"\x90\xc0\xff\x81",
+            packets: 1,
+            refused: 1,
+            messages: 0,
+            read: 4,
+            canonical: 0,
+            quotes: 0,
+            told: "refused D9 packet=1 message=1 offset=2 template=0 instruction=0\n",
+        },
+    ];
+    let alloc = rt.alloc();
+    let set = loaded(&rt, alloc, WORKED)?;
+    for row in ROWS {
+        for step in [1, 2, 7, 4096] {
+            let given = Given {
+                mode: KEEPS_GOING,
+                step,
+                ..usually(row.bytes)
+            };
+            let mut lines = Vec::new(alloc);
+            for _ in 0..row.quotes {
+                lines.extend_from_slice(QUOTE_LINE.as_bytes())?;
+            }
+            let shown = counted(
+                row.packets,
+                row.refused,
+                row.messages,
+                row.read,
+                lines.len() as u64,
+            );
+            gives(&rt, alloc, &set, Call::Show, given, shown, &lines, row.told)?;
+            let counts = counted(
+                row.packets,
+                row.refused,
+                row.messages,
+                row.read,
+                row.canonical,
+            );
+            gives(&rt, alloc, &set, Call::Check, given, counts, b"", row.told)?;
+        }
+    }
+    Ok(())
+}
+
+// A read that fails ends the run, behind what was told.
+#[test]
+fn devices_end_the_run(rt: HostRuntime) -> Result<(), AllocError> {
+    let alloc = rt.alloc();
+    let set = loaded(&rt, alloc, WORKED)?;
+    let bytes = b"\x82\xc0\xff\x88\xf0\x81\x81\x41\xc2\xfe\x00\xe4";
+    let told = "refused D9 packet=1 message=1 offset=2 template=0 instruction=0\n";
+    let given = Given {
+        mode: KEEPS_GOING,
+        step: 1,
+        failing: 9,
+        ..usually(bytes)
+    };
+    gives(
+        &rt,
+        alloc,
+        &set,
+        Call::Check,
+        given,
+        refused(Cause::Read, 2, 1, 7, 1, 2),
+        b"",
+        told,
+    )?;
+    // what has come of a packet is refused, and told
+    let bytes = b"\x90\xc0\xff\x81\x81";
+    let given = Given {
+        mode: KEEPS_GOING,
+        step: 1,
+        failing: 5,
+        ..usually(bytes)
+    };
+    gives(
+        &rt,
+        alloc,
+        &set,
+        Call::Check,
+        given,
+        refused(Cause::Read, 2, 1, 4, 0, 0),
+        b"",
+        told,
+    )
+}
