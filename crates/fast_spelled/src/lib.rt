@@ -62,3 +62,17 @@ ghost use Rattle.fast_spelled.specs.Laws.{HasTextNames};
 pub fn lines_are_text()
     ensures { (set : TemplateList) → HasTextNames set → HasTextLines set }
 {}
+
+ghost use Rattle.std.specs.Prelude.{◌<◌, ◌^◌};
+ghost use Rattle.fast_packets.specs.Numbered.{numbered};
+ghost use Rattle.fast_spelled.specs.Numbered.{SpellsIn};
+
+/// The line that `show --packets --json` writes of a message in a packet stands for that message in that packet, and for
+/// no other.
+pub fn numbered_lines_spell_their_messages()
+    ensures spelled { (set : TemplateList) (n : ℕ) (m : Content) (line : List ℕ) → IsSound set
+        → IsWithin m → IsUtf8 line → line_in Json set m ≡ Some line → 0 < n → n < 2 ^ 64
+        → SpellsIn set (numbered n line) n m }
+    ensures once { (set : TemplateList) (line : List ℕ) (n k : ℕ) (m l : Content)
+        → SpellsIn set line n m → SpellsIn set line k l → (n ≡ k) × (m ≡ l) }
+{}
