@@ -6,3 +6,4 @@ pub mod Refusals
 pub mod Readers
 mod WorkedRecordings
 pub mod Staying
+pub mod Labels
