@@ -1,0 +1,143 @@
+-- Lines behind what was read, or within it.
+use Rattle.std.proofs.Common.{◌≡◌, ◌⊎◌, ℕ, ◌+◌, ◌<◌, ◌≤◌, true, List, [], ◌∷◌, ◌++◌, length, take, drop, get_or, Option, Result, Ok, Err, inl, inr, refl, sym, ap, ◌∙◌, subst, arith, append_assoc, append-nil, take-append-drop}
+use Rattle.std.proofs.lemmas.List.{take_more}
+use Rattle.std.specs.FinMap as map
+use Rattle.std.specs.List.{list_all}
+use Rattle.std.specs.Io.KnownBytes.{Appends, IsAtEnd, Keeps}
+use Rattle.fast_io.specs.Counts.{counted, counted_by}
+use Rattle.fast_io.specs.Traffic.{Taken}
+use Rattle.fast_io.proofs.Outputs.{Appends-trans}
+use Rattle.fast_spelled.specs.Spelled.{lines_of}
+use Rattle.fast_spelled.specs.declared.fault.LineFault.{LineFault}
+use Rattle.fast_spelled.specs.declared.fault.LineCause.TheVariants.{Limit}
+use Rattle.fast_template.specs.TemplateSets.{TemplateList, templates_in}
+use Rattle.fast_write.specs.declared.fault.WriteFault.{WriteFault}
+use Rattle.fast_write.specs.declared.fault.WriteFault.TheVariants as refusal
+use Rattle.fast_write.specs.declared.output.OutputForm.{OutputForm}
+use Rattle.fast_write.specs.declared.summary.WrittenSummary.{WrittenSummary}
+use Rattle.fast_write.specs.Outputs.{ending_of, output_of, part_of}
+use Rattle.fast_write.specs.Written.{IsShort, Make, StopsFor, Writes, WritesAll, WritesBefore, WritesFront, is_no_feed, line_limit, size_of}
+use Rattle.fast_write.specs.Ways.{Breaks, Comes, Ends, EndsLine, Finishes, GoesOn, Hands, HandsOn, Here, IsCut, IsSameWay, Stands, Stops, StopsIn}
+use Rattle.fast_write.proofs.Cuts.{all_cut, clean_size, cut_begins, cut_line, cut_more, ends_between, ends_open, fed_size, next_line, too_long}
+use Rattle.fast_write.proofs.Made.{make_none}
+use Rattle.fast_write.proofs.Standing.{breaks, one_counted, part_append, part_nil, stands_at_first, stands_closed, stands_written}
+
+pub goes_at_first : (h : Here) (taken : Option (List ℕ)) → h.entries ≡ map.empty → h.ready ≡ [] → h.begun ≡ [] → h.counts ≡ record { lines = 0; messages = 0; written = 0 } → GoesOn h taken taken []
+goes_at_first h taken none empty begun counts = record { lines = []; is_cut = subst (IsCut [] []) (sym begun) cut_begins; stands = stands_at_first h taken none empty counts }
+
+-- bytes of a line that has not ended
+pub goes_on : {h : Here} {old new : Option (List ℕ)} {input : List ℕ} → GoesOn h old new input → (k : Here) (bytes : List ℕ) → list_all is_no_feed bytes ≡ true → k ≡ record h { begun = h.begun ++ bytes } → length (h.begun ++ bytes) ≤ line_limit
+    → GoesOn k old new (input ++ bytes)
+goes_on {h = h} {old = old} {new = new} {input = input} g k bytes clean is short =
+    subst (λ k. GoesOn k old new (input ++ bytes)) (sym is) (record { lines = g.lines; is_cut = cut_more g.is_cut bytes clean short; stands = stands_closed g.stands (h.begun ++ bytes) })
+
+-- what waits was written
+pub goes_handed : {h : Here} {old new : Option (List ℕ)} {input : List ℕ} → GoesOn h old new input → (k : Here) (newer : Option (List ℕ)) → HandsOn h k new newer → GoesOn k old newer input
+goes_handed {h = h} {input = input} g k newer w = record { lines = g.lines; is_cut = subst (IsCut input g.lines) (sym (ap (λ (h : Here). h.begun) w.is)) g.is_cut; stands = stands_written g.stands k newer w }
+
+-- ---- the end of a line
+
+pub fed_short : {h : Here} {old new : Option (List ℕ)} {input : List ℕ} → GoesOn h old new input → IsShort (h.begun ++ 10 ∷ [])
+fed_short {h = h} g = let size = fed_size h.begun g.is_cut.no_feed in let short = g.is_cut.short in omega (arith, size, short)
+
+pub open_short : {h : Here} {old new : Option (List ℕ)} {input : List ℕ} → GoesOn h old new input → IsShort h.begun
+open_short {h = h} g = let size = clean_size h.begun g.is_cut.no_feed in let short = g.is_cut.short in omega (arith, size, short)
+
+-- the line that ends with the next line feed was taken
+pub line_goes : {h : Here} {old new : Option (List ℕ)} {input : List ℕ} → (g : GoesOn h old new input) → (begun : List ℕ) → begun ≡ h.begun ++ 10 ∷ [] → (k : Here) (newer : Option (List ℕ)) → EndsLine (record h { begun = begun }) k old newer g.lines (Ok tt)
+    → GoesOn k old newer (input ++ 10 ∷ [])
+line_goes {h = h} {old = old} {input = input} g begun is k newer e = record {
+  lines = g.lines ++ (h.begun ++ 10 ∷ []) ∷ [];
+  is_cut = subst (IsCut (input ++ 10 ∷ []) (g.lines ++ (h.begun ++ 10 ∷ []) ∷ [])) (sym e.1) (cut_line g.is_cut);
+  stands = subst (λ (line : List ℕ). Stands k old newer (g.lines ++ line ∷ [])) is e.0;
+}
+
+-- it is refused, or a write behind it failed
+stops_before : (h k : Here) (old newer : Option (List ℕ)) (lines rest : List (List ℕ)) (whole : List ℕ) (f : WriteFault) → IsSameWay h k → lines_of whole ≡ lines ++ h.begun ∷ rest → EndsLine h k old newer lines (Err f) → Stops k old newer whole f
+stops_before h k old newer lines rest whole (refusal.Line n f) same cut e = record { lines = lines; rest = h.begun ∷ rest; cut = cut; stands = e.0; why = rw (same.set) (e.1 rest) }
+stops_before h k old newer lines rest whole (refusal.Message n template f) same cut e = record { lines = lines; rest = h.begun ∷ rest; cut = cut; stands = e.0; why = rw (same.set) (e.1 rest) }
+stops_before h k old newer lines rest whole refusal.Read same cut e = record { lines = lines; rest = h.begun ∷ rest; cut = cut; stands = e.0; why = tt }
+stops_before h k old newer lines rest whole refusal.Turns same cut e = record { lines = lines; rest = h.begun ∷ rest; cut = cut; stands = e.0; why = tt }
+stops_before h k old newer lines rest whole refusal.Memory same cut e = record { lines = lines; rest = h.begun ∷ rest; cut = cut; stands = e.0; why = tt }
+stops_before h k old newer lines rest whole refusal.Write same cut e = rw (same.form, same.set) (record {
+  lines = lines ++ h.begun ∷ [];
+  rest = rest;
+  out = e.out;
+  entries = e.entries;
+  cut = cut ∙ sym (append_assoc lines (h.begun ∷ []) rest);
+  made = e.made;
+  unwritten = e.unwritten;
+  written = e.written;
+})
+
+pub line_stops : {h : Here} {old new : Option (List ℕ)} {input : List ℕ} → (g : GoesOn h old new input) → (begun : List ℕ) → begun ≡ h.begun ++ 10 ∷ [] → (k : Here) (newer : Option (List ℕ)) (more whole : List ℕ) (f : WriteFault) → IsSameWay (record h { begun = begun }) k
+    → whole ≡ (input ++ 10 ∷ []) ++ more → EndsLine (record h { begun = begun }) k old newer g.lines (Err f) → Stops k old newer whole f
+line_stops {h = h} {old = old} g begun is k newer more whole f same w e =
+    stops_before (record h { begun = begun }) k old newer g.lines (lines_of more) whole f same (ap lines_of w ∙ next_line g.is_cut more ∙ ap (λ (line : List ℕ). g.lines ++ line ∷ lines_of more) (sym is)) e
+
+-- memory was refused for it
+pub memory_stops : {h : Here} {old new : Option (List ℕ)} {input : List ℕ} → GoesOn h old new input → (begun more whole : List ℕ) → whole ≡ input ++ more → Stops (record h { begun = begun }) old new whole refusal.Memory
+memory_stops {h = h} g begun more whole w = record { lines = g.lines; rest = lines_of (h.begun ++ more); cut = ap lines_of w ∙ g.is_cut.cut more; stands = stands_closed g.stands begun; why = tt }
+
+-- it is too long
+long_stops : {h : Here} {old new : Option (List ℕ)} {input : List ℕ} → GoesOn h old new input → (bytes more whole : List ℕ) (f : LineFault) → list_all is_no_feed bytes ≡ true → line_limit < length (h.begun ++ bytes) → f.cause ≡ Limit → whole ≡ input ++ (bytes ++ more)
+    → Stops h old new whole (refusal.Line (counted h.counts.lines) f)
+long_stops {h = h} {old = old} {new = new} g bytes more whole f clean long limit w =
+    let t = too_long g.is_cut bytes more clean long in
+    record {
+      lines = g.lines;
+      rest = t.0 ∷ t.1;
+      cut = ap lines_of w ∙ t.2;
+      stands = g.stands;
+      why = (ap (λ (c : WrittenSummary). counted c.lines) g.stands.counts ∙ one_counted (length g.lines), t.0, t.1, refl, inl (limit, t.3));
+    }
+
+-- why bytes of a line are not kept
+abbrev pub IsNotKept : Here → List ℕ → WriteFault → Type 0
+IsNotKept h bytes f = (f ≡ refusal.Memory) ⊎ ((fault : LineFault) × (f ≡ refusal.Line (counted h.counts.lines) fault) × (fault.cause ≡ Limit) × (line_limit < length (h.begun ++ bytes)))
+
+pub kept_stops : {h : Here} {old new : Option (List ℕ)} {input : List ℕ} → GoesOn h old new input → (k : Here) (bytes more whole : List ℕ) (f : WriteFault) → k ≡ h → list_all is_no_feed bytes ≡ true → IsNotKept h bytes f → whole ≡ input ++ (bytes ++ more) → Stops k old new whole f
+kept_stops {h = h} {old = old} {new = new} g k bytes more whole f is clean (inl none) w = rw (is, none) (memory_stops g h.begun (bytes ++ more) whole w)
+kept_stops {h = h} {old = old} {new = new} g k bytes more whole f is clean (inr x) w = rw (is, x.1) (long_stops g bytes more whole x.0 clean x.3 x.2 w)
+
+-- ---- bytes up to a line feed
+
+-- they are cut behind it
+pub fed_front : (bytes : List ℕ) (end : ℕ) → end < length bytes → get_or bytes end 0 ≡ 10 → take (end + 1) bytes ≡ take end bytes ++ 10 ∷ []
+fed_front bytes end inside feed = take_more bytes end 0 inside ∙ ap (λ (c : ℕ). take end bytes ++ c ∷ []) feed
+
+pub fed_on : (input bytes : List ℕ) (end : ℕ) → end < length bytes → get_or bytes end 0 ≡ 10 → (input ++ take end bytes) ++ 10 ∷ [] ≡ input ++ take (end + 1) bytes
+fed_on input bytes end inside feed = append_assoc input (take end bytes) (10 ∷ []) ∙ ap (λ (l : List ℕ). input ++ l) (sym (fed_front bytes end inside feed))
+
+-- what stands behind them
+pub whole_cut : (input bytes : List ℕ) (end : ℕ) → input ++ bytes ≡ input ++ (take end bytes ++ drop end bytes)
+whole_cut input bytes end = ap (λ (l : List ℕ). input ++ l) (sym (take-append-drop end bytes))
+
+pub whole_on : (input bytes : List ℕ) (end : ℕ) → input ++ bytes ≡ (input ++ take end bytes) ++ drop end bytes
+whole_on input bytes end = whole_cut input bytes end ∙ sym (append_assoc input (take end bytes) (drop end bytes))
+
+pub whole_fed : (input bytes : List ℕ) (end : ℕ) → end < length bytes → get_or bytes end 0 ≡ 10 → input ++ bytes ≡ ((input ++ take end bytes) ++ 10 ∷ []) ++ drop (end + 1) bytes
+whole_fed input bytes end inside feed = whole_on input bytes (end + 1) ∙ ap (λ (l : List ℕ). l ++ drop (end + 1) bytes) (sym (fed_on input bytes end inside feed))
+
+-- ---- the end of the input
+
+pub all_stand : {h : Here} {old new : Option (List ℕ)} {input : List ℕ} → GoesOn h old new input → length h.begun ≡ 0 → Stands h old new (lines_of input)
+all_stand {h = h} {old = old} {new = new} g none = subst (Stands h old new) (sym (ends_between g.is_cut none)) g.stands
+
+pub last_ends : {h : Here} {old new : Option (List ℕ)} {input : List ℕ} → (g : GoesOn h old new input) → (length h.begun ≡ 0 → ⊥) → (k : Here) (newer left : Option (List ℕ)) (r : Result (Unit {0}) WriteFault) → IsSameWay h k → IsAtEnd left → EndsLine h k old newer g.lines r
+    → Finishes k left old newer input r
+last_ends {old = old} g some k newer left (Ok x) same ended e = record { ended = ended; stands = subst (Stands k old newer) (sym (ends_open g.is_cut some)) e.0 }
+last_ends {h = h} {old = old} {input = input} g some k newer left (Err f) same ended e = stops_before h k old newer g.lines [] input f same (ends_open g.is_cut some) e
+
+-- the reads failed or are used up
+pub read_stops : {h : Here} {old new : Option (List ℕ)} {input : List ℕ} → GoesOn h old new input → Stops h old new input refusal.Read × Stops h old new input refusal.Turns
+read_stops {h = h} g = (
+  record { lines = g.lines; rest = lines_of h.begun; cut = all_cut g.is_cut; stands = g.stands; why = tt },
+  record { lines = g.lines; rest = lines_of h.begun; cut = all_cut g.is_cut; stands = g.stands; why = tt },
+)
+
+-- a write behind what was read failed
+pub write_stops : {h : Here} {old new : Option (List ℕ)} {input : List ℕ} → GoesOn h old new input → (k : Here) (newer : Option (List ℕ)) (f : WriteFault) → Hands h k new newer (Err f) → Stops k old newer input f
+write_stops {h = h} {old = old} {input = input} g k newer f w =
+    let b = breaks g.stands newer w.2 w.3 in
+    rw (w.0) (rw (w.1.form, w.1.set) (record { lines = g.lines; rest = lines_of h.begun; out = b.out; entries = b.entries; cut = all_cut g.is_cut; made = b.made; unwritten = b.unwritten; written = b.written }))

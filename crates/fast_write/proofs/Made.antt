@@ -1,0 +1,47 @@
+-- Lines, and the canonical bytes of their messages.
+use Rattle.std.proofs.Common.{◌≡◌, ◌⊎◌, ℕ, ◌+◌, ◌≤◌, true, List, [], ◌∷◌, ◌++◌, length, Option, inl, inr, refl, sym, ap, ◌∙◌, subst, arith, append_assoc, append-nil}
+use Rattle.std.specs.FinMap as map
+use Rattle.std.specs.List.{list_all, AllByRecursion}
+use Rattle.fast_template.specs.TemplateSets.{TemplateList, templates_in}
+use Rattle.fast_dictionary.specs.Dictionary.{Dictionary}
+use Rattle.fast_stream.specs.Nodes.{Content}
+use Rattle.fast_spelled.specs.Spelled.{Spell, Spells, is_blank}
+use Rattle.fast_writer.specs.Canonical.{CanonFrom, CanonMessage}
+use Rattle.fast_writer.proofs.Writers.{canon_more}
+use Rattle.fast_write.specs.Written.{IsShort, Make}
+
+pub all_short : (lines : List (List ℕ)) (line : List ℕ) → AllByRecursion IsShort lines → IsShort line → AllByRecursion IsShort (lines ++ line ∷ [])
+all_short [] line all one = (one, tt)
+all_short (l ∷ ls) line all one = (all.0, all_short ls line all.1 one)
+
+pub spell_blank : (set : TemplateList) (lines : List (List ℕ)) (ms : List Content) (line : List ℕ) → Spell set lines ms → list_all is_blank line ≡ true → Spell set (lines ++ line ∷ []) ms
+spell_blank set [] ms line h b = inl (b, h)
+spell_blank set (l ∷ ls) ms line (inl x) b = inl (x.0, spell_blank set ls ms line x.1 b)
+spell_blank set (l ∷ ls) ms line (inr x) b = inr (x.0, x.1, x.2, x.3, spell_blank set ls x.1 line x.4 b)
+
+pub spell_more : (set : TemplateList) (lines : List (List ℕ)) (ms : List Content) (line : List ℕ) (m : Content) → Spell set lines ms → Spells set line m → Spell set (lines ++ line ∷ []) (ms ++ m ∷ [])
+spell_more set [] ms line m h s = inr (m, [], ap (λ (l : List Content). l ++ m ∷ []) h, s, refl)
+spell_more set (l ∷ ls) ms line m (inl x) s = inl (x.0, spell_more set ls ms line m x.1 s)
+spell_more set (l ∷ ls) ms line m (inr x) s = inr (x.0, x.1 ++ m ∷ [], ap (λ (l : List Content). l ++ m ∷ []) x.2, x.3, spell_more set ls x.1 line m x.4 s)
+
+abbrev pub make_none : (set : TemplateList) (d : Dictionary) → d ≡ map.empty → Make set [] [] d
+make_none set d e = record { messages = []; short = tt; spelled = refl; canonical = (refl, e) }
+
+-- a blank line more
+abbrev pub make_blank : {set : TemplateList} {lines : List (List ℕ)} {bytes : List ℕ} {d : Dictionary} → Make set lines bytes d → (line : List ℕ) → IsShort line → list_all is_blank line ≡ true → Make set (lines ++ line ∷ []) bytes d
+make_blank {set = set} {lines = lines} m line short blank = record {
+  messages = m.messages;
+  short = all_short lines line m.short short;
+  spelled = spell_blank set lines m.messages line m.spelled blank;
+  canonical = m.canonical;
+}
+
+-- a message more
+abbrev pub make_more : {set : TemplateList} {lines : List (List ℕ)} {bytes : List ℕ} {d : Dictionary} → Make set lines bytes d → (line own : List ℕ) (message : Content) (after : Dictionary) → IsShort line → Spells set line message → CanonMessage (templates_in set) d own message after
+    → Make set (lines ++ line ∷ []) (bytes ++ own) after
+make_more {set = set} {lines = lines} {bytes = bytes} {d = d} m line own message after short spelled form = record {
+  messages = m.messages ++ message ∷ [];
+  short = all_short lines line m.short short;
+  spelled = spell_more set lines m.messages line message m.spelled spelled;
+  canonical = canon_more (templates_in set) m.messages message map.empty bytes own d after m.canonical form;
+}
