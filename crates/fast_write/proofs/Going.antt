@@ -1,6 +1,8 @@
 -- Lines behind what was read, or within it.
-use Rattle.std.proofs.Common.{◌≡◌, ◌⊎◌, ℕ, ◌+◌, ◌<◌, ◌≤◌, true, List, [], ◌∷◌, ◌++◌, length, take, drop, get_or, Option, Result, Ok, Err, inl, inr, refl, sym, ap, ◌∙◌, subst, arith, append_assoc, append-nil, take-append-drop}
-use Rattle.std.proofs.lemmas.List.{take_more}
+use Rattle.std.proofs.Common.{◌≡◌, ◌⊎◌, ℕ, ◌+◌, ◌<◌, ◌≤◌, true, List, [], ◌∷◌, ◌++◌, length, take, drop, get_or, Option, Result, Ok, Err, inl, inr, refl, sym, ap, ◌∙◌, subst, arith, append_assoc, append-nil, take-append-drop, length-drop, ◌-◌}
+use Rattle.std.proofs.Math.Seq.{take-add}
+use Rattle.std.proofs.lemmas.List.{take_more, take_rest}
+use Rattle.std.specs.Prelude.{IfErr}
 use Rattle.std.specs.FinMap as map
 use Rattle.std.specs.List.{list_all}
 use Rattle.std.specs.Io.KnownBytes.{Appends, IsAtEnd, Keeps}
@@ -16,8 +18,10 @@ use Rattle.fast_write.specs.declared.fault.WriteFault.TheVariants as refusal
 use Rattle.fast_write.specs.declared.output.OutputForm.{OutputForm}
 use Rattle.fast_write.specs.declared.summary.WrittenSummary.{WrittenSummary}
 use Rattle.fast_write.specs.Outputs.{ending_of, output_of, part_of}
-use Rattle.fast_write.specs.Written.{IsShort, Make, StopsFor, Writes, WritesAll, WritesBefore, WritesFront, is_no_feed, line_limit, size_of}
-use Rattle.fast_write.specs.Ways.{Breaks, Comes, Ends, EndsLine, Finishes, GoesOn, Hands, HandsOn, Here, IsCut, IsSameWay, Stands, Stops, StopsIn}
+use Rattle.fast_decoder.specs.Inputs.{Reader, Reads}
+use Rattle.fast_decoder.proofs.Inputs.{more_read}
+use Rattle.fast_write.specs.Written.{HasEnded, IsCausedBy, IsShort, Make, StopsFor, Writes, WritesAll, WritesBefore, WritesFront, is_no_feed, line_limit, size_of}
+use Rattle.fast_write.specs.Ways.{Answers, Breaks, Comes, Ends, EndsLine, Finishes, GoesOn, Hands, HandsOn, Here, IsCut, IsOfLine, IsSameWay, Stands, Stops, StopsIn}
 use Rattle.fast_write.proofs.Cuts.{all_cut, clean_size, cut_begins, cut_line, cut_more, ends_between, ends_open, fed_size, next_line, too_long}
 use Rattle.fast_write.proofs.Made.{make_none}
 use Rattle.fast_write.proofs.Standing.{breaks, one_counted, part_append, part_nil, stands_at_first, stands_closed, stands_written}
@@ -119,6 +123,22 @@ whole_on input bytes end = whole_cut input bytes end ∙ sym (append_assoc input
 pub whole_fed : (input bytes : List ℕ) (end : ℕ) → end < length bytes → get_or bytes end 0 ≡ 10 → input ++ bytes ≡ ((input ++ take end bytes) ++ 10 ∷ []) ++ drop (end + 1) bytes
 whole_fed input bytes end inside feed = whole_on input bytes (end + 1) ∙ ap (λ (l : List ℕ). l ++ drop (end + 1) bytes) (sym (fed_on input bytes end inside feed))
 
+-- why bytes are not kept is of their line
+pub of_kept : (h : Here) (bytes : List ℕ) (f : WriteFault) → IsNotKept h bytes f → IsOfLine f
+of_kept h bytes f (inl none) = subst IsOfLine (sym none) tt
+of_kept h bytes f (inr x) = subst IsOfLine (sym x.1) tt
+
+-- bytes up to a line feed behind others
+pub piece_place : (bytes : List ℕ) (at count : ℕ) → at ≤ length bytes → count ≤ length (take (length bytes - at) (drop at bytes)) → at + count ≤ length bytes
+piece_place bytes at count place few = let size = ap (λ (l : List ℕ). length l) (take_rest bytes at) ∙ length-drop at bytes in omega (arith, place, few, size)
+
+pub piece_on : (input bytes : List ℕ) (at count : ℕ) → (input ++ take at bytes) ++ take count (take (length bytes - at) (drop at bytes)) ≡ input ++ take (at + count) bytes
+piece_on input bytes at count =
+    append_assoc input (take at bytes) (take count (take (length bytes - at) (drop at bytes))) ∙ ap (λ (l : List ℕ). input ++ (take at bytes ++ take count l)) (take_rest bytes at) ∙ ap (λ (l : List ℕ). input ++ l) (sym (take-add at count bytes))
+
+pub piece_whole : (input bytes : List ℕ) (at : ℕ) → (input ++ take at bytes) ++ take (length bytes - at) (drop at bytes) ≡ input ++ bytes
+piece_whole input bytes at = append_assoc input (take at bytes) (take (length bytes - at) (drop at bytes)) ∙ ap (λ (l : List ℕ). input ++ (take at bytes ++ l)) (take_rest bytes at) ∙ ap (λ (l : List ℕ). input ++ l) (take-append-drop at bytes)
+
 -- ---- the end of the input
 
 pub all_stand : {h : Here} {old new : Option (List ℕ)} {input : List ℕ} → GoesOn h old new input → length h.begun ≡ 0 → Stands h old new (lines_of input)
@@ -135,6 +155,33 @@ read_stops {h = h} g = (
   record { lines = g.lines; rest = lines_of h.begun; cut = all_cut g.is_cut; stands = g.stands; why = tt },
   record { lines = g.lines; rest = lines_of h.begun; cut = all_cut g.is_cut; stands = g.stands; why = tt },
 )
+
+-- ---- causes
+
+-- the fault of a line has none in the reader
+pub caused_by_line : (f : WriteFault) (UsedUp : Type 0) (old new : Reader) → IsOfLine f → IsCausedBy {A = Unit {0}} (Err f) UsedUp old new
+caused_by_line (refusal.Line n x) UsedUp old new h = tt
+caused_by_line (refusal.Message n template x) UsedUp old new h = tt
+caused_by_line refusal.Read UsedUp old new h = absurd h
+caused_by_line refusal.Write UsedUp old new h = tt
+caused_by_line refusal.Turns UsedUp old new h = absurd h
+caused_by_line refusal.Memory UsedUp old new h = tt
+
+pub caused_by_end : (r : Result (Unit {0}) WriteFault) (UsedUp : Type 0) (old new : Reader) → HasEnded old new → IfErr r IsOfLine → IsCausedBy r UsedUp old new
+caused_by_end (Ok x) UsedUp old new ended h = ended
+caused_by_end (Err f) UsedUp old new ended h = caused_by_line f UsedUp old new h
+
+-- an answer that stays has its cause still
+pub still_caused : (r : Result (Unit {0}) WriteFault) (s : Result WrittenSummary WriteFault) (UsedUp : Type 0) (old new : Reader) → Answers r s → IsCausedBy r UsedUp old new → IsCausedBy s UsedUp old new
+still_caused (Ok x) (Ok summary) UsedUp old new a c = c
+still_caused (Ok x) (Err f) UsedUp old new (inl ok) c = absurd ok
+still_caused (Ok x) (Err f) UsedUp old new (inr is) c = rw is tt
+still_caused (Err f) s UsedUp old new (inl is) c = rw is c
+still_caused (Err f) s UsedUp old new (inr is) c = rw is tt
+
+-- a read that gave nothing
+pub more_none : (a b c : Reader) (k : ℕ) (got : List ℕ) → Reads a b k got → Reads b c 1 [] → Reads a c (k + 1) got
+more_none a b c k got r one = subst (Reads a c (k + 1)) (append-nil got) (more_read a b c k got [] r one)
 
 -- a write behind what was read failed
 pub write_stops : {h : Here} {old new : Option (List ℕ)} {input : List ℕ} → GoesOn h old new input → (k : Here) (newer : Option (List ℕ)) (f : WriteFault) → Hands h k new newer (Err f) → Stops k old newer input f

@@ -110,6 +110,12 @@ EndsLine old new before after lines (Ok x) = Stands new before after (lines ++ o
 EndsLine old new before after lines (Err WriteFault.Write) = Breaks old.form old.set before after (lines ++ old.begun ∷ [])
 EndsLine old new before after lines (Err f) = Stands new before after lines × ((more : List (List ℕ)) → StopsFor old.set new.entries lines (old.begun ∷ more) f)
 
+-- it is the fault of a line, or a write or memory was refused
+abbrev pub IsOfLine : WriteFault → Type 0
+IsOfLine WriteFault.Read = ⊥
+IsOfLine WriteFault.Turns = ⊥
+IsOfLine f = Unit {0}
+
 -- ---- what was read
 
 -- What was read of the input is these lines and the front of another, which has no line feed and is not too long.

@@ -1,6 +1,6 @@
 //! The calls of lines on their way.
 
-ghost use Rattle.std.specs.Prelude.{◌≡◌, ◌⊎◌, ◌≤◌, ◌<◌, ◌++◌, ℕ, IfOk, List, MatchResult, OnOk, Option, false, length, take};
+ghost use Rattle.std.specs.Prelude.{◌≡◌, ◌⊎◌, ◌≤◌, ◌<◌, ◌++◌, ℕ, IfErr, IfOk, List, MatchResult, OnOk, Option, false, length, take};
 ghost use Rattle.std.specs.List.{list_all};
 ghost use Rattle.std.specs.Io.KnownBytes.{IsAtEnd};
 ghost use Rattle.fast_io.specs.Counts.{counted};
@@ -9,7 +9,7 @@ ghost use Rattle.fast_spelled.specs.declared.fault.LineFault.{LineFault as SpecF
 ghost use Rattle.fast_spelled.specs.Spelled.{Spells, is_blank};
 ghost use Rattle.fast_stream.specs.Nodes.{content_of};
 ghost use Rattle.fast_write.specs.Written.{IsNoLine, IsShort, errors_behind, line_limit};
-ghost use Rattle.fast_write.specs.Ways.{Closes, Comes, EndsLine, Finishes, GoesOn, Hands, IsNotTaken, IsSameWay, Stands, Stops, TakesLine, here};
+ghost use Rattle.fast_write.specs.Ways.{Closes, Comes, EndsLine, Finishes, GoesOn, Hands, IsOfLine, IsSameWay, Stands, Stops, TakesLine, here};
 ghost use Rattle.fast_write.specs.declared.fault.WriteFault.TheVariants as refusal;
 
 use crate::fault::{WriteFault, of_line, of_message, of_whole};
@@ -105,6 +105,7 @@ impl<'a, E: Entries> Way<'a, E> {
             → Stands (here self.old) before (W.taken writer.old) lines
             → IsShort (here self.old).begun
             → EndsLine (here self.old) (here self.new) before (W.taken writer.new) lines result }
+        ensures of_line { IfErr result IsOfLine }
         ensures same { IsSameWay (here self.old) (here self.new) }
         ensures failed { W.errors writer.new ≡ errors_behind result (W.errors writer.old) }
         ensures flushes { W.flushes writer.new ≡ W.flushes writer.old }
@@ -152,6 +153,7 @@ impl<'a, E: Entries> Way<'a, E> {
             (λ count. GoesOn (here self.new) before (W.taken writer.new) (input ++ take count bytes.now))
             (λ f. Stops (here self.new) before (W.taken writer.new) (input ++ bytes.now) f) }
         ensures some { IfOk result (λ count. (0 < count) × (count ≤ length bytes.now)) }
+        ensures of_line { IfErr result IsOfLine }
         ensures same { IsSameWay (here self.old) (here self.new) }
         ensures failed { W.errors writer.new ≡ errors_behind result (W.errors writer.old) }
         ensures flushes { W.flushes writer.new ≡ W.flushes writer.old }
@@ -183,6 +185,7 @@ impl<'a, E: Entries> Way<'a, E> {
         ensures comes { (before : Option (List ℕ)) (input : List ℕ)
             → GoesOn (here self.old) before (W.taken writer.old) input
             → Comes (here self.new) before (W.taken writer.new) (input ++ bytes.now) result }
+        ensures of_line { IfErr result IsOfLine }
         ensures same { IsSameWay (here self.old) (here self.new) }
         ensures failed { W.errors writer.new ≡ errors_behind result (W.errors writer.old) }
         ensures flushes { W.flushes writer.new ≡ W.flushes writer.old }
@@ -202,6 +205,7 @@ impl<'a, E: Entries> Way<'a, E> {
         ensures finishes { (left before : Option (List ℕ)) (input : List ℕ) → IsAtEnd left
             → GoesOn (here self.old) before (W.taken writer.old) input
             → Finishes (here self.new) left before (W.taken writer.new) input result }
+        ensures of_line { IfErr result IsOfLine }
         ensures same { IsSameWay (here self.old) (here self.new) }
         ensures failed { W.errors writer.new ≡ errors_behind result (W.errors writer.old) }
         ensures flushes { W.flushes writer.new ≡ W.flushes writer.old }
