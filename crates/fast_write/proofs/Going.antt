@@ -20,7 +20,7 @@ use Rattle.fast_write.specs.declared.summary.WrittenSummary.{WrittenSummary}
 use Rattle.fast_write.specs.Outputs.{ending_of, output_of, part_of}
 use Rattle.fast_decoder.specs.Inputs.{Reader, Reads}
 use Rattle.fast_decoder.proofs.Inputs.{more_read}
-use Rattle.fast_write.specs.Written.{HasEnded, IsCausedBy, IsShort, Make, StopsFor, Writes, WritesAll, WritesBefore, WritesFront, is_no_feed, line_limit, size_of}
+use Rattle.fast_write.specs.Written.{HasEnded, IsCauseOf, IsCausedBy, IsShort, Make, StopsFor, Writes, WritesAll, WritesBefore, WritesFront, is_no_feed, line_limit, size_of}
 use Rattle.fast_write.specs.Ways.{Answers, Breaks, Comes, Ends, EndsLine, Finishes, GoesOn, Hands, HandsOn, Here, IsCut, IsOfLine, IsSameWay, Stands, Stops, StopsIn}
 use Rattle.fast_write.proofs.Cuts.{all_cut, clean_size, cut_begins, cut_line, cut_more, ends_between, ends_open, fed_size, next_line, too_long}
 use Rattle.fast_write.proofs.Made.{make_none}
@@ -159,7 +159,7 @@ read_stops {h = h} g = (
 -- ---- causes
 
 -- the fault of a line has none in the reader
-pub caused_by_line : (f : WriteFault) (UsedUp : Type 0) (old new : Reader) → IsOfLine f → IsCausedBy {A = Unit {0}} (Err f) UsedUp old new
+pub caused_by_line : (f : WriteFault) (UsedUp : Type 0) (old new : Reader) → IsOfLine f → IsCauseOf f UsedUp old new
 caused_by_line (refusal.Line n x) UsedUp old new h = tt
 caused_by_line (refusal.Message n template x) UsedUp old new h = tt
 caused_by_line refusal.Read UsedUp old new h = absurd h
@@ -174,10 +174,10 @@ caused_by_end (Err f) UsedUp old new ended h = caused_by_line f UsedUp old new h
 -- an answer that stays has its cause still
 pub still_caused : (r : Result (Unit {0}) WriteFault) (s : Result WrittenSummary WriteFault) (UsedUp : Type 0) (old new : Reader) → Answers r s → IsCausedBy r UsedUp old new → IsCausedBy s UsedUp old new
 still_caused (Ok x) (Ok summary) UsedUp old new a c = c
-still_caused (Ok x) (Err f) UsedUp old new (inl ok) c = absurd ok
-still_caused (Ok x) (Err f) UsedUp old new (inr is) c = rw is tt
-still_caused (Err f) s UsedUp old new (inl is) c = rw is c
-still_caused (Err f) s UsedUp old new (inr is) c = rw is tt
+still_caused (Ok x) (Err f) UsedUp old new (inl ok) c = absurd (cc ok)
+still_caused (Ok x) (Err f) UsedUp old new (inr is) c = subst (λ (s : Result WrittenSummary WriteFault). IsCausedBy s UsedUp old new) (sym is) tt
+still_caused (Err f) s UsedUp old new (inl is) c = subst (λ (s : Result WrittenSummary WriteFault). IsCausedBy s UsedUp old new) (sym is) c
+still_caused (Err f) s UsedUp old new (inr is) c = subst (λ (s : Result WrittenSummary WriteFault). IsCausedBy s UsedUp old new) (sym is) tt
 
 -- a read that gave nothing
 pub more_none : (a b c : Reader) (k : ℕ) (got : List ℕ) → Reads a b k got → Reads b c 1 [] → Reads a c (k + 1) got

@@ -6,3 +6,4 @@ pub mod Standing
 pub mod Going
 pub mod Finishing
 pub mod Withins
+pub mod Shown

@@ -1,3 +1,4 @@
 pub mod Outputs
 pub mod Written
 pub mod Ways
+pub mod Laws

@@ -131,8 +131,11 @@ abbrev pub HasEnded : Reader → Reader → Type 0
 HasEnded old new = (new.ends ≡ counted old.ends) × (new.errors ≡ old.errors)
 
 -- an answer has its cause in the counts of the reader
+abbrev pub IsCauseOf : WriteFault → Type 0 → Reader → Reader → Type 0
+IsCauseOf WriteFault.Read UsedUp old new = new.errors ≡ counted old.errors
+IsCauseOf WriteFault.Turns UsedUp old new = UsedUp × (new.ends ≡ old.ends)
+IsCauseOf f UsedUp old new = Unit {0}
+
 abbrev pub IsCausedBy : {A : Type 0} → Result A WriteFault → Type 0 → Reader → Reader → Type 0
 IsCausedBy (Ok x) UsedUp old new = HasEnded old new
-IsCausedBy (Err WriteFault.Read) UsedUp old new = new.errors ≡ counted old.errors
-IsCausedBy (Err WriteFault.Turns) UsedUp old new = UsedUp × (new.ends ≡ old.ends)
-IsCausedBy (Err f) UsedUp old new = Unit {0}
+IsCausedBy (Err f) UsedUp old new = IsCauseOf f UsedUp old new
