@@ -1,11 +1,11 @@
 -- Lines cut from what is read.
-use Rattle.std.proofs.Common.{◌≡◌, ℕ, zero, suc, ◌+◌, ◌<◌, ◌≤◌, Bool, true, false, not, ◌&&◌, ◌==◌, List, [], ◌∷◌, ◌++◌, length, filter, refl, sym, ap, ◌∙◌, subst, arith, append_assoc, append-nil, length-append}
+use Rattle.std.proofs.Common.{◌≡◌, ℕ, ◌+◌, ◌<◌, ◌≤◌, true, ◌==◌, List, [], ◌∷◌, ◌++◌, length, filter, refl, sym, ap, ◌∙◌, arith, append_assoc, append-nil, length-append}
 use Rattle.std.proofs.lemmas.Bool.{and_parts, not-true}
 use Rattle.std.proofs.lemmas.List.Elements.{filter-append}
 use Rattle.std.specs.List.{list_all}
 use Rattle.fast_spelled.specs.Spelled.{in_front, lines_of}
 use Rattle.fast_spelled.proofs.Feeds.{both_clean, split_line}
-use Rattle.fast_write.specs.Written.{is_no_feed, line_limit, size_of, IsShort}
+use Rattle.fast_write.specs.Written.{is_no_feed, line_limit, size_of}
 use Rattle.fast_write.specs.Ways.{IsCut}
 
 abbrev NoFeed : List ℕ → Type 0

@@ -1,5 +1,5 @@
 -- What is answered in the end.
-use Rattle.std.proofs.Common.{◌≡◌, ◌⊎◌, ℕ, ◌+◌, List, [], ◌∷◌, ◌++◌, length, Option, Result, Ok, Err, refl, sym, ap, ◌∙◌, subst, append_assoc, append-nil, length-append}
+use Rattle.std.proofs.Common.{◌≡◌, ℕ, List, [], ◌++◌, length, Option, Err, refl, sym, ap, ◌∙◌, subst, append_assoc, append-nil, length-append}
 use Rattle.std.specs.FinMap as map
 use Rattle.std.specs.Io.KnownBytes.{Appends}
 use Rattle.fast_io.specs.Counts.{counted_by}
@@ -12,7 +12,7 @@ use Rattle.fast_write.specs.declared.fault.WriteFault.TheVariants as refusal
 use Rattle.fast_write.specs.declared.output.OutputForm.{OutputForm}
 use Rattle.fast_write.specs.declared.summary.WrittenSummary.{WrittenSummary}
 use Rattle.fast_write.specs.Outputs.{ending_of, output_of, part_of}
-use Rattle.fast_write.specs.Written.{Make, Writes, WritesAll, WritesBefore, WritesFront}
+use Rattle.fast_write.specs.Written.{Writes, WritesAll, WritesBefore, WritesFront}
 use Rattle.fast_write.specs.Ways.{ClosesOn, Ends, Here, Stands, Stops, StopsIn}
 use Rattle.fast_write.proofs.Made.{make_none}
 use Rattle.fast_write.proofs.Standing.{more_counted, part_append, part_nil}

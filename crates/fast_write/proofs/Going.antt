@@ -5,26 +5,20 @@ use Rattle.std.proofs.lemmas.List.{take_more, take_rest}
 use Rattle.std.specs.Prelude.{IfErr}
 use Rattle.std.specs.FinMap as map
 use Rattle.std.specs.List.{list_all}
-use Rattle.std.specs.Io.KnownBytes.{Appends, IsAtEnd, Keeps}
-use Rattle.fast_io.specs.Counts.{counted, counted_by}
-use Rattle.fast_io.specs.Traffic.{Taken}
-use Rattle.fast_io.proofs.Outputs.{Appends-trans}
+use Rattle.std.specs.Io.KnownBytes.{IsAtEnd}
+use Rattle.fast_io.specs.Counts.{counted}
 use Rattle.fast_spelled.specs.Spelled.{lines_of}
 use Rattle.fast_spelled.specs.declared.fault.LineFault.{LineFault}
 use Rattle.fast_spelled.specs.declared.fault.LineCause.TheVariants.{Limit}
-use Rattle.fast_template.specs.TemplateSets.{TemplateList, templates_in}
 use Rattle.fast_write.specs.declared.fault.WriteFault.{WriteFault}
 use Rattle.fast_write.specs.declared.fault.WriteFault.TheVariants as refusal
-use Rattle.fast_write.specs.declared.output.OutputForm.{OutputForm}
 use Rattle.fast_write.specs.declared.summary.WrittenSummary.{WrittenSummary}
-use Rattle.fast_write.specs.Outputs.{ending_of, output_of, part_of}
 use Rattle.fast_decoder.specs.Inputs.{Reader, Reads}
 use Rattle.fast_decoder.proofs.Inputs.{more_read}
-use Rattle.fast_write.specs.Written.{HasEnded, IsCauseOf, IsCausedBy, IsShort, Make, StopsFor, Writes, WritesAll, WritesBefore, WritesFront, is_no_feed, line_limit, size_of}
-use Rattle.fast_write.specs.Ways.{Answers, Breaks, Comes, Ends, EndsLine, Finishes, GoesOn, Hands, HandsOn, Here, IsCut, IsOfLine, IsSameWay, Stands, Stops, StopsIn}
+use Rattle.fast_write.specs.Written.{HasEnded, IsCauseOf, IsCausedBy, IsShort, is_no_feed, line_limit}
+use Rattle.fast_write.specs.Ways.{Answers, EndsLine, Finishes, GoesOn, Hands, HandsOn, Here, IsCut, IsOfLine, IsSameWay, Stands, Stops}
 use Rattle.fast_write.proofs.Cuts.{all_cut, clean_size, cut_begins, cut_line, cut_more, ends_between, ends_open, fed_size, next_line, too_long}
-use Rattle.fast_write.proofs.Made.{make_none}
-use Rattle.fast_write.proofs.Standing.{breaks, one_counted, part_append, part_nil, stands_at_first, stands_closed, stands_written}
+use Rattle.fast_write.proofs.Standing.{breaks, one_counted, stands_at_first, stands_closed, stands_written}
 
 pub goes_at_first : (h : Here) (taken : Option (List ℕ)) → h.entries ≡ map.empty → h.ready ≡ [] → h.begun ≡ [] → h.counts ≡ record { lines = 0; messages = 0; written = 0 } → GoesOn h taken taken []
 goes_at_first h taken none empty begun counts = record { lines = []; is_cut = subst (IsCut [] []) (sym begun) cut_begins; stands = stands_at_first h taken none empty counts }

@@ -1,5 +1,5 @@
 -- What is answered of one line.
-use Rattle.std.proofs.Common.{◌≡◌, ◌⊎◌, ◌<◌, ℕ, false, List, [], ◌++◌, Option, Some, inl, inr, refl, sym, ap, ap₂, ◌∙◌, subst}
+use Rattle.std.proofs.Common.{◌≡◌, ◌⊎◌, ◌<◌, ℕ, false, List, ◌++◌, Some, inl, inr, refl, sym, ap, ap₂, ◌∙◌, subst}
 use Rattle.std.specs.List.{list_all}
 use Rattle.fast_io.specs.Counts.{counted}
 use Rattle.fast_wire.specs.declared.level.Level.TheVariants.{Usual}
@@ -15,8 +15,7 @@ use Rattle.fast_spelled.specs.declared.fault.LineCause.TheVariants as line_cause
 use Rattle.fast_spelled.specs.Spelled.{Spells, is_blank}
 use Rattle.fast_write.specs.declared.fault.WriteFault.{WriteFault}
 use Rattle.fast_write.specs.declared.fault.WriteFault.TheVariants as refusal
-use Rattle.fast_write.specs.declared.summary.WrittenSummary.{WrittenSummary}
-use Rattle.fast_write.specs.Written.{HasNoForm, IsNoLine}
+use Rattle.fast_write.specs.Written.{IsNoLine}
 use Rattle.fast_write.specs.Ways.{Here, IsNotTaken, IsOfLine, with_message}
 
 -- why no message is read of a line

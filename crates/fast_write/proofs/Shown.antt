@@ -1,5 +1,5 @@
 -- What is shown of a stream in JSON, written again, is its canonical bytes.
-use Rattle.std.proofs.Common.{◌≡◌, ◌⊎◌, ℕ, ◌<◌, ◌≤◌, ◌++◌, Bool, true, false, List, [], ◌∷◌, Option, Some, None, Result, Ok, Err, inl, inr, refl, sym, ap, subst, ◌∙◌, arith, append-nil, append_assoc}
+use Rattle.std.proofs.Common.{◌≡◌, ◌⊎◌, ℕ, ◌<◌, ◌++◌, true, false, List, [], ◌∷◌, Option, Some, Result, Ok, Err, inl, inr, refl, sym, ap, subst, ◌∙◌, arith}
 use Rattle.std.specs.FinMap as map
 use Rattle.std.specs.List.{AllByRecursion, list_all}
 use Rattle.fast_wire.specs.declared.level.Level.TheVariants.{Usual}
@@ -14,14 +14,9 @@ use Rattle.fast_stream.specs.Nodes.{Content, nodes_in, node_limit}
 use Rattle.fast_stream.specs.Streams.{MapAt, MessageForm}
 use Rattle.fast_stream.specs.Modes.{Carries}
 use Rattle.fast_stream.proofs.Weaker.{message_weaker}
-use Rattle.fast_lines.specs.declared.form.Form.TheVariants.{Json}
-use Rattle.fast_lines.specs.Lines.{lines_in}
 use Rattle.fast_writer.specs.Canonical.{CanonFrom, CanonMessage, IsCanonical, IsShortestMap}
 use Rattle.fast_writer.proofs.LawProofs.{canonical_carries}
 use Rattle.fast_canon.proofs.OneCanonical.{one_canonical}
-use Rattle.fast_pass.specs.declared.summary.Summary.{Summary}
-use Rattle.fast_command.specs.Run.{Runs}
-use Rattle.fast_command.specs.declared.command.Command.TheVariants.{Show, Canon}
 use Rattle.fast_nodes.specs.declared.fault.EncodeFault.{EncodeFault}
 use Rattle.fast_spelled.specs.declared.fault.LineFault.{LineFault}
 use Rattle.fast_spelled.specs.declared.fault.LineCause.TheVariants.{Limit}
@@ -33,7 +28,7 @@ use Rattle.fast_write.specs.declared.fault.WriteFault.TheVariants as refusal
 use Rattle.fast_write.specs.declared.output.OutputForm.{OutputForm}
 use Rattle.fast_write.specs.declared.summary.WrittenSummary.{WrittenSummary}
 use Rattle.fast_write.specs.Outputs.{output_of}
-use Rattle.fast_write.specs.Written.{IsShort, line_limit, size_of, Writes, WritesAll, WritesBefore, IsNoLine, HasNoForm, StopsFor, Make}
+use Rattle.fast_write.specs.Written.{IsShort, Writes, IsNoLine, HasNoForm, StopsFor, Make}
 use Rattle.fast_write.specs.Laws.{HasShortLines, IsWrittenAs, WritesWhatIsShown}
 use Rattle.fast_write.proofs.Withins.{carried_within}
 
@@ -67,9 +62,9 @@ among set (l ∷ ls) line more ms (inr x) = behind_line (among set ls line more 
     spelled = a.spelled;
   })
 
-one_of : {P : List ℕ → Type 0} (lines : List (List ℕ)) (line : List ℕ) (more : List (List ℕ)) → AllByRecursion P (lines ++ line ∷ more) → P line
-one_of [] line more h = h.0
-one_of (l ∷ ls) line more h = one_of ls line more h.1
+short_one : (lines : List (List ℕ)) (line : List ℕ) (more : List (List ℕ)) → AllByRecursion IsShort (lines ++ line ∷ more) → IsShort line
+short_one [] line more h = h.0
+short_one (l ∷ ls) line more h = short_one ls line more h.1
 
 -- ---- canonical bytes apart
 
@@ -108,29 +103,29 @@ module _ (set : TemplateList) (ms : List Content) (bytes text : List ℕ) (canon
 
   not_refused : (lines : List (List ℕ)) (line : List ℕ) (more : List (List ℕ)) (f : LineFault) → HasShortLines text → lines_of text ≡ lines ++ line ∷ more → IsNoLine set line f → ⊥
   not_refused lines line more f short cut (inl long) =
-      let least = one_of lines line more (subst (AllByRecursion IsShort) cut short) in
+      let least = short_one lines line more (subst (AllByRecursion IsShort) cut short) in
       let most = long.1 in
       absurd (omega (arith, least, most))
   not_refused lines line more f short cut (inr none) = go (among set lines line more ms (subst (λ ls. Spell set ls ms) cut spelled)) none.1 where
     go : (list_all is_blank line ≡ true) ⊎ Among set lines line ms → ((m : Content) → Spells set line m → ⊥) ⊎ ((f.cause ≡ Limit) × ((m : Content) → Spells set line m → node_limit < nodes_in m.items)) → ⊥
     go (inl b) w = no_blank line b none.0
-    go (inr a) (inl no) = no a.message a.spelled
+    go (inr a) (inl other) = other a.message a.spelled
     go (inr a) (inr many) =
         let few = (apart_at a.front a.message a.back a.whole).form.few in
         let more = many.1 a.message a.spelled in
         absurd (omega (arith, few, more))
 
   has_form : (lines : List (List ℕ)) (line : List ℕ) (more : List (List ℕ)) (out : List ℕ) (d : Dictionary) (template : ℕ) (f : EncodeFault) → lines_of text ≡ lines ++ line ∷ more → Make set lines out d → HasNoForm set line d template f → ⊥
-  has_form lines line more out d template f cut made no = go (among set lines line more ms (subst (λ ls. Spell set ls ms) cut spelled)) where
+  has_form lines line more out d template f cut made none = go (among set lines line more ms (subst (λ ls. Spell set ls ms) cut spelled)) where
     go : (list_all is_blank line ≡ true) ⊎ Among set lines line ms → ⊥
-    go (inl b) = blank_no_line set line no.message b no.spelled
+    go (inl b) = blank_no_line set line none.message b none.spelled
     go (inr a) =
         let x = apart_at a.front a.message a.back a.whole in
         let same_front : made.messages ≡ a.front = spelled_once set lines made.messages a.front made.spelled a.before in
-        let same : no.message ≡ a.message = same_message set line no.message a.message no.spelled a.spelled in
+        let same : none.message ≡ a.message = same_message set line none.message a.message none.spelled a.spelled in
         let earlier = subst (λ l. CanonFrom (templates_in set) map.empty out l d) same_front made.canonical in
         let same_entries : x.between ≡ d = (one_canonical (templates_in set) a.front map.empty map.empty x.between d x.before out refl x.earlier earlier).1 in
-        no.no_form x.own x.after (subst (λ m. MessageForm Usual (templates_in set) d x.own m x.after) (sym same)
+        none.no_form x.own x.after (subst (λ m. MessageForm Usual (templates_in set) d x.own m x.after) (sym same)
         (subst (λ e. MessageForm Usual (templates_in set) e x.own a.message x.after) same_entries (usual_form (templates_in set) x.between x.own a.message x.after x.form)))
 
   stopped : (form : OutputForm) (lines rest : List (List ℕ)) (out : List ℕ) (d : Dictionary) (f : WriteFault) (written : List ℕ) → HasShortLines text → lines_of text ≡ lines ++ rest → Make set lines out d → StopsFor set d lines rest f → IsWrittenAs (output_of form bytes) (Err f) written

@@ -1,5 +1,5 @@
 -- Lines that were taken: what was written, and what waits.
-use Rattle.std.proofs.Common.{◌≡◌, ◌⊎◌, ℕ, ◌+◌, ◌<◌, ◌≤◌, true, List, [], ◌∷◌, ◌++◌, length, Option, Result, Ok, Err, inl, inr, refl, sym, ap, ◌∙◌, subst, arith, append_assoc, append-nil, length-append}
+use Rattle.std.proofs.Common.{◌≡◌, ℕ, ◌+◌, List, [], ◌∷◌, ◌++◌, length, Option, Result, Ok, Err, inl, inr, refl, sym, ap, ◌∙◌, subst, arith, append_assoc, append-nil, length-append}
 use Rattle.std.specs.FinMap as map
 use Rattle.std.specs.Io.KnownBytes.{Appends}
 use Rattle.fast_io.specs.Counts.{counted, counted_by}
@@ -13,11 +13,11 @@ use Rattle.fast_write.specs.declared.fault.WriteFault.{WriteFault}
 use Rattle.fast_write.specs.declared.fault.WriteFault.TheVariants as refusal
 use Rattle.fast_write.specs.declared.output.OutputForm.{OutputForm}
 use Rattle.fast_write.specs.declared.summary.WrittenSummary.{WrittenSummary}
-use Rattle.fast_write.specs.Outputs.{ending_of, output_of, part_of}
-use Rattle.fast_write.specs.Written.{IsShort, Make, StopsFor}
+use Rattle.fast_write.specs.Outputs.{ending_of, part_of}
+use Rattle.fast_write.specs.Written.{IsShort, StopsFor}
 use Rattle.fast_write.specs.Ways.{Breaks, EndsLine, Hands, HandsOn, Here, IsNotTaken, IsSameWay, Stands, Takes, TakesLine, with_blank, with_message}
 use Rattle.fast_write.proofs.Digits.{encode-append}
-use Rattle.fast_write.proofs.Made.{make_blank, make_more, make_none}
+use Rattle.fast_write.proofs.Made.{make_blank, make_more}
 
 -- ---- parts of an output
 

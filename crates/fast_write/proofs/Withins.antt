@@ -1,17 +1,17 @@
 -- The values of messages that have a form are within their types.
-use Rattle.std.proofs.Common.{◌≡◌, ◌^◌, ◌<◌, ◌≤◌, ℕ, Bool, true, false, ℤ, List, [], ◌∷◌, ◌++◌, Option, Some, None, refl, sym, ap, subst, ◌∙◌, arith}
+use Rattle.std.proofs.Common.{◌≡◌, ◌^◌, ◌<◌, ℕ, Bool, true, false, ℤ, List, [], ◌∷◌, Option, Some, None, refl, sym, ap, subst}
 use Rattle.std.specs.Prelude.{IsTrue}
 use Rattle.std.specs.List.{AllByRecursion}
 use Rattle.std.specs.FinMap as map
 use Rattle.fast_wire.specs.declared.level.Level.TheVariants.{Usual}
-use Rattle.fast_value.specs.Scalar.{IsScalar, exponent_in_range}
+use Rattle.fast_value.specs.Scalar.{exponent_in_range}
 use Rattle.fast_value.specs.declared.kind.Part.{Part}
 use Rattle.fast_value.specs.declared.kind.Kind.{Kind}
 use Rattle.fast_value.specs.declared.kind.Presence.{Presence}
 use Rattle.fast_value.specs.declared.scalar.Scalar.{Scalar}
 use Rattle.fast_value.specs.declared.scalar.Scalar.TheVariants.{U32, I32, I64, Decimal}
 use Rattle.fast_template.specs.declared.resolved.FieldPart.{FieldPart}
-use Rattle.fast_template.specs.Resolved.{Instruction, Instructions, whole_field, field_in_parts, group_of, sequence_of, no_instructions, then_instruction, has_map, is_optional, Resolved}
+use Rattle.fast_template.specs.Resolved.{Instruction, Instructions, whole_field, field_in_parts, group_of, sequence_of, no_instructions, then_instruction, has_map}
 use Rattle.fast_template.specs.TemplateSets.{IsSound, TemplateList, templates_in, IsPartOf, HasTypedParts, HaveTypedParts}
 use Rattle.fast_dictionary.specs.Dictionary.{Dictionary, entry_at}
 use Rattle.fast_field.specs.Fields.{Form, within_part}
@@ -19,7 +19,7 @@ use Rattle.fast_field.specs.Parts.{IsFieldPart, IsKindOfPart}
 use Rattle.fast_field.specs.Within.{IsFieldValue}
 use Rattle.fast_field.proofs.FieldsWithin.{values_within}
 use Rattle.fast_stream.specs.Bits.{bit_for}
-use Rattle.fast_stream.specs.Bodies.{State, Then, WithMap, PartBy, SegmentBy, Each, PieceBy, BodyBy, written}
+use Rattle.fast_stream.specs.Bodies.{State, Then, WithMap, PartBy, SegmentBy, Each, PieceBy, BodyBy}
 use Rattle.fast_stream.specs.Nodes.{Item, single, group_items, sequence_elements, Items, no_items, then_item, Elements, no_elements, then_element, element_count, Content}
 use Rattle.fast_stream.specs.Streams.{MapAt, MessageForm, CarriesFrom, Carries, identifier, members_of, BodyOfBy}
 use Rattle.fast_stream.proofs.FoundMembers.{members_have}

@@ -1,6 +1,6 @@
 -- Lines on their way, as the code has them.
-use Rattle.std.specs.Prelude.{◌≡◌, ◌⊎◌, ◌≤◌, ◌<◌, ℕ, true, List, [], ◌∷◌, ◌++◌, length, Option, Result, Ok, Err, IsOk}
-use Rattle.std.specs.List.{list_all, AllByRecursion}
+use Rattle.std.specs.Prelude.{◌≡◌, ◌⊎◌, ◌≤◌, ℕ, true, List, [], ◌∷◌, ◌++◌, length, Option, Result, Ok, Err, IsOk}
+use Rattle.std.specs.List.{list_all}
 use Rattle.std.specs.Io.KnownBytes.{Appends, IsAtEnd}
 use Rattle.fast_io.specs.Counts.{counted, counted_by}
 use Rattle.fast_io.specs.Traffic.{Taken}
@@ -15,7 +15,7 @@ use Rattle.fast_write.specs.declared.output.OutputForm.{OutputForm}
 use Rattle.fast_write.specs.declared.summary.WrittenSummary.{WrittenSummary}
 use Rattle.fast_write.specs.declared.way.Way.{Way}
 use Rattle.fast_write.specs.Outputs.{output_of, part_of}
-use Rattle.fast_write.specs.Written.{HasNoForm, IsNoLine, IsShort, Make, StopsFor, WritesFront, is_no_feed, line_limit}
+use Rattle.fast_write.specs.Written.{HasNoForm, IsNoLine, Make, StopsFor, WritesFront, is_no_feed, line_limit}
 
 -- how far lines have come: the entries that their messages left, the canonical bytes that wait, the line that has not
 -- ended, and what was counted
