@@ -1,3 +1,5 @@
 pub mod Streams
 pub mod Machines
 pub mod Takings
+pub mod Labels
+pub mod Handings

@@ -1,5 +1,5 @@
 -- Lemmas on a machine that goes from packet to packet.
-use Rattle.std.proofs.Common.{Bool, true, false, List, ℕ, [], ◌∷◌, ◌++◌, ◌≡◌, ◌≢◌, ◌⊎◌, inr, Option, Some, None, OnOk, Result, Ok, Err, refl, sym, ap, subst, ◌∙◌, append-nil}
+use Rattle.std.proofs.Common.{Bool, true, false, List, ℕ, [], ◌∷◌, ◌++◌, ◌≡◌, ◌≢◌, ◌⊎◌, inr, Option, Some, None, OnOk, Result, Ok, Err, refl, sym, ap, subst, ◌∙◌, append-nil, length}
 use Rattle.std.proofs.lemmas.Bool.{true≢false}
 use Rattle.std.specs.FinMap as finite
 use Rattle.fast_wire.specs.Integer.{IsUnsigned}
@@ -21,8 +21,12 @@ use Rattle.fast_machine.specs.Following.{Follows, mode_of}
 use Rattle.fast_machine.specs.declared.machine.Machine.{Machine}
 use Rattle.fast_decoder.specs.declared.input.Reached.{Reached}
 use Rattle.fast_pass.proofs.Relayings.{IsMade, goes_on}
-use Rattle.fast_pass.specs.Relays.{HandsOn, Hands, HasMade, Making, Relays, Way, outset}
+use Rattle.fast_pass.specs.Relays.{HandsOn, HasMade, Making, Relays, Way, outset}
 use Rattle.fast_pass.specs.declared.stop.Stop.{Stop}
+use Rattle.fast_recording.proofs.Labels.{part_on, writes_on}
+use Rattle.fast_recording.specs.Handing.{HandsLines}
+use Rattle.fast_recording.specs.PacketLines.{Writes}
+use Rattle.fast_recording.specs.declared.packet_lines.PacketLines.{PacketLines}
 use Rattle.fast_recording.specs.Packets.{LeavesPacket, PutsPacket, Rests}
 
 -- what is reached is open where it is no end and no fault
@@ -70,17 +74,25 @@ pub all_handed : {O E : Type 0} {receiver : Receiving O} {entries : Ghosts E} {w
     → HandsOn waiting makes old new t u more count → waiting new.receiver ≡ [] → waiting old.receiver ≡ more
 all_handed {more = more} h empty = h.whole ∙ ap (λ (z : List ℕ). more ++ z) empty ∙ append-nil more
 
-module _ {O E : Type 0} {receiver : Receiving O} {entries : Ghosts E} (waiting : O → List ℕ) (makes : Making) (old new : Machine O E receiver entries) (t u : Option (List ℕ)) where
-  pub leaves_of : (result : Result ℕ Stop) (sized : Bool) → sized ≡ false → Hands waiting makes result old new t u → OnOk result (waiting new.receiver ≡ []) → LeavesPacket sized waiting result old new t u
+module _ {O E : Type 0} {receiver : Receiving O} {entries : Ghosts E} (waiting : O → List ℕ) (makes : Making) (x y : PacketLines) (old new : Machine O E receiver entries) (t u : Option (List ℕ)) where
+  pub leaves_of : (result : Result (Unit {0}) Stop) (sized : Bool) → sized ≡ false → HandsLines waiting makes result x y old new t u → OnOk result (waiting new.receiver ≡ []) → LeavesPacket sized waiting result x y old new t u
   leaves_of result true off h empty = absurd (true≢false off)
-  leaves_of (Ok count) false off h empty =
+  leaves_of (Ok done) false off h empty =
       let all = all_handed h.1 empty in
-      record { written = rw (all) h.1.written; count_is = rw (all) h.1.size_is; empty = empty; has = λ way x. rw (all) (h.1.has way x) }
-  leaves_of (Err s) false off h empty = inr (refl, h.0, h.1)
+      record { writes = rw (all) h.2; empty = empty; has = λ way x. rw (all) (h.1.has way x) }
+  leaves_of (Err s) false off h empty = inr (refl, h)
 
-  pub puts_of : (result : Result ℕ Stop) (sized : Bool) → sized ≡ false → Hands waiting makes result old new t u → OnOk result (waiting new.receiver ≡ []) → PutsPacket sized waiting result old new t u
+  pub puts_of : (result : Result (Unit {0}) Stop) (sized : Bool) → sized ≡ false → HandsLines waiting makes result x y old new t u → OnOk result (waiting new.receiver ≡ []) → PutsPacket sized waiting result x y old new t u
   puts_of result true off h empty = absurd (true≢false off)
-  puts_of (Ok count) false off h empty =
+  puts_of (Ok done) false off h empty =
       let all = all_handed h.1 empty in
-      record { size = []; leads = refl; written = rw (all) h.1.written; count_is = rw (all) h.1.size_is; empty = empty; has = λ way x. rw (all) (h.1.has way x) }
-  puts_of (Err s) false off h empty = inr ([], h.0, refl, h.1)
+      record { size = []; leads = refl; writes = rw (all) h.2; empty = empty; has = λ way x. rw (all) (h.1.has way x) }
+  puts_of (Err s) false off h empty = inr ([], refl, h)
+
+-- behind a size that was written
+pub puts_behind : {O E : Type 0} {receiver : Receiving O} {entries : Ghosts E} (waiting : O → List ℕ) (makes : Making) {x y : PacketLines} (z : PacketLines) (old new : Machine O E receiver entries) {t u : Option (List ℕ)} (v : Option (List ℕ)) (size : List ℕ) (result : Result (Unit {0}) Stop)
+    → IsShortest IsUnsigned size (length (waiting old.receiver)) → Writes x y t u size → HandsLines waiting makes result y z old new u v → OnOk result (waiting new.receiver ≡ []) → PutsPacket true waiting result x z old new t v
+puts_behind waiting makes z old new v size (Ok done) leads w h empty =
+    let all = all_handed h.1 empty in
+    record { size = size; leads = leads; writes = writes_on w (rw (all) h.2); empty = empty; has = λ way x. rw (all) (h.1.has way x) }
+puts_behind waiting makes z old new v size (Err s) leads w h empty = inr (size, leads, part_on (waiting old.receiver) w h)

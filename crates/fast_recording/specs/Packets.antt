@@ -2,10 +2,8 @@
 use Rattle.std.specs.Prelude.{◌≡◌, ◌≢◌, ◌⊎◌, ℕ, ◌+◌, Bool, true, false, List, [], ◌++◌, length, Option, Some, None, Result, Ok, Err, MatchResult}
 use Rattle.std.specs.Io.KnownBytes.{Appends}
 use Rattle.fast_io.specs.Counts.{counted_by}
-use Rattle.fast_io.specs.Traffic.{Taken}
 use Rattle.fast_wire.specs.declared.level.Level.{Level}
 use Rattle.fast_template.specs.Resolved.{Resolved}
-use Rattle.fast_template.specs.TemplateSets.{templates_in}
 use Rattle.fast_dictionary.specs.declared.entries.Entries.{Ghosts}
 use Rattle.fast_stream.specs.declared.fault.Cause.{Cause}
 use Rattle.fast_stream.specs.declared.fault.Fault.{Fault}
@@ -16,57 +14,57 @@ use Rattle.fast_stream.specs.Faults.{place_between}
 use Rattle.fast_stream.specs.Modes.{Carries, plainly}
 use Rattle.fast_walk.specs.declared.receiver.Receiver.{Ghosts as Receiving}
 use Rattle.fast_machine.specs.declared.machine.Machine.{Machine}
-use Rattle.fast_machine.specs.Following.{mode_of}
 use Rattle.fast_machine.specs.Standing.{Carried}
 use Rattle.fast_decoder.specs.declared.input.Reached.{Reached}
 use Rattle.fast_pass.specs.declared.stop.Stop.{Stop}
-use Rattle.fast_pass.specs.Relays.{Break, HasMade, IsOfBytes, Making, Step, Way, handing, outset}
+use Rattle.fast_pass.specs.Relays.{HasMade, IsOfBytes, Making, Way, handing, outset}
 use Rattle.fast_packets.specs.Outcomes.{Stops}
 use Rattle.fast_recording.specs.declared.packet.Taken.{Taken as PacketTaken}
-use Rattle.fast_recording.specs.Made.{FrontOfPacket, Leads, MadeBefore, MadePacket}
+use Rattle.fast_recording.specs.Handing.{BreakInLines, StepInLines, WritesFront}
+use Rattle.fast_recording.specs.Made.{Leads, MadeBefore, MadePacket}
+use Rattle.fast_recording.specs.PacketLines.{Writes}
+use Rattle.fast_recording.specs.declared.packet_lines.PacketLines.{PacketLines}
 
 -- all that an output made is handed on, and it has messages of the set
 abbrev pub Rests : {O E : Type 0} {receiver : Receiving O} {entries : Ghosts E} → (O → List ℕ) → Machine O E receiver entries → Type 0
 Rests waiting m = (waiting m.receiver ≡ []) × (way : Way) × HasMade m way
 
 -- A packet's bytes were read, as far as they go; what is made of them is handed on only where packets have no size.
-abbrev pub ReadsPacket : {O E : Type 0} {receiver : Receiving O} {entries : Ghosts E} → Bool → (O → List ℕ) → Making → Result (Reached × ℕ) Stop → Machine O E receiver entries → ℕ → Option (List ℕ) → Option (List ℕ) → Option (List ℕ) → List ℕ → Type 0
-ReadsPacket sized waiting makes result new turns left taken_old taken_new bytes = MatchResult result
-    (λ x. (s : Step waiting makes x.0 new turns left taken_old taken_new x.1 outset bytes (IsOfBytes x.0)) × (sized ≡ true → s.more ≡ []))
-    (λ s. (b : Break makes (mode_of new) (templates_in new.traversal.set.now) taken_old taken_new outset bytes) × (sized ≡ true → b.more ≡ []))
+abbrev pub ReadsPacket : {O E : Type 0} {receiver : Receiving O} {entries : Ghosts E} → Bool → (O → List ℕ) → Making → Result Reached Stop → PacketLines → PacketLines → Machine O E receiver entries → ℕ → Option (List ℕ) → Option (List ℕ) → Option (List ℕ) → List ℕ → Type 0
+ReadsPacket sized waiting makes result lines_old lines_new new turns left taken_old taken_new bytes = MatchResult result
+    (λ at. (s : StepInLines waiting makes at lines_old lines_new new turns left taken_old taken_new outset bytes (IsOfBytes at)) × (sized ≡ true → s.0 ≡ []))
+    (λ e. (b : BreakInLines makes lines_old new taken_old taken_new outset bytes) × (sized ≡ true → b.0 ≡ []))
 
--- What waits of a packet is handed on, behind its size.
-pub record Puts {O E : Type 0} {receiver : Receiving O} {entries : Ghosts E} (sized : Bool) (waiting : O → List ℕ) (count : ℕ) (old new : Machine O E receiver entries) (taken_old taken_new : Option (List ℕ)) : Type 0 where
+-- What waits of a packet is handed on and written, behind its size.
+pub record Puts {O E : Type 0} {receiver : Receiving O} {entries : Ghosts E} (sized : Bool) (waiting : O → List ℕ) (lines_old lines_new : PacketLines) (old new : Machine O E receiver entries) (taken_old taken_new : Option (List ℕ)) : Type 0 where
   pub size : List ℕ
   pub leads : Leads sized size (waiting old.receiver)
-  pub written : Appends taken_old taken_new (size ++ waiting old.receiver)
-  pub count_is : count ≡ counted_by 0 (length (size ++ waiting old.receiver))
+  pub writes : Writes lines_old lines_new taken_old taken_new (size ++ waiting old.receiver)
   pub empty : waiting new.receiver ≡ []
   pub has : (way : Way) → HasMade old way → HasMade new (handing way (waiting old.receiver))
 
 -- or a front of both is
-abbrev pub PutsPacket : {O E : Type 0} {receiver : Receiving O} {entries : Ghosts E} → Bool → (O → List ℕ) → Result ℕ Stop → Machine O E receiver entries → Machine O E receiver entries → Option (List ℕ) → Option (List ℕ) → Type 0
-PutsPacket sized waiting (Ok count) old new taken_old taken_new = Puts sized waiting count old new taken_old taken_new
-PutsPacket sized waiting (Err s) old new taken_old taken_new =
+abbrev pub PutsPacket : {O E : Type 0} {receiver : Receiving O} {entries : Ghosts E} → Bool → (O → List ℕ) → Result (Unit {0}) Stop → PacketLines → PacketLines → Machine O E receiver entries → Machine O E receiver entries → Option (List ℕ) → Option (List ℕ) → Type 0
+PutsPacket sized waiting (Ok done) lines_old lines_new old new taken_old taken_new = Puts sized waiting lines_old lines_new old new taken_old taken_new
+PutsPacket sized waiting (Err s) lines_old lines_new old new taken_old taken_new =
     Appends taken_old taken_new []
-    ⊎ ((size : List ℕ) × (rest : List ℕ) × Leads sized size (waiting old.receiver) × Taken taken_old taken_new (size ++ waiting old.receiver) rest)
+    ⊎ ((size : List ℕ) × Leads sized size (waiting old.receiver) × WritesFront lines_old taken_old taken_new (size ++ waiting old.receiver))
 
 -- what is written of a refused packet, of what waits
 abbrev pub kept_of : Bool → List ℕ → List ℕ
 kept_of true out = []
 kept_of false out = out
 
--- What waits of a refused packet is handed on, or dropped where it would have a size.
-pub record Leaves {O E : Type 0} {receiver : Receiving O} {entries : Ghosts E} (sized : Bool) (waiting : O → List ℕ) (count : ℕ) (old new : Machine O E receiver entries) (taken_old taken_new : Option (List ℕ)) : Type 0 where
-  pub written : Appends taken_old taken_new (kept_of sized (waiting old.receiver))
-  pub count_is : count ≡ counted_by 0 (length (kept_of sized (waiting old.receiver)))
+-- What waits of a refused packet is handed on and written, or dropped where it would have a size.
+pub record Leaves {O E : Type 0} {receiver : Receiving O} {entries : Ghosts E} (sized : Bool) (waiting : O → List ℕ) (lines_old lines_new : PacketLines) (old new : Machine O E receiver entries) (taken_old taken_new : Option (List ℕ)) : Type 0 where
+  pub writes : Writes lines_old lines_new taken_old taken_new (kept_of sized (waiting old.receiver))
   pub empty : waiting new.receiver ≡ []
   pub has : (way : Way) → HasMade old way → HasMade new (handing way (waiting old.receiver))
 
-abbrev pub LeavesPacket : {O E : Type 0} {receiver : Receiving O} {entries : Ghosts E} → Bool → (O → List ℕ) → Result ℕ Stop → Machine O E receiver entries → Machine O E receiver entries → Option (List ℕ) → Option (List ℕ) → Type 0
-LeavesPacket sized waiting (Ok count) old new taken_old taken_new = Leaves sized waiting count old new taken_old taken_new
-LeavesPacket sized waiting (Err s) old new taken_old taken_new =
-    Appends taken_old taken_new [] ⊎ ((sized ≡ false) × (rest : List ℕ) × Taken taken_old taken_new (waiting old.receiver) rest)
+abbrev pub LeavesPacket : {O E : Type 0} {receiver : Receiving O} {entries : Ghosts E} → Bool → (O → List ℕ) → Result (Unit {0}) Stop → PacketLines → PacketLines → Machine O E receiver entries → Machine O E receiver entries → Option (List ℕ) → Option (List ℕ) → Type 0
+LeavesPacket sized waiting (Ok done) lines_old lines_new old new taken_old taken_new = Leaves sized waiting lines_old lines_new old new taken_old taken_new
+LeavesPacket sized waiting (Err s) lines_old lines_new old new taken_old taken_new =
+    Appends taken_old taken_new [] ⊎ ((sized ≡ false) × WritesFront lines_old taken_old taken_new (waiting old.receiver))
 
 -- ---- what is answered
 
@@ -97,11 +95,15 @@ FoundBehind waiting makes level set cut way (Some f) new =
     × (f.cause ≢ Cause.Memory → FaultOf level set way.input cut way.messages f)
     × HasMade new way × makes set way.messages (way.handed ++ waiting new.receiver)
 
--- A packet was read and written, or a front of what is made of messages of it.
-abbrev pub TakesPacket : Bool → Making → Level → List Resolved → Option (List ℕ) → Option (List ℕ) → List ℕ → Option Cause → Result PacketTaken Stop → Type 0
-TakesPacket sized makes level set taken_old taken_new bytes cut (Ok taken) =
-    (ms : List Content) × (out : List ℕ) × Appends taken_old taken_new out × (taken.written ≡ counted_by 0 (length out))
-    × (taken.messages ≡ length ms) × CameOf sized makes level set bytes cut ms out taken.fault
-TakesPacket sized makes level set taken_old taken_new bytes cut (Err s) =
+-- a front of what the lines are in which a packet of these messages is written
+abbrev pub FrontInLines : (List ℕ → List ℕ) → Bool → Making → List Resolved → List Content → List ℕ → Type 0
+FrontInLines lines sized makes set ms out = (out ≡ []) ⊎ ((text : List ℕ) × (rest : List ℕ) × MadePacket sized makes set ms text × (out ++ rest ≡ lines text))
+
+-- A packet was read and written in lines, or a front of what is made of messages of it.
+abbrev pub TakesPacket : (List ℕ → List ℕ) → Bool → Making → Level → List Resolved → Option (List ℕ) → Option (List ℕ) → List ℕ → Option Cause → Result PacketTaken Stop → Type 0
+TakesPacket lines sized makes level set taken_old taken_new bytes cut (Ok taken) =
+    (ms : List Content) × (text : List ℕ) × Appends taken_old taken_new (lines text) × (taken.written ≡ counted_by 0 (length (lines text)))
+    × (taken.messages ≡ length ms) × CameOf sized makes level set bytes cut ms text taken.fault
+TakesPacket lines sized makes level set taken_old taken_new bytes cut (Err s) =
     (ms : List Content) × (out : List ℕ) × Appends taken_old taken_new out × Carried (plainly level) set bytes ms
-    × FrontOfPacket sized makes set ms out
+    × FrontInLines lines sized makes set ms out

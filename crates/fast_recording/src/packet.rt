@@ -4,15 +4,18 @@ ghost use Rattle.std.specs.Prelude.{◌≡◌, ◌≢◌, ◌≤◌, ◌^◌, �
 ghost use Rattle.fast_template.specs.TemplateSets.{IsSound, templates_in};
 ghost use Rattle.fast_pass.specs.Relays.{IsOfBytes, Relays, Way, errors_behind};
 ghost use Rattle.fast_machine.specs.Calls.{IsSameStream};
+ghost use Rattle.fast_recording.specs.PacketLines.{lines_of};
 ghost use Rattle.fast_recording.specs.Packets.{FoundBehind, LeavesPacket, PutsPacket, ReadsPacket, Rests, TakesPacket};
 
+use crate::handing::{hand_on, take_in};
 use crate::nowhere::Nowhere;
 use crate::output::PacketOutput;
+use crate::packet_lines::PacketLines;
 use fast_decoder::Reached;
 use fast_dictionary::Entries;
-use fast_io::{ByteOutput, push_all};
+use fast_io::ByteOutput;
 use fast_machine::Machine;
-use fast_pass::{Stop, hand_on, take_in};
+use fast_pass::{Stop, hand_on as hand_on_plainly};
 use fast_stream::{Cause, Fault, Framing};
 use fast_wire::write_unsigned;
 use std::alloc::Global;
@@ -30,12 +33,14 @@ fn read_packet<O: PacketOutput, W: ByteOutput, E: Entries>(
     machine: &mut Machine<'_, O, E>,
     alloc: Global,
     bytes: &[u8],
+    lines: &mut PacketLines,
     writer: &mut W,
-) -> Result<(Reached, u64), Stop>
+) -> Result<Reached, Stop>
     requires few { length bytes.now ≤ 2 ^ 20 }
     requires rests { Rests O.waiting machine.now }
     ensures reads { (turns : ℕ) (left : Option (List ℕ))
-        → ReadsPacket O.sized O.waiting O.makes result machine.new turns left (W.taken writer.old) (W.taken writer.new) bytes.now }
+        → ReadsPacket O.sized O.waiting O.makes result lines.old lines.new machine.new turns left
+        (W.taken writer.old) (W.taken writer.new) bytes.now }
     ensures failed { W.errors writer.new ≡ errors_behind result (W.errors writer.old) }
     ensures flushes { W.flushes writer.new ≡ W.flushes writer.old }
     ensures same { IsSameStream machine.old machine.new }
@@ -44,11 +49,11 @@ fn read_packet<O: PacketOutput, W: ByteOutput, E: Entries>(
     if machine.receiver.is_sized() {
         // (what is made of them waits for its size)
         return match machine.feed(bytes) {
-            Ok(()) => Ok((Reached::Open, 0)),
-            Err(fault) => Ok((Reached::Fault(fault), 0)),
+            Ok(()) => Ok(Reached::Open),
+            Err(fault) => Ok(Reached::Fault(fault)),
         };
     }
-    take_in(machine, alloc, bytes, writer)
+    take_in(machine, alloc, bytes, lines, writer)
 }
 
 // Writes what waits of an accepted packet, its size first where it has one.
@@ -56,36 +61,39 @@ fn put_packet<O: PacketOutput, W: ByteOutput, E: Entries>(
     machine: &mut Machine<'_, O, E>,
     alloc: Global,
     size: &mut Vec<u8>,
+    lines: &mut PacketLines,
     writer: &mut W,
-) -> Result<u64, Stop>
-    ensures puts { PutsPacket O.sized O.waiting result machine.old machine.new (W.taken writer.old) (W.taken writer.new) }
+) -> Result<(), Stop>
+    ensures puts { PutsPacket O.sized O.waiting result lines.old lines.new machine.old machine.new
+        (W.taken writer.old) (W.taken writer.new) }
     ensures failed { W.errors writer.new ≡ errors_behind result (W.errors writer.old) }
     ensures flushes { W.flushes writer.new ≡ W.flushes writer.old }
     ensures same { IsSameStream machine.old machine.new }
 {
     if !machine.receiver.is_sized() {
-        return hand_on(machine, alloc, writer);
+        return hand_on(machine, alloc, lines, writer);
     }
     size.clear();
     match write_unsigned(machine.receiver.finished().len() as u128, size) {
         Err(_) => return Err(Stop::Memory),
         Ok(()) => {}
     }
-    match push_all(writer, size) {
+    match lines.push_all(writer, size) {
         Err(_) => return Err(Stop::Write),
         Ok(()) => {}
     }
-    let count = hand_on(machine, alloc, writer)?;
-    Ok(count.saturating_add(size.len() as u64))
+    hand_on(machine, alloc, lines, writer)
 }
 
 // Writes what waits of a refused packet, or drops it where it would have a size.
 fn leave_packet<O: PacketOutput, W: ByteOutput, E: Entries>(
     machine: &mut Machine<'_, O, E>,
     alloc: Global,
+    lines: &mut PacketLines,
     writer: &mut W,
-) -> Result<u64, Stop>
-    ensures leaves { LeavesPacket O.sized O.waiting result machine.old machine.new (W.taken writer.old) (W.taken writer.new) }
+) -> Result<(), Stop>
+    ensures leaves { LeavesPacket O.sized O.waiting result lines.old lines.new machine.old machine.new
+        (W.taken writer.old) (W.taken writer.new) }
     ensures failed { W.errors writer.new ≡ errors_behind result (W.errors writer.old) }
     ensures flushes { W.flushes writer.new ≡ W.flushes writer.old }
     ensures same { IsSameStream machine.old machine.new }
@@ -95,12 +103,12 @@ fn leave_packet<O: PacketOutput, W: ByteOutput, E: Entries>(
             calls: 0,
             flushes: 0,
         };
-        return match hand_on(machine, alloc, &mut nowhere) {
+        return match hand_on_plainly(machine, alloc, &mut nowhere) {
             Err(_) => Err(Stop::Memory),
-            Ok(_) => Ok(0),
+            Ok(_) => Ok(()),
         };
     }
-    hand_on(machine, alloc, writer)
+    hand_on(machine, alloc, lines, writer)
 }
 
 // Why a packet is refused whose bytes were read as far as this; none where they are messages, and all of them.
@@ -133,46 +141,53 @@ fn fault_behind<O: PacketOutput, E: Entries>(
     }
 }
 
-/// Reads a packet, or what has come of one of which no more comes for a cause, and writes what is made of it.
+/// Reads a packet, or what has come of one of which no more comes for a cause, and writes what is made of it: with its
+/// number in each line, or as it is.
 pub fn take_packet<O: PacketOutput, W: ByteOutput, E: Entries>(
     machine: &mut Machine<'_, O, E>,
     alloc: Global,
     bytes: &[u8],
     cut: Option<Cause>,
+    number: Option<u64>,
     size: &mut Vec<u8>,
+    lines: &mut PacketLines,
     writer: &mut W,
 ) -> Result<Taken, Stop>
     requires few { length bytes.now ≤ 2 ^ 20 }
     requires rests { Rests O.waiting machine.now }
     requires plain { machine.now.framing ≡ Framing.Plain }
     requires sound { IsSound machine.now.traversal.set.now }
-    ensures takes { TakesPacket O.sized O.makes machine.old.traversal.level (templates_in machine.old.traversal.set.now)
-        (W.taken writer.old) (W.taken writer.new) bytes.now cut result }
+    ensures takes { TakesPacket (lines_of number) O.sized O.makes machine.old.traversal.level
+        (templates_in machine.old.traversal.set.now) (W.taken writer.old) (W.taken writer.new) bytes.now cut result }
     ensures rests { OnOk result (Rests O.waiting machine.new) }
     ensures failed { W.errors writer.new ≡ errors_behind result (W.errors writer.old) }
     ensures flushes { W.flushes writer.new ≡ W.flushes writer.old }
     ensures same { IsSameStream machine.old machine.new }
 {
-    let (came, before) = read_packet(machine, alloc, bytes, writer)?;
+    match lines.begin(number) {
+        Err(_) => return Err(Stop::Memory),
+        Ok(()) => {}
+    }
+    let came = read_packet(machine, alloc, bytes, lines, writer)?;
     match fault_behind(machine, came, cut) {
         None => {
             let messages = machine.messages();
-            let more = put_packet(machine, alloc, size, writer)?;
+            put_packet(machine, alloc, size, lines, writer)?;
             Ok(Taken {
                 messages,
                 fault: None,
-                written: before.saturating_add(more),
+                written: lines.written,
             })
         }
         Some(fault) => {
             if let Cause::Memory = fault.cause {
                 return Err(Stop::Memory);
             }
-            let more = leave_packet(machine, alloc, writer)?;
+            leave_packet(machine, alloc, lines, writer)?;
             Ok(Taken {
                 messages: fault.place.message.saturating_sub(1),
                 fault: Some(fault),
-                written: before.saturating_add(more),
+                written: lines.written,
             })
         }
     }

@@ -1,6 +1,7 @@
 -- The head of a line, member by member.
-use Rattle.std.proofs.Common.{◌≡◌, ◌⊎◌, inl, inr, Result, Ok, Err, MatchResult, IfOk, IfErr, IsSome, IsUtf8, ℕ, ◌<◌, ◌≤◌, true, false, List, [], ◌∷◌, ◌++◌, Option, Some, None, is_some, codes, option_map, option_and_then, refl, sym, ap, ap₂, ◌∙◌, subst, arith}
+use Rattle.std.proofs.Common.{◌≡◌, ◌⊎◌, inl, inr, Result, Ok, Err, MatchResult, IfOk, IfErr, IsSome, IsUtf8, Bool, ◌&&◌, ℕ, ◌<◌, ◌≤◌, true, false, List, [], ◌∷◌, ◌++◌, Option, Some, None, is_some, codes, option_map, option_and_then, refl, sym, ap, ap₂, ◌∙◌, subst, arith}
 use Rattle.std.specs.Str.{bytes_eq}
+use Rattle.std.proofs.lemmas.Slice.Eq.{bytes_eq-Decides}
 use Rattle.json.specs.Token as token
 use Rattle.json.specs.Token.{Token}
 use Rattle.json.specs.Lex.{tokens}
@@ -22,10 +23,12 @@ use Rattle.fast_spelled.specs.declared.head.Said.{Said}
 use Rattle.fast_spelled.specs.declared.head.Said.TheVariants.{Nothing, Null, Text}
 use Rattle.fast_spelled.specs.declared.head.Head.{Head}
 use Rattle.fast_spelled.specs.declared.head.LinePart.{LinePart}
-use Rattle.fast_spelled.specs.declared.head.LinePart.TheVariants.{Fields}
-use Rattle.fast_spelled.specs.Members.{first_named}
+use Rattle.fast_spelled.specs.declared.head.LineHead.{LineHead}
+use Rattle.fast_spelled.specs.declared.head.LinePart.TheVariants.{Template, Id, Fields}
+use Rattle.fast_spelled.specs.Members.{first_named, without_first}
+use Rattle.fast_spelled.specs.Numbered.{SpellsIn, numbered_by, packet_by}
 use Rattle.fast_spelled.specs.Spelled.{template_by, fields_of, if_no_more, message_by, content_if, items_by, Spells}
-use Rattle.fast_spelled.specs.Heads.{name_of_part, IsNoPart, first_or, without_more, others_behind, message_behind, there, said, HasSeen, message_after, TakesPart, message_of_head, IsHead}
+use Rattle.fast_spelled.specs.Heads.{name_of_part, IsNoPart, first_or, without_more, others_behind, message_behind, there, said, HasSeen, message_after, TakesPart, message_of_head, StandsForNone, kept, IsHead}
 
 -- ---- what is left of other members
 
@@ -205,28 +208,32 @@ document_depth text j e = value-depth 128 (tokens text) [] j (last (value max_de
 -- ---- the members to come
 
 -- the members of a line up to here, and those that are left
-pub record LineLeft (ms : Members) (reader : List Token) (head : Head) : Type 0 where
+pub record LineLeft (packets : Bool) (ms : Members) (reader : List Token) (head : Head) (packet : Said) : Type 0 where
   pub left : Members
   pub fields : Option Json
   pub stands : reader ≡ members_tokens left
   pub shallow : members_depth left ≤ 127
   pub has_seen : HasSeen head fields
-  pub same_message : (set : TemplateList) → message_by set (object ms) ≡ message_after set head fields left
+  pub same_message : (set : TemplateList) → message_by set (object (kept packets None ms)) ≡ message_after set head fields (kept packets (there number packet) left)
   pub same_fields : first_named (codes "fields") ms ≡ first_or fields (codes "fields") left
+  pub same_packet : first_named (codes "packet") ms ≡ first_or (there number packet) (codes "packet") left
 
-pub line_begins : (ms : Members) (reader : List Token) (head : Head) → head.name ≡ Nothing → head.id ≡ Nothing → head.has_fields ≡ false → members_depth ms ≤ 127 → reader ≡ members_tokens ms → LineLeft ms reader head
-line_begins ms reader head n i f shallow e = record {
+pub line_begins : (packets : Bool) (ms : Members) (reader : List Token) (head : Head) (packet : Said) → head.name ≡ Nothing → head.id ≡ Nothing → head.has_fields ≡ false → packet ≡ Nothing → members_depth ms ≤ 127 → reader ≡ members_tokens ms → LineLeft packets ms reader head packet
+line_begins packets ms reader head packet n i f p shallow e = record {
   left = ms;
   fields = None;
   stands = e;
   shallow = shallow;
   has_seen = sym f;
-  same_message = λ set. sym (ap₂ (λ a b. message_behind set (there string a) (there number b) None ms) n i);
+  same_message = λ set.
+      sym (ap₂ (λ a b. message_behind set (there string a) (there number b) None (kept packets None ms)) n i)
+      ∙ ap (λ s. message_after set head None (kept packets (there number s) ms)) (sym p);
   same_fields = refl;
+  same_packet = ap (λ s. first_or (there number s) (codes "packet") ms) (sym p);
 }
 
 -- a member whose name was read
-pub record LineNamed (ms : Members) (after : List Token) (head : Head) (name : List ℕ) : Type 0 where
+pub record LineNamed (packets : Bool) (ms : Members) (after : List Token) (head : Head) (packet : Said) (name : List ℕ) : Type 0 where
   pub one : Json
   pub more : Members
   pub fields : Option Json
@@ -234,8 +241,9 @@ pub record LineNamed (ms : Members) (after : List Token) (head : Head) (name : L
   pub shallow : depth one ≤ 127
   pub more_shallow : members_depth more ≤ 127
   pub has_seen : HasSeen head fields
-  pub same_message : (set : TemplateList) → message_by set (object ms) ≡ message_after set head fields (member name one more)
+  pub same_message : (set : TemplateList) → message_by set (object (kept packets None ms)) ≡ message_after set head fields (kept packets (there number packet) (member name one more))
   pub same_fields : first_named (codes "fields") ms ≡ first_or fields (codes "fields") (member name one more)
+  pub same_packet : first_named (codes "packet") ms ≡ first_or (there number packet) (codes "packet") (member name one more)
 
 abbrev key_or : Option (List ℕ) × List Token → Option (Option (List ℕ) × List Token) → Option (List ℕ) × List Token
 key_or d None = d
@@ -271,8 +279,8 @@ pub always_key : (left : Members) (reader : List Token) → reader ≡ members_t
 always_key no_members reader e g = absurd (cc (sym (ap read_key e) ∙ g))
 always_key (member k j more) reader e g = absurd (cc (sym (ap read_key e) ∙ g))
 
-pub line_named : {ms : Members} {reader : List Token} {head : Head} → LineLeft ms reader head → (next : List Token) (name : List ℕ) → read_key reader ≡ Some (Some name, next) → LineNamed ms next head name
-line_named {reader = reader} {head = head} x next name g =
+pub line_named : {packets : Bool} {ms : Members} {reader : List Token} {head : Head} {packet : Said} → LineLeft packets ms reader head packet → (next : List Token) (name : List ℕ) → read_key reader ≡ Some (Some name, next) → LineNamed packets ms next head packet name
+line_named {packets = packets} {reader = reader} {head = head} {packet = packet} x next name g =
     let f = first_is x.left reader next name x.stands g in
     let d : members_depth (member name f.one f.more) ≤ 127 = subst (λ l. members_depth l ≤ 127) f.is x.shallow in
     record {
@@ -283,28 +291,135 @@ line_named {reader = reader} {head = head} x next name g =
       shallow = omega (arith, d);
       more_shallow = omega (arith, d);
       has_seen = x.has_seen;
-      same_message = λ set. x.same_message set ∙ ap (message_after set head x.fields) f.is;
+      same_message = λ set. x.same_message set ∙ ap (λ l. message_after set head x.fields (kept packets (there number packet) l)) f.is;
       same_fields = x.same_fields ∙ ap (first_or x.fields (codes "fields")) f.is;
+      same_packet = x.same_packet ∙ ap (first_or (there number packet) (codes "packet")) f.is;
     }
 
-pub line_goes_on : {ms : Members} {after : List Token} {head : Head} {name : List ℕ} → (x : LineNamed ms after head name) → (part : LinePart) (new : Head) (reader : List Token) → name ≡ name_of_part part → TakesPart part head x.fields x.one new → reader ≡ members_tokens x.more
-    → LineLeft ms reader new
-line_goes_on {head = head} x part new reader is t e = record {
+not_both : (a b : Bool) → (a && b) ≡ false → a ≡ true → b ≡ false
+not_both true b e is = e
+not_both false b e is = absurd (cc is)
+
+-- a member of another name is kept
+kept_other : (packets : Bool) (packet : Option Json) (name : List ℕ) (j : Json) (ms : Members) → (packets ≡ true → bytes_eq name (codes "packet") ≡ false) → kept packets packet (member name j ms) ≡ member name j (kept packets packet ms)
+kept_other true packet name j ms other = stays packet (codes "packet") name j ms (other refl)
+kept_other false packet name j ms other = refl
+
+no_packet : (part : LinePart) → bytes_eq (name_of_part part) (codes "packet") ≡ false
+no_packet Template = refl
+no_packet Id = refl
+no_packet Fields = refl
+
+same_part : (packets : Bool) (packet : Option Json) (part : LinePart) (j : Json) (ms : Members) → kept packets packet (member (name_of_part part) j ms) ≡ member (name_of_part part) j (kept packets packet ms)
+same_part packets packet part j ms = kept_other packets packet (name_of_part part) j ms (λ there. no_packet part)
+
+-- what is named by a part is none of another name
+same_first : (o : Option Json) (part : LinePart) (j : Json) (ms : Members) → first_or o (codes "packet") (member (name_of_part part) j ms) ≡ first_or o (codes "packet") ms
+same_first None part j ms = rw (no_packet part) refl
+same_first (Some p) part j ms = refl
+
+pub line_goes_on : {packets : Bool} {ms : Members} {after : List Token} {head : Head} {packet : Said} {name : List ℕ} → (x : LineNamed packets ms after head packet name) → (part : LinePart) (new : Head) (reader : List Token) → name ≡ name_of_part part → TakesPart part head x.fields x.one new → reader ≡ members_tokens x.more
+    → LineLeft packets ms reader new packet
+line_goes_on {packets = packets} {head = head} {packet = packet} x part new reader is t e = record {
   left = x.more;
   fields = t.now;
   stands = e;
   shallow = x.more_shallow;
   has_seen = t.has_seen;
-  same_message = λ set. x.same_message set ∙ ap (λ n. message_after set head x.fields (member n x.one x.more)) is ∙ t.same_message set x.more;
+  same_message = λ set.
+      x.same_message set
+      ∙ ap (λ n. message_after set head x.fields (kept packets (there number packet) (member n x.one x.more))) is
+      ∙ ap (message_after set head x.fields) (same_part packets (there number packet) part x.one x.more)
+      ∙ t.same_message set (kept packets (there number packet) x.more);
   same_fields = x.same_fields ∙ ap (λ n. first_or x.fields (codes "fields") (member n x.one x.more)) is ∙ t.same_fields x.more;
+  same_packet = x.same_packet ∙ ap (λ n. first_or (there number packet) (codes "packet") (member n x.one x.more)) is ∙ same_first (there number packet) part x.one x.more;
 }
 
-pub line_unknown : {ms : Members} {after : List Token} {head : Head} {name : List ℕ} → LineNamed ms after head name → IsNoPart name → (set : TemplateList) → message_by set (object ms) ≡ None
-line_unknown {head = head} {name = name} x h set = x.same_message set ∙ unknown set (there string head.name) (there number head.id) x.fields name x.one x.more h
+-- ---- lines that stand for none
 
-pub line_refused : {ms : Members} {after : List Token} {head : Head} {name : List ℕ} → (x : LineNamed ms after head name) → (part : LinePart) → name ≡ name_of_part part
-    → ((set : TemplateList) (more : Members) → message_after set head x.fields (member (name_of_part part) x.one more) ≡ None) → (set : TemplateList) → message_by set (object ms) ≡ None
-line_refused {head = head} x part is h set = x.same_message set ∙ ap (λ n. message_after set head x.fields (member n x.one x.more)) is ∙ h set x.more
+-- a message in a packet
+abbrev pub in_packet : ℕ → Option Content → Option (ℕ × Content)
+in_packet n o = option_map (λ m. (n, m)) o
+
+numbered_none : (o : Option ℕ) (q : Option Content) → q ≡ None → option_and_then (λ n. in_packet n q) o ≡ None
+numbered_none None q e = refl
+numbered_none (Some n) q e = ap (in_packet n) e
+
+none_kept : (packets : Bool) (set : TemplateList) (ms : Members) → message_by set (object (kept packets None ms)) ≡ None → StandsForNone packets set (object ms)
+none_kept true set ms e = numbered_none (packet_by (first_named (codes "packet") ms)) (message_by set (object (kept true None ms))) e
+none_kept false set ms e = e
+
+-- the members of a line are those of its object
+pub none_at : (packets : Bool) (set : TemplateList) (j : Json) (ms : Members) → j ≡ object ms → StandsForNone packets set (object ms) → StandsForNone packets set j
+none_at packets set j ms is e = subst (StandsForNone packets set) (sym is) e
+
+pub line_unknown : {packets : Bool} {ms : Members} {after : List Token} {head : Head} {packet : Said} {name : List ℕ} → LineNamed packets ms after head packet name → (packets && bytes_eq name (codes "packet")) ≡ false → IsNoPart name → (set : TemplateList) → StandsForNone packets set (object ms)
+line_unknown {packets = packets} {ms = ms} {head = head} {packet = packet} {name = name} x other h set =
+    none_kept packets set ms (
+    x.same_message set
+    ∙ ap (message_after set head x.fields) (kept_other packets (there number packet) name x.one x.more (not_both packets (bytes_eq name (codes "packet")) other))
+    ∙ unknown set (there string head.name) (there number head.id) x.fields name x.one (kept packets (there number packet) x.more) h
+    )
+
+pub line_refused : {packets : Bool} {ms : Members} {after : List Token} {head : Head} {packet : Said} {name : List ℕ} → (x : LineNamed packets ms after head packet name) → (part : LinePart) → name ≡ name_of_part part
+    → ((set : TemplateList) (more : Members) → message_after set head x.fields (member (name_of_part part) x.one more) ≡ None) → (set : TemplateList) → StandsForNone packets set (object ms)
+line_refused {packets = packets} {ms = ms} {head = head} {packet = packet} x part is h set =
+    none_kept packets set ms (
+    x.same_message set
+    ∙ ap (λ n. message_after set head x.fields (kept packets (there number packet) (member n x.one x.more))) is
+    ∙ ap (message_after set head x.fields) (same_part packets (there number packet) part x.one x.more)
+    ∙ h set (kept packets (there number packet) x.more)
+    )
+
+-- ---- the packet
+
+both : (a b : Bool) → (a && b) ≡ true → (a ≡ true) × (b ≡ true)
+both true b e = (refl, e)
+both false b e = absurd (cc e)
+
+pub is_the_packet : (packets : Bool) (name : List ℕ) → (packets && bytes_eq name (codes "packet")) ≡ true → (packets ≡ true) × (name ≡ codes "packet")
+is_the_packet packets name e = let two = both packets (bytes_eq name (codes "packet")) e in (two.0, (bytes_eq-Decides name (codes "packet")).0 two.1)
+
+-- it was not there before
+pub line_takes_packet : {packets : Bool} {ms : Members} {after : List Token} {head : Head} {packet : Said} {name : List ℕ} → (x : LineNamed packets ms after head packet name) → (packets ≡ true) × (name ≡ codes "packet") → (new : Said) (reader : List Token)
+    → packet ≡ Nothing → there number new ≡ Some x.one → reader ≡ members_tokens x.more → LineLeft packets ms reader head new
+line_takes_packet {packets = packets} {head = head} {packet = packet} {name = name} x is new reader nothing now e = record {
+  left = x.more;
+  fields = x.fields;
+  stands = e;
+  shallow = x.more_shallow;
+  has_seen = x.has_seen;
+  same_message = λ set.
+      x.same_message set
+      ∙ ap (message_after set head x.fields) (
+      ap (λ s. kept packets (there number s) (member name x.one x.more)) nothing
+      ∙ ap₂ (λ b n. kept b None (member n x.one x.more)) is.0 is.1
+      ∙ ap (λ o. kept true o x.more) (sym now)
+      ∙ ap (λ b. kept b (there number new) x.more) (sym is.0)
+      );
+  same_fields = x.same_fields ∙ ap (λ n. first_or x.fields (codes "fields") (member n x.one x.more)) is.1 ∙ same_fields x.fields (codes "packet") x.one x.more refl;
+  same_packet = x.same_packet ∙ ap₂ (λ s n. first_or (there number s) (codes "packet") (member n x.one x.more)) nothing is.1 ∙ ap (λ o. first_or o (codes "packet") x.more) (sym now);
+}
+
+packet_is_no_part : IsNoPart (codes "packet")
+packet_is_no_part = record { no_template = refl; no_id = refl; no_fields = refl }
+
+once_more : {packets : Bool} {ms : Members} {after : List Token} {head : Head} {packet : Said} {name : List ℕ} → (x : LineNamed packets ms after head packet name) → (packets ≡ true) × (name ≡ codes "packet") → (p : Json) → there number packet ≡ Some p → (set : TemplateList) → StandsForNone packets set (object ms)
+once_more {packets = packets} {ms = ms} {head = head} {packet = packet} {name = name} x is p before set =
+    none_kept packets set ms (
+    x.same_message set
+    ∙ ap (message_after set head x.fields) (ap (λ o. kept packets o (member name x.one x.more)) before ∙ ap₂ (λ b n. kept b (Some p) (member n x.one x.more)) is.0 is.1)
+    ∙ unknown set (there string head.name) (there number head.id) x.fields (codes "packet") x.one x.more packet_is_no_part
+    )
+
+-- it was, or is no number
+pub line_refuses_packet : {packets : Bool} {ms : Members} {after : List Token} {head : Head} {name : List ℕ} → (packet : Said) → (x : LineNamed packets ms after head packet name) → (packets ≡ true) × (name ≡ codes "packet") → (packet ≡ Nothing → packet_by x.one ≡ None) → (set : TemplateList) → StandsForNone packets set (object ms)
+line_refuses_packet {packets = packets} {ms = ms} Nothing x is none set =
+    let first : first_named (codes "packet") ms ≡ x.one = x.same_packet ∙ ap (λ n. first_or None (codes "packet") (member n x.one x.more)) is.1 in
+    let no_number : packet_by (first_named (codes "packet") ms) ≡ None = ap packet_by first ∙ none refl in
+    subst (λ b. StandsForNone b set (object ms)) (sym is.0) (ap (option_and_then (λ n. in_packet n (message_by set (object (without_first (codes "packet") ms))))) no_number)
+line_refuses_packet Null x is none set = once_more x is null refl set
+line_refuses_packet (Text s) x is none set = once_more x is (number s.now) refl set
 
 -- ---- the end of the members
 
@@ -329,10 +444,15 @@ whole_message set head fields =
     (none_left (there string head.name) (there number head.id) fields)
     ∙ ap₂ (λ a b. option_and_then (λ t. fields_of t (first_or fields (codes "fields") no_members)) (template_by set a b)) (ended_as string head.name (codes "template")) (ended_as number head.id (codes "id"))
 
-pub line_ends : {ms : Members} {reader : List Token} {head : Head} → LineLeft ms reader head → (next : List Token) → read_key reader ≡ Some (None, next) → (set : TemplateList) → message_by set (object ms) ≡ message_of_head set head (first_named (codes "fields") ms)
-line_ends {reader = reader} {head = head} x next g set =
+kept_none : (packets : Bool) (packet : Option Json) → kept packets packet no_members ≡ no_members
+kept_none true None = refl
+kept_none true (Some p) = refl
+kept_none false packet = refl
+
+pub line_ends : {packets : Bool} {ms : Members} {reader : List Token} {head : Head} {packet : Said} → LineLeft packets ms reader head packet → (next : List Token) → read_key reader ≡ Some (None, next) → (set : TemplateList) → message_by set (object (kept packets None ms)) ≡ message_of_head set head (first_named (codes "fields") ms)
+line_ends {packets = packets} {reader = reader} {head = head} {packet = packet} x next g set =
     let none = none_is x.left reader next x.stands g in
-    x.same_message set ∙ ap (message_after set head x.fields) none ∙ whole_message set head x.fields ∙ ap (message_of_head set head) (sym (x.same_fields ∙ ap (first_or x.fields (codes "fields")) none))
+    x.same_message set ∙ ap (message_after set head x.fields) (ap (kept packets (there number packet)) none ∙ kept_none packets (there number packet)) ∙ whole_message set head x.fields ∙ ap (message_of_head set head) (sym (x.same_fields ∙ ap (first_or x.fields (codes "fields")) none))
 
 no_fields_in : (o : Option FlatTemplate) → option_and_then (λ t. fields_of t null) o ≡ None
 no_fields_in None = refl
@@ -342,21 +462,35 @@ missing : (fields : Option Json) → is_some fields ≡ false → first_or field
 missing None e = refl
 missing (Some f) e = absurd (cc e)
 
-pub line_without_fields : {ms : Members} {reader : List Token} {head : Head} → LineLeft ms reader head → (next : List Token) → read_key reader ≡ Some (None, next) → head.has_fields ≡ false → (set : TemplateList) → message_by set (object ms) ≡ None
-line_without_fields {reader = reader} {head = head} x next g has set =
+pub line_without_fields : {packets : Bool} {ms : Members} {reader : List Token} {head : Head} {packet : Said} → LineLeft packets ms reader head packet → (next : List Token) → read_key reader ≡ Some (None, next) → head.has_fields ≡ false → (set : TemplateList) → StandsForNone packets set (object ms)
+line_without_fields {packets = packets} {ms = ms} {reader = reader} {head = head} {packet = packet} x next g has set =
     let none = none_is x.left reader next x.stands g in
-    x.same_message set ∙ ap (message_after set head x.fields) none ∙ whole_message set head x.fields ∙ ap (message_of_head set head) (missing x.fields (x.has_seen ∙ has))
+    none_kept packets set ms (
+    x.same_message set
+    ∙ ap (message_after set head x.fields) (ap (kept packets (there number packet)) none ∙ kept_none packets (there number packet))
+    ∙ whole_message set head x.fields
+    ∙ ap (message_of_head set head) (missing x.fields (x.has_seen ∙ has))
     ∙ no_fields_in (template_by set (said string head.name) (said number head.id))
+    )
+
+-- what was said of the packet is its first member
+pub packet_ends : {packets : Bool} {ms : Members} {reader : List Token} {head : Head} {packet : Said} → LineLeft packets ms reader head packet → (next : List Token) → read_key reader ≡ Some (None, next) → first_named (codes "packet") ms ≡ said number packet
+packet_ends {reader = reader} {packet = packet} x next g = x.same_packet ∙ ap (first_or (there number packet) (codes "packet")) (none_is x.left reader next x.stands g) ∙ ended_as number packet (codes "packet")
 
 -- ---- a line that is no object
 
-pub not_object : (j : Json) → ((ms : Members) → j ≡ object ms → ⊥) → (set : TemplateList) → message_by set j ≡ None
-not_object (object ms) h set = absurd (h ms refl)
-not_object null h set = refl
-not_object (boolean b) h set = refl
-not_object (number s) h set = refl
-not_object (string s) h set = refl
-not_object (array js) h set = refl
+pub not_object : (packets : Bool) (j : Json) → ((ms : Members) → j ≡ object ms → ⊥) → (set : TemplateList) → StandsForNone packets set j
+not_object packets (object ms) h set = absurd (h ms refl)
+not_object true null h set = refl
+not_object true (boolean b) h set = refl
+not_object true (number s) h set = refl
+not_object true (string s) h set = refl
+not_object true (array js) h set = refl
+not_object false null h set = refl
+not_object false (boolean b) h set = refl
+not_object false (number s) h set = refl
+not_object false (string s) h set = refl
+not_object false (array js) h set = refl
 
 pub no_object_fields : (j : Json) → ((ms : Members) → j ≡ object ms → ⊥) → (t : FlatTemplate) → fields_of t j ≡ None
 no_object_fields (object ms) h t = absurd (h ms refl)
@@ -467,14 +601,12 @@ pub no_spelling : (set : TemplateList) (line : List ℕ) (j : Json) → document
 no_spelling set line j e none m s = not_found m (sym none ∙ sym (read_as set line j e) ∙ s.read)
 
 -- the template that was found reads the fields
-found_reads : (set : TemplateList) (head : Head) (fields : Json) (o : Option FlatTemplate) (t : FlatTemplate) → o ≡ template_by set (said string head.name) (said number head.id) → o ≡ Some t → message_of_head set head fields ≡ fields_of t fields
-found_reads set head fields o t e g = ap (option_and_then (λ x. fields_of x fields)) (sym e ∙ g)
+pub found_reads : (set : TemplateList) (head : Head) (fields : Json) (t : FlatTemplate) → template_by set (said string head.name) (said number head.id) ≡ Some t → message_of_head set head fields ≡ fields_of t fields
+found_reads set head fields t e = ap (option_and_then (λ x. fields_of x fields)) e
 
-pub message_is : (set : TemplateList) (j : Json) (head : Head) (h : IsHead j head) (o : Option FlatTemplate) (t : FlatTemplate) → o ≡ template_by set (said string head.name) (said number head.id) → o ≡ Some t → message_by set j ≡ fields_of t (first_named (codes "fields") h.members)
-message_is set j head h o t e g = h.message set ∙ found_reads set head (first_named (codes "fields") h.members) o t e g
-
-pub no_template : (set : TemplateList) (j : Json) (head : Head) → IsHead j head → None ≡ template_by set (said string head.name) (said number head.id) → message_by set j ≡ None
-no_template set j head h e = h.message set ∙ ap (option_and_then (λ x. fields_of x (first_named (codes "fields") h.members))) (sym e)
+-- or none was
+pub no_template : (set : TemplateList) (head : Head) → None ≡ template_by set (said string head.name) (said number head.id) → (fields : Json) → message_of_head set head fields ≡ None
+no_template set head e fields = ap (option_and_then (λ x. fields_of x fields)) (sym e)
 
 no_id_in : (t : FlatTemplate) (j : Json) → t.id ≡ None → fields_of t j ≡ None
 no_id_in t (object ms) e = ap (λ id. content_if id (items_by (resolved_of t).members ms)) e
@@ -484,8 +616,12 @@ no_id_in t (number s) e = refl
 no_id_in t (string s) e = refl
 no_id_in t (array js) e = refl
 
-pub without_id : (set : TemplateList) (j : Json) (head : Head) (h : IsHead j head) (o : Option FlatTemplate) (t : FlatTemplate) → o ≡ template_by set (said string head.name) (said number head.id) → o ≡ Some t → t.id ≡ None → message_by set j ≡ None
-without_id set j head h o t e g none = message_is set j head h o t e g ∙ no_id_in t (first_named (codes "fields") h.members) none
+pub without_id : (set : TemplateList) (head : Head) (t : FlatTemplate) → template_by set (said string head.name) (said number head.id) ≡ Some t → t.id ≡ None → (fields : Json) → message_of_head set head fields ≡ None
+without_id set head t e none fields = found_reads set head fields t e ∙ no_id_in t fields none
+
+-- what the head of a line says of its message
+pub message_is : (set : TemplateList) (j : Json) (line : LineHead) (h : IsHead false j line) → message_by set j ≡ message_of_head set line.head (first_named (codes "fields") h.members)
+message_is set j line h = ap (message_by set) h.is ∙ h.message set
 
 pub spelled_as : (set : TemplateList) (line : List ℕ) (j : Json) (m : Content) → IsUtf8 line → document line ≡ Some j → message_by set j ≡ Some m → Spells set line m
 spelled_as set line j m text e read = record { utf8 = text; read = read_as set line j e ∙ read }
@@ -519,3 +655,45 @@ pub only_fault : (r : Result Message LineFault) (set : TemplateList) (line : Lis
     → IfErr r (λ f. (f.cause ≡ Memory) ⊎ ((m : Content) → Spells set line m → ⊥) ⊎ ((f.cause ≡ Limit) × ((m : Content) → Spells set line m → node_limit < nodes_in m.items)))
 only_fault (Ok m) set line h = tt
 only_fault (Err f) set line h = h
+
+-- ---- a line of a packet
+
+pub numbered_is : (set : TemplateList) (j : Json) (line : LineHead) (h : IsHead true j line) (n : ℕ) → Some n ≡ packet_by (said number line.packet) → numbered_by set j ≡ in_packet n (message_of_head set line.head (first_named (codes "fields") h.members))
+numbered_is set j line h n e =
+    ap (numbered_by set) h.is
+    ∙ ap (λ o. option_and_then (λ k. in_packet k (message_by set (object (without_first (codes "packet") h.members)))) o) (ap packet_by h.packet ∙ sym e)
+    ∙ ap (in_packet n) (h.message set)
+
+pub no_number : (set : TemplateList) (j : Json) (line : LineHead) (h : IsHead true j line) → None ≡ packet_by (said number line.packet) → numbered_by set j ≡ None
+no_number set j line h e =
+    ap (numbered_by set) h.is ∙ ap (λ o. option_and_then (λ k. in_packet k (message_by set (object (without_first (codes "packet") h.members)))) o) (ap packet_by h.packet ∙ sym e)
+
+numbered_as : (set : TemplateList) (line : List ℕ) (j : Json) → document line ≡ Some j → option_and_then (numbered_by set) (document line) ≡ numbered_by set j
+numbered_as set line j e = ap (option_and_then (numbered_by set)) e
+
+pub no_numbered : (set : TemplateList) (line : List ℕ) (j : Json) → document line ≡ Some j → numbered_by set j ≡ None → (n : ℕ) (m : Content) → SpellsIn set line n m → ⊥
+no_numbered set line j e none n m s = not_found (n, m) (sym none ∙ sym (numbered_as set line j e) ∙ s.read)
+
+in_packet_none : (n : ℕ) (o : Option Content) → o ≡ None → in_packet n o ≡ None
+in_packet_none n o e = ap (in_packet n) e
+
+message_in : (n k : ℕ) (o : Option Content) (m : Content) → in_packet n o ≡ Some (k, m) → o ≡ Some m
+message_in n k None m e = absurd (cc e)
+message_in n k (Some c) m e = ap (option_map (λ p. p.1)) e
+
+-- what is answered of the fields is answered of the line
+pub answered_in : (r : Result Message LineFault) (set : TemplateList) (line : List ℕ) (j : Json) (n : ℕ) (o : Option Content) → IsUtf8 line → document line ≡ Some j → numbered_by set j ≡ in_packet n o
+    → MatchResult r (λ m. (o ≡ Some (content_of m)) × (nodes_in (content_of m).items ≤ node_limit)) (λ f. Refuses (λ m. nodes_in m.items) node_limit o f)
+    → MatchResult r (λ m. SpellsIn set line n (content_of m) × (nodes_in (content_of m).items ≤ node_limit))
+    (λ f. (f.cause ≡ Memory) ⊎ ((k : ℕ) (m : Content) → SpellsIn set line k m → ⊥) ⊎ ((f.cause ≡ Limit) × ((k : ℕ) (m : Content) → SpellsIn set line k m → node_limit < nodes_in m.items)))
+answered_in (Ok m) set line j n o text e is h = (record { utf8 = text; read = numbered_as set line j e ∙ is ∙ ap (in_packet n) h.0 }, h.1)
+answered_in (Err f) set line j n o text e is h = go h where
+  go : Refuses (λ m. nodes_in m.items) node_limit o f → (f.cause ≡ Memory) ⊎ ((k : ℕ) (m : Content) → SpellsIn set line k m → ⊥) ⊎ ((f.cause ≡ Limit) × ((k : ℕ) (m : Content) → SpellsIn set line k m → node_limit < nodes_in m.items))
+  go (inl c) = inl c
+  go (inr (inl none)) = inr (inl (no_numbered set line j e (is ∙ in_packet_none n o none)))
+  go (inr (inr more)) = inr (inr (more.0, λ k m s. more.1 m (message_in n k o m (sym is ∙ sym (numbered_as set line j e) ∙ s.read))))
+
+-- memory was refused, or this is so
+pub refused_or : {A B C D : Type 0} → A ⊎ B → (B → C) → A ⊎ C ⊎ D
+refused_or (inl a) f = inl a
+refused_or (inr b) f = inr (inl (f b))

@@ -1,5 +1,5 @@
 -- What a line says as far as it is read (our own).
-use Rattle.std.specs.Prelude.{◌≡◌, ℕ, List, codes, Option, Some, None, is_some, option_and_then, false}
+use Rattle.std.specs.Prelude.{◌≡◌, ℕ, List, codes, Option, Some, None, is_some, option_and_then, Bool, true, false}
 use Rattle.std.specs.Str.{bytes_eq}
 use Rattle.json.specs.Json.{Json, null, number, string, object, Members, member}
 use Rattle.fast_template.specs.TemplateSets.{TemplateList}
@@ -7,9 +7,11 @@ use Rattle.fast_stream.specs.Nodes.{Content}
 use Rattle.fast_spelled.specs.declared.head.Said.{Said}
 use Rattle.fast_spelled.specs.declared.head.Said.TheVariants.{Nothing, Null, Text}
 use Rattle.fast_spelled.specs.declared.head.Head.{Head}
+use Rattle.fast_spelled.specs.declared.head.LineHead.{LineHead}
 use Rattle.fast_spelled.specs.declared.head.LinePart.{LinePart}
 use Rattle.fast_spelled.specs.declared.head.LinePart.TheVariants.{Template, Id, Fields}
 use Rattle.fast_spelled.specs.Members.{first_named, without_first}
+use Rattle.fast_spelled.specs.Numbered.{numbered_by}
 use Rattle.fast_spelled.specs.Spelled.{template_by, fields_of, if_no_more, message_by}
 
 -- ---- the members of a line
@@ -74,8 +76,21 @@ pub record TakesPart (part : LinePart) (old : Head) (fields : Option Json) (j : 
 abbrev pub message_of_head : TemplateList → Head → Json → Option Content
 message_of_head set head fields = option_and_then (λ t. fields_of t fields) (template_by set (said string head.name) (said number head.id))
 
+-- ---- a line with its packet, or without
+
+-- the members of a line but the one that says its packet, where lines say that
+abbrev pub kept : Bool → Option Json → Members → Members
+kept true packet ms = without_more packet (codes "packet") ms
+kept false packet ms = ms
+
+-- it stands for no message
+abbrev pub StandsForNone : Bool → TemplateList → Json → Type 0
+StandsForNone true set j = numbered_by set j ≡ None
+StandsForNone false set j = message_by set j ≡ None
+
 -- this is the head of a line
-pub record IsHead (j : Json) (head : Head) : Type 0 where
+pub record IsHead (packets : Bool) (j : Json) (line : LineHead) : Type 0 where
   pub members : Members
   pub is : j ≡ object members
-  pub message : (set : TemplateList) → message_by set j ≡ message_of_head set head (first_named (codes "fields") members)
+  pub message : (set : TemplateList) → message_by set (object (kept packets None members)) ≡ message_of_head set line.head (first_named (codes "fields") members)
+  pub packet : first_named (codes "packet") members ≡ said number line.packet

@@ -1,6 +1,7 @@
 //! The head of a line: which template it names.
 
-ghost use Rattle.std.specs.Prelude.{◌≡◌, ◌≢◌, ◌≤◌, ◌++◌, IfOk, MatchOption, MatchResult, List, None, Option, find, is_some, length, option_and_then, option_map};
+ghost use Rattle.std.specs.Prelude.{◌≡◌, ◌≢◌, ◌≤◌, ◌++◌, ◌&&◌, ◌⊎◌, Some, codes, IfOk, MatchOption, MatchResult, List, None, Option, find, is_some, length, option_and_then, option_map};
+ghost use Rattle.std.specs.Str.{bytes_eq};
 ghost use Rattle.json.specs.Json.{Json, Members, member, number, object, string};
 ghost use Rattle.json.specs.Token.{Token as SpecToken};
 ghost use Rattle.json.specs.Tree.{depth, json_tokens, members_tokens};
@@ -8,8 +9,10 @@ ghost use Rattle.fast_template.specs.TemplateSets.{TemplateList};
 ghost use Rattle.fast_value.specs.InitialValues.{value_of_text as value_of_text_of};
 ghost use Rattle.fast_value.specs.declared.kind.Part.TheVariants.{Whole};
 ghost use Rattle.fast_value.specs.declared.kind.Kind.TheVariants.{UInt32};
-ghost use Rattle.fast_spelled.specs.Heads.{HasSeen, IsHead, IsNoPart, TakesPart, message_after, name_of_part, said, there};
-ghost use Rattle.fast_spelled.specs.Spelled.{is_named, message_by, of_id, template_by};
+ghost use Rattle.fast_spelled.specs.declared.head.Said.TheVariants.{Nothing};
+ghost use Rattle.fast_spelled.specs.Heads.{HasSeen, IsHead, IsNoPart, StandsForNone, TakesPart, message_after, message_of_head, name_of_part, said, there};
+ghost use Rattle.fast_spelled.specs.Numbered.{packet_by};
+ghost use Rattle.fast_spelled.specs.Spelled.{is_named, of_id, template_by};
 
 use crate::fault::{LineCause, LineFault};
 use fast_template::{FlatTemplate, Kind, Part, Scalar, TemplateSet};
@@ -167,16 +170,51 @@ fn with_member<'a>(
     }
 }
 
-/// Reads a line to its end for what its members say. It is JSON.
-pub(crate) fn read_head<'a>(reader: &mut Reader<'a>) -> Result<Head<'a>, LineFault>
+/// What the members of a line say before its fields are read.
+#[derive(Clone, Copy)]
+pub(crate) struct LineHead<'a> {
+    pub(crate) head: Head<'a>,
+    /// The digits of its packet's number.
+    pub(crate) packet: Said<'a>,
+}
+
+/// Whether a member says which packet a line is of, where lines say that.
+fn is_packet(packets: bool, name: &str) -> bool
+    ensures { result ≡ (packets && bytes_eq name.now (codes "packet")) }
+{
+    packets && name == "packet"
+}
+
+/// Reads the digits of a packet's number, which stands in a line once.
+fn read_packet<'a>(reader: &mut Reader<'a>, before: Said<'a>) -> Result<Said<'a>, LineFault>
+    ensures shorter { length reader.new ≤ length reader.old }
+    ensures read { (j : Json) (rest : List SpecToken) → reader.old ≡ json_tokens j ++ rest → MatchResult result
+        (λ packet. (before.entry ≡ Nothing) × (there number packet ≡ Some j) × (reader.new ≡ rest))
+        (λ f. before.entry ≡ Nothing → packet_by j ≡ None) }
+{
+    match before {
+        Said::Nothing => match reader.next() {
+            Some(Token::Number(digits)) => Ok(Said::Text(digits)),
+            _ => Err(fault(LineCause::Line, reader)),
+        },
+        Said::Null | Said::Text(_) => Err(fault(LineCause::Line, reader)),
+    }
+}
+
+/// Reads a line to its end for what its members say, of which one is its packet or none. It is JSON.
+pub(crate) fn read_head<'a>(
+    reader: &mut Reader<'a>,
+    packets: bool,
+) -> Result<LineHead<'a>, LineFault>
     ensures { (j : Json) → depth j ≤ 128 → reader.old ≡ json_tokens j → MatchResult result
-        (λ head. IsHead j head)
-        (λ f. (set : TemplateList) → message_by set j ≡ None) }
+        (λ line. IsHead packets j line)
+        (λ f. (set : TemplateList) → StandsForNone packets set j) }
 {
     match open_object(reader) {
         Ok(()) => {}
         Err(fault) => return Err(fault),
     }
+    let mut packet = Said::Nothing;
     let mut head = Head {
         name: Said::Nothing,
         id: Said::Nothing,
@@ -188,6 +226,13 @@ pub(crate) fn read_head<'a>(reader: &mut Reader<'a>) -> Result<Head<'a>, LineFau
             Ok(None) => break,
             Err(_) => return Err(fault(LineCause::Json, reader)),
         };
+        if is_packet(packets, name) {
+            packet = match read_packet(reader, packet) {
+                Ok(packet) => packet,
+                Err(fault) => return Err(fault),
+            };
+            continue;
+        }
         let part = match part_of(name) {
             Some(part) => part,
             None => return Err(fault(LineCause::Line, reader)),
@@ -200,11 +245,11 @@ pub(crate) fn read_head<'a>(reader: &mut Reader<'a>) -> Result<Head<'a>, LineFau
     if !head.has_fields {
         return Err(fault(LineCause::Line, reader));
     }
-    Ok(head)
+    Ok(LineHead { head, packet })
 }
 
 /// Why a head names no template.
-pub(crate) fn why_none(head: Head<'_>) -> LineCause {
+fn why_none(head: Head<'_>) -> LineCause {
     match (head.name, head.id) {
         (Said::Text(_), _) | (_, Said::Text(_)) => LineCause::D9,
         (_, _) => LineCause::Line,
@@ -244,7 +289,7 @@ fn of_digits<'s>(
 /// # Errors
 ///
 /// Where memory is refused.
-pub(crate) fn template_of<'s>(
+fn template_of<'s>(
     alloc: Global,
     set: &'s TemplateSet,
     head: Head<'_>,
@@ -260,5 +305,44 @@ pub(crate) fn template_of<'s>(
         (Said::Text(name), _) => Ok(named(set, name)),
         (_, Said::Text(digits)) => of_digits(alloc, set, digits),
         (_, _) => Ok(None),
+    }
+}
+
+/// The template that a head names, with its identifier.
+pub(crate) fn template_for<'s>(
+    alloc: Global,
+    set: &'s TemplateSet,
+    head: Head<'_>,
+    reader: &Reader<'_>,
+) -> Result<(&'s FlatTemplate, u32), LineFault>
+    ensures { MatchResult result
+        (λ x. (template_by set.now (said string head.entry.name) (said number head.entry.id) ≡ Some x.0.now)
+        × (x.0.now.id ≡ Some x.1))
+        (λ f. (f.cause ≡ LineCause.Memory)
+        ⊎ ((fields : Json) → message_of_head set.now head.entry fields ≡ None)) }
+{
+    match template_of(alloc, set, head)? {
+        Some(template) => match template.id {
+            Some(id) => Ok((template, id)),
+            None => Err(fault(LineCause::D9, reader)),
+        },
+        None => Err(fault(why_none(head), reader)),
+    }
+}
+
+/// The number of a packet that its digits are: from 1 on.
+///
+/// # Errors
+///
+/// Where memory is refused.
+pub(crate) fn number_of(alloc: Global, packet: Said<'_>) -> Result<Option<u64>, AllocError>
+    ensures { IfOk result (λ n. n ≡ packet_by (said number packet.entry)) }
+{
+    match packet {
+        Said::Text(digits) => match value_of_text(alloc, Part::Whole, Kind::UInt64, digits)? {
+            Some(Scalar::U64(number)) if number > 0 => Ok(Some(number)),
+            _ => Ok(None),
+        },
+        Said::Nothing | Said::Null => Ok(None),
     }
 }

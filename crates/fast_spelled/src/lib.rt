@@ -1,6 +1,7 @@
 //! Messages of lines: what a line of JSON stands for.
 //!
-//! [`message_of`] reads one line, as `show --json` writes it or as a person does, for a message of a template set.
+//! [`message_of`] reads one line, as `show --json` writes it or as a person does, for a message of a template set;
+//! [`numbered_message_of`] one that says its packet besides, as `show --packets --json` writes it.
 #![tactic(auto)]
 
 mod fault;
@@ -21,7 +22,7 @@ ghost use Rattle.fast_spelled.specs.Within.{IsWithin};
 
 pub use fault::{LineCause, LineFault};
 pub use json::Scratch;
-pub use line::message_of;
+pub use line::{message_of, numbered_message_of};
 pub use names::names_are_text;
 
 /// The line that `show --json` writes of a message stands for that message.

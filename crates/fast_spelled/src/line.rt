@@ -1,17 +1,18 @@
 //! The message of a line.
 
-ghost use Rattle.std.specs.Prelude.{◌≡◌, ◌⊎◌, ◌≤◌, ◌<◌, ◌++◌, IfErr, IfOk, IsSome, MatchResult, List, None, Some, codes};
+ghost use Rattle.std.specs.Prelude.{◌≡◌, ◌⊎◌, ◌≤◌, ◌<◌, ◌++◌, IfErr, IfOk, IsSome, MatchResult, ℕ, List, None, Some, codes};
 ghost use Rattle.json.specs.Json.{Members, document, object};
 ghost use Rattle.json.specs.Token.{Token as SpecToken};
 ghost use Rattle.json.specs.Tree.{json_tokens, members_depth, members_tokens};
 ghost use Rattle.fast_template.specs.declared.resolved.FlatTemplate.{FlatTemplate as SpecTemplate};
 ghost use Rattle.fast_stream.specs.Nodes.{Content, content_of, node_limit, nodes_in};
 ghost use Rattle.fast_spelled.specs.Members.{first_named};
+ghost use Rattle.fast_spelled.specs.Numbered.{SpellsIn};
 ghost use Rattle.fast_spelled.specs.Spelled.{Spells, fields_of};
 ghost use Rattle.fast_spelled.specs.Tokens.{Refuses};
 
 use crate::fault::{LineCause, LineFault};
-use crate::head::{fault, open_object, pass, read_head, template_of, why_none};
+use crate::head::{fault, number_of, open_object, pass, read_head, template_for};
 use crate::members::{Reading, read_members};
 use fast_stream::Message;
 use fast_template::{FlatTemplate, TemplateSet};
@@ -126,15 +127,56 @@ pub fn message_of(
         Err(fault) => return Err(fault),
     }
     let mut reader = Reader::new(line, scratch)?;
-    let head = match read_head(&mut reader) {
-        Ok(head) => head,
+    let found = match read_head(&mut reader, false) {
+        Ok(found) => found,
         Err(fault) => return Err(fault),
     };
-    match template_of(alloc, set, head)? {
-        Some(template) => match template.id {
-            Some(id) => read_fields(alloc, template, id, line, scratch),
-            None => Err(fault(LineCause::D9, &reader)),
-        },
-        None => Err(fault(why_none(head), &reader)),
+    let (template, id) = match template_for(alloc, set, found.head, &reader) {
+        Ok(found) => found,
+        Err(fault) => return Err(fault),
+    };
+    read_fields(alloc, template, id, line, scratch)
+}
+
+/// The message that a line of a packet stands for, and the number of its packet: a line as [`message_of`] reads it, with a
+/// member `packet` besides, in any order.
+///
+/// # Errors
+///
+/// As of [`message_of`].
+pub fn numbered_message_of(
+    alloc: Global,
+    set: &TemplateSet,
+    line: &str,
+    scratch: &mut Scratch,
+) -> Result<(u64, Message), LineFault>
+    ensures spelled { IfOk result (λ x. SpellsIn set.now line.now x.0 (content_of x.1)) }
+    ensures small { IfOk result (λ x. nodes_in (content_of x.1).items ≤ node_limit) }
+    // a line that is refused stands for no message in a packet, but for want of memory, and for one with too many nodes
+    ensures refused { IfErr result (λ f. (f.cause ≡ LineCause.Memory)
+        ⊎ ((n : ℕ) (m : Content) → SpellsIn set.now line.now n m → ⊥)
+        ⊎ ((f.cause ≡ LineCause.Limit)
+        × ((n : ℕ) (m : Content) → SpellsIn set.now line.now n m → node_limit < nodes_in m.items))) }
+{
+    match check(line, scratch) {
+        Ok(()) => {}
+        Err(fault) => return Err(fault),
+    }
+    let mut reader = Reader::new(line, scratch)?;
+    let found = match read_head(&mut reader, true) {
+        Ok(found) => found,
+        Err(fault) => return Err(fault),
+    };
+    let number = match number_of(alloc, found.packet)? {
+        Some(number) => number,
+        None => return Err(fault(LineCause::Line, &reader)),
+    };
+    let (template, id) = match template_for(alloc, set, found.head, &reader) {
+        Ok(found) => found,
+        Err(fault) => return Err(fault),
+    };
+    match read_fields(alloc, template, id, line, scratch) {
+        Ok(message) => Ok((number, message)),
+        Err(fault) => Err(fault),
     }
 }

@@ -1,0 +1,14 @@
+use Rattle.std.proofs.Common.{◌≡◌, ◌<◌, rules, length, slice_index_or, sym, ◌∙◌}
+use Rattle.std.proofs.lemmas.List.{get_or_default}
+use Rattle.fast_dictionary.specs.declared.entry.Entry.TheVariants.{Undefined}
+use Rattle.fast_dictionary.proofs.SlotMaps.{under_key}
+use Rattle.fast_recording.proofs.entries.PacketEntriesEntries.get.Goals as goal
+
+pub returns : goal.returns
+returns c =
+    let below : c.args.key.now.slot < length c.args.self.now.entries.items = search rules in
+    let there : c.index.result.now ≡ slice_index_or c.args.self.now.entries.items c.args.key.now.slot c.index.result.now = search rules in
+    c.view.ensures
+    ∙ there
+    ∙ get_or_default c.args.self.now.entries.items c.args.key.now.slot _ Undefined below
+    ∙ sym (under_key c.args.self.now.set.now c.args.self.now.entries.items c.args.key.now c.requires)
