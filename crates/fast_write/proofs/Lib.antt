@@ -1,6 +1,7 @@
 pub mod Digits
 pub mod Cuts
 pub mod Made
+pub mod InPackets
 pub mod OneLine
 pub mod Standing
 pub mod Going

@@ -26,22 +26,3 @@ spell_more set (l ∷ ls) ms line m (inr x) s = inr (x.0, x.1 ++ m ∷ [], ap (�
 
 abbrev pub make_none : (set : TemplateList) (d : Dictionary) → d ≡ map.empty → Make set [] [] d
 make_none set d e = record { messages = []; short = tt; spelled = refl; canonical = (refl, e) }
-
--- a blank line more
-abbrev pub make_blank : {set : TemplateList} {lines : List (List ℕ)} {bytes : List ℕ} {d : Dictionary} → Make set lines bytes d → (line : List ℕ) → IsShort line → list_all is_blank line ≡ true → Make set (lines ++ line ∷ []) bytes d
-make_blank {set = set} {lines = lines} m line short blank = record {
-  messages = m.messages;
-  short = all_short lines line m.short short;
-  spelled = spell_blank set lines m.messages line m.spelled blank;
-  canonical = m.canonical;
-}
-
--- a message more
-abbrev pub make_more : {set : TemplateList} {lines : List (List ℕ)} {bytes : List ℕ} {d : Dictionary} → Make set lines bytes d → (line own : List ℕ) (message : Content) (after : Dictionary) → IsShort line → Spells set line message → CanonMessage (templates_in set) d own message after
-    → Make set (lines ++ line ∷ []) (bytes ++ own) after
-make_more {set = set} {lines = lines} {bytes = bytes} {d = d} m line own message after short spelled form = record {
-  messages = m.messages ++ message ∷ [];
-  short = all_short lines line m.short short;
-  spelled = spell_more set lines m.messages line message m.spelled spelled;
-  canonical = canon_more (templates_in set) m.messages message map.empty bytes own d after m.canonical form;
-}

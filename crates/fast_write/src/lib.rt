@@ -17,4 +17,4 @@ pub use fast_spelled::{LineCause, LineFault};
 pub use fault::WriteFault;
 pub use output::OutputForm;
 pub use summary::WrittenSummary;
-pub use write::write_lines;
+pub use write::{write_lines, write_packets};

@@ -1,6 +1,7 @@
 //! Lines on their way to canonical bytes.
 
 mod calls;
+mod packets;
 
 ghost use Rattle.std.specs.Prelude.{◌≡◌};
 
@@ -25,5 +26,10 @@ pub(crate) struct Way<'a, E: Entries> {
     // canonical bytes that wait to be written
     pub(crate) ready: Vec<u8>,
     pub(crate) counts: WrittenSummary,
+    // whether lines say their packets, the number of the last one, its canonical bytes, and those of one message
+    pub(crate) numbered: bool,
+    pub(crate) number: u64,
+    pub(crate) packet: Vec<u8>,
+    pub(crate) fresh: Vec<u8>,
     ghost same_set: { encoder.set.now ≡ set.now },
 }

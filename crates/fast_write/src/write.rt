@@ -1,11 +1,12 @@
 //! Lines to canonical bytes.
 
-ghost use Rattle.std.specs.Prelude.{◌≡◌, ◌≤◌, ◌^◌, ℕ, List, Option, []};
+ghost use Rattle.std.specs.Prelude.{◌≡◌, ◌≤◌, ◌^◌, ℕ, Bool, List, Option, [], false};
 ghost use Rattle.fast_template.specs.TemplateSets.{TemplateList};
 ghost use Rattle.fast_decoder.specs.Inputs.{Reads, told_by};
 ghost use Rattle.fast_write.specs.Written.{FlushesOnce, IsCausedBy, Writes, errors_behind, errors_by};
 ghost use Rattle.fast_write.specs.declared.fault.WriteFault.TheVariants as refusal;
-ghost use Rattle.fast_write.specs.Ways.{Answers, Ends, Finishes, GoesOn, IsSameWay, Stops, here};
+ghost use Rattle.fast_write.specs.Packets.{FlushesIn, WritesPackets};
+ghost use Rattle.fast_write.specs.Ways.{Answers, Ends, Finishes, GoesOn, IsSameWay, Stops, WritesIf, here};
 
 use crate::fault::WriteFault;
 use crate::output::OutputForm;
@@ -70,10 +71,12 @@ fn finish_all<W: ByteOutput, E: Entries>(
 ) -> Result<WrittenSummary, WriteFault>
     ensures answer { (left before : Option (List ℕ)) (input : List ℕ)
         → Ends (here way.old) left before (W.taken writer.old) input
-        → Writes (here way.old).form (here way.old).set left before (W.taken writer.new) input result }
+        → WritesIf (here way.old).numbered (here way.old).form (here way.old).set left before
+        (W.taken writer.new) input result }
     ensures answers { Answers (Ok tt) result }
     ensures failed { W.errors writer.new ≡ errors_behind result (W.errors writer.old) }
-    ensures flush { FlushesOnce result (W.flushes writer.old) (W.flushes writer.new) }
+    ensures flush { (here way.old).packet ≡ [] → FlushesOnce result (W.flushes writer.old) (W.flushes writer.new) }
+    ensures flush_in { FlushesIn result (W.flushes writer.old) (W.flushes writer.new) }
 {
     match way.close(writer) {
         Ok(()) => Ok(way.counts),
@@ -89,11 +92,13 @@ fn finish_before<W: ByteOutput, E: Entries>(
 ) -> Result<WrittenSummary, WriteFault>
     ensures answer { (left before : Option (List ℕ)) (input : List ℕ)
         → Stops (here way.old) before (W.taken writer.old) input fault
-        → Writes (here way.old).form (here way.old).set left before (W.taken writer.new) input result }
+        → WritesIf (here way.old).numbered (here way.old).form (here way.old).set left before
+        (W.taken writer.new) input result }
     ensures answers { Answers (Err fault) result }
     ensures failed { (start : ℕ) → W.errors writer.old ≡ errors_by fault start
         → W.errors writer.new ≡ errors_behind result start }
-    ensures flush { FlushesOnce result (W.flushes writer.old) (W.flushes writer.new) }
+    ensures flush { (here way.old).packet ≡ [] → FlushesOnce result (W.flushes writer.old) (W.flushes writer.new) }
+    ensures flush_in { FlushesIn result (W.flushes writer.old) (W.flushes writer.new) }
 {
     match fault {
         WriteFault::Write => Err(WriteFault::Write),
@@ -112,11 +117,13 @@ fn finish<W: ByteOutput, E: Entries>(
 ) -> Result<WrittenSummary, WriteFault>
     ensures answer { (left before : Option (List ℕ)) (input : List ℕ)
         → Finishes (here way.old) left before (W.taken writer.old) input answer
-        → Writes (here way.old).form (here way.old).set left before (W.taken writer.new) input result }
+        → WritesIf (here way.old).numbered (here way.old).form (here way.old).set left before
+        (W.taken writer.new) input result }
     ensures answers { Answers answer result }
     ensures failed { (start : ℕ) → W.errors writer.old ≡ errors_behind answer start
         → W.errors writer.new ≡ errors_behind result start }
-    ensures flush { FlushesOnce result (W.flushes writer.old) (W.flushes writer.new) }
+    ensures flush { (here way.old).packet ≡ [] → FlushesOnce result (W.flushes writer.old) (W.flushes writer.new) }
+    ensures flush_in { FlushesIn result (W.flushes writer.old) (W.flushes writer.new) }
 {
     match answer {
         Ok(()) => finish_all(way, writer),
@@ -129,8 +136,8 @@ fn refuse_memory<W: ByteOutput>(
     form: OutputForm,
     writer: &mut W,
 ) -> Result<WrittenSummary, WriteFault>
-    ensures answer { (set : TemplateList) (left : Option (List ℕ))
-        → Writes form set left (W.taken writer.old) (W.taken writer.new) [] result }
+    ensures answer { (numbered : Bool) (set : TemplateList) (left : Option (List ℕ))
+        → WritesIf numbered form set left (W.taken writer.old) (W.taken writer.new) [] result }
     ensures answers { Answers (Err refusal.Memory) result }
     ensures failed { W.errors writer.new ≡ errors_behind result (W.errors writer.old) }
     ensures flush { FlushesOnce result (W.flushes writer.old) (W.flushes writer.new) }
@@ -139,6 +146,53 @@ fn refuse_memory<W: ByteOutput>(
         Ok(()) => Err(WriteFault::Memory),
         Err(Failed) => Err(WriteFault::Write),
     }
+}
+
+/// Reads lines, which say their packets or do not, and writes the canonical bytes of their messages.
+fn write_with<R: ByteInput, W: ByteOutput>(
+    alloc: Global,
+    set: &TemplateSet,
+    numbered: bool,
+    form: OutputForm,
+    reader: &mut R,
+    writer: &mut W,
+    turns: u64,
+) -> Result<WrittenSummary, WriteFault>
+    requires turns { turns ≤ 2 ^ 40 }
+    ensures answer { (count : ℕ) × (input : List ℕ)
+        × Reads (told_by R.ByteInput reader.old) (told_by R.ByteInput reader.new) count input
+        × (count ≤ turns)
+        × WritesIf numbered form set.now (R.left reader.new) (W.taken writer.old) (W.taken writer.new) input result
+        × IsCausedBy result (count ≡ turns)
+        (told_by R.ByteInput reader.old) (told_by R.ByteInput reader.new) }
+    ensures write { W.errors writer.new ≡ errors_behind result (W.errors writer.old) }
+    ensures flush { numbered ≡ false → FlushesOnce result (W.flushes writer.old) (W.flushes writer.new) }
+    ensures flush_in { FlushesIn result (W.flushes writer.old) (W.flushes writer.new) }
+{
+    let entries = match SlotEntries::new(alloc, set) {
+        Ok(entries) => entries,
+        Err(AllocError) => return refuse_memory(form, writer),
+    };
+    let mut way = Way {
+        alloc,
+        set,
+        form,
+        encoder: Encoder::new(alloc, set, entries),
+        scratch: Scratch::new(alloc),
+        begun: Vec::new(alloc),
+        ready: Vec::new(alloc),
+        counts: WrittenSummary {
+            lines: 0,
+            messages: 0,
+            written: 0,
+        },
+        numbered,
+        number: 0,
+        packet: Vec::new(alloc),
+        fresh: Vec::new(alloc),
+    };
+    let answer = take_all(&mut way, reader, writer, turns);
+    finish(&mut way, answer, writer)
 }
 
 /// Reads lines of JSON to their end, each of which stands for a message, and writes the canonical bytes of the messages,
@@ -175,24 +229,40 @@ pub fn write_lines<R: ByteInput, W: ByteOutput>(
     ensures write { W.errors writer.new ≡ errors_behind result (W.errors writer.old) }
     ensures flush { FlushesOnce result (W.flushes writer.old) (W.flushes writer.new) }
 {
-    let entries = match SlotEntries::new(alloc, set) {
-        Ok(entries) => entries,
-        Err(AllocError) => return refuse_memory(form, writer),
-    };
-    let mut way = Way {
-        alloc,
-        set,
-        form,
-        encoder: Encoder::new(alloc, set, entries),
-        scratch: Scratch::new(alloc),
-        begun: Vec::new(alloc),
-        ready: Vec::new(alloc),
-        counts: WrittenSummary {
-            lines: 0,
-            messages: 0,
-            written: 0,
-        },
-    };
-    let answer = take_all(&mut way, reader, writer, turns);
-    finish(&mut way, answer, writer)
+    write_with(alloc, set, false, form, reader, writer, turns)
+}
+
+/// Reads lines of JSON to their end, each of which says its packet and stands for a message in it, and writes the canonical
+/// recording of the packets: each packet's canonical bytes, from undefined entries, behind their shortest size. Lines of one
+/// number, one behind the other, are one packet. Else it is as [`write_lines`].
+///
+/// What is held besides is the packet that is open, of at most 65,535 canonical bytes and a message's.
+///
+/// # Errors
+///
+/// As of [`write_lines`]. Line is answered also for a line without a packet, or of a packet before the last, and with Limit
+/// for one with which its packet has more than 65,535 canonical bytes. What is written before a line that is refused, or
+/// where the reader fails or the reads are used up, is the recording of the lines before. Memory, Write: a front of it is
+/// written.
+pub fn write_packets<R: ByteInput, W: ByteOutput>(
+    alloc: Global,
+    set: &TemplateSet,
+    form: OutputForm,
+    reader: &mut R,
+    writer: &mut W,
+    turns: u64,
+) -> Result<WrittenSummary, WriteFault>
+    requires turns { turns ≤ 2 ^ 40 }
+    // at most `turns` reads, what they gave, what was written, and what is answered
+    ensures answer { (count : ℕ) × (input : List ℕ)
+        × Reads (told_by R.ByteInput reader.old) (told_by R.ByteInput reader.new) count input
+        × (count ≤ turns)
+        × WritesPackets form set.now (R.left reader.new) (W.taken writer.old) (W.taken writer.new) input result
+        × IsCausedBy result (count ≡ turns)
+        (told_by R.ByteInput reader.old) (told_by R.ByteInput reader.new) }
+    // a failed write is answered exactly where a call of the writer failed
+    ensures write { W.errors writer.new ≡ errors_behind result (W.errors writer.old) }
+    ensures flush { FlushesIn result (W.flushes writer.old) (W.flushes writer.new) }
+{
+    write_with(alloc, set, true, form, reader, writer, turns)
 }

@@ -9,7 +9,7 @@ ghost use Rattle.fast_spelled.specs.declared.fault.LineFault.{LineFault as SpecF
 ghost use Rattle.fast_spelled.specs.Spelled.{Spells, is_blank};
 ghost use Rattle.fast_stream.specs.Nodes.{content_of};
 ghost use Rattle.fast_write.specs.Written.{IsNoLine, IsShort, errors_behind, line_limit};
-ghost use Rattle.fast_write.specs.Ways.{Closes, Comes, EndsLine, Finishes, GoesOn, Hands, IsOfLine, IsSameWay, Stands, Stops, TakesLine, here};
+ghost use Rattle.fast_write.specs.Ways.{ClosesAll, Comes, EndsLine, Finishes, GoesOn, Hands, IsOfLine, IsSameWay, Stands, Stops, TakesLine, TakesPlain, here};
 ghost use Rattle.fast_write.specs.declared.fault.WriteFault.TheVariants as refusal;
 
 use crate::fault::{WriteFault, of_line, of_message, of_whole};
@@ -26,7 +26,7 @@ use std::alloc::{AllocError, Global};
 const MANY: usize = 65_536;
 
 /// One more, but no further than the greatest number.
-fn one_more(count: u64) -> u64
+pub(super) fn one_more(count: u64) -> u64
     ensures { result ≡ counted count }
 {
     count.saturating_add(1)
@@ -56,15 +56,11 @@ fn read_line(
 }
 
 impl<'a, E: Entries> Way<'a, E> {
-    /// Takes the line that is open.
-    fn take_line(&mut self) -> Result<(), WriteFault>
-        ensures { TakesLine (here self.old) (here self.new) result }
+    /// Takes the line that is open, which is not blank and has this number, as a message of the one stream.
+    fn take_plain(&mut self, number: u64) -> Result<(), WriteFault>
+        requires { list_all is_blank self.now.begun.items ≡ false }
+        ensures { TakesPlain (here self.old) (here self.new) number result }
     {
-        let number = one_more(self.counts.lines);
-        if is_blank_line(&self.begun) {
-            self.counts.lines = number;
-            return Ok(());
-        }
         let message = match read_line(
             self.alloc,
             self.set,
@@ -82,6 +78,21 @@ impl<'a, E: Entries> Way<'a, E> {
         self.counts.lines = number;
         self.counts.messages = one_more(self.counts.messages);
         Ok(())
+    }
+
+    /// Takes the line that is open.
+    fn take_line(&mut self) -> Result<(), WriteFault>
+        ensures { TakesLine (here self.old) (here self.new) result }
+    {
+        let number = one_more(self.counts.lines);
+        if is_blank_line(&self.begun) {
+            self.counts.lines = number;
+            return Ok(());
+        }
+        if self.numbered {
+            return self.take_numbered(number);
+        }
+        self.take_plain(number)
     }
 
     /// Writes what waits.
@@ -102,7 +113,7 @@ impl<'a, E: Entries> Way<'a, E> {
     /// Takes the line that is open, and writes what waits where it is much.
     pub(crate) fn end_line<W: ByteOutput>(&mut self, writer: &mut W) -> Result<(), WriteFault>
         ensures ends { (before : Option (List ℕ)) (lines : List (List ℕ))
-            → Stands (here self.old) before (W.taken writer.old) lines
+            → Stands (here self.old) (here self.old).entries before (W.taken writer.old) lines
             → IsShort (here self.old).begun
             → EndsLine (here self.old) (here self.new) before (W.taken writer.new) lines result }
         ensures of_line { IfErr result IsOfLine }
@@ -216,12 +227,17 @@ impl<'a, E: Entries> Way<'a, E> {
         self.end_line(writer)
     }
 
-    /// Writes what waits and what stands behind it, and flushes the writer.
+    /// Writes what waits, with the packet that is open and what stands behind it, and flushes the writer.
     pub(crate) fn close<W: ByteOutput>(&mut self, writer: &mut W) -> Result<(), WriteFault>
-        ensures closes { Closes (here self.old) (here self.new) (W.taken writer.old) (W.taken writer.new) result }
+        ensures closes { ClosesAll (here self.old) (here self.new) (W.taken writer.old) (W.taken writer.new) result }
         ensures failed { W.errors writer.new ≡ errors_behind result (W.errors writer.old) }
-        ensures flushed { OnOk result (W.flushes writer.new ≡ counted (W.flushes writer.old)) }
+        ensures flushed { MatchResult result (λ _. W.flushes writer.new ≡ counted (W.flushes writer.old))
+            (λ f. f ≡ refusal.Memory → W.flushes writer.new ≡ W.flushes writer.old) }
     {
+        match self.close_packet() {
+            Ok(()) => {}
+            Err(AllocError) => return Err(WriteFault::Memory),
+        }
         match self.hand_on(writer) {
             Ok(()) => {}
             Err(fault) => return Err(fault),

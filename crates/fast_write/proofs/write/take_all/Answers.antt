@@ -10,7 +10,7 @@ pub loop-reads-init : goal.loop-reads-init
 loop-reads-init g c = record {
   few = omega arith;
   room = refl;
-  same = record { form = refl; set = refl };
+  same = record { form = refl; set = refl; numbered = refl };
   errors = refl;
   flushes = refl;
   no_end = refl;
@@ -30,7 +30,7 @@ loop-reads-preserved g c =
     record {
       few = omega arith;
       room = room;
-      same = record { form = ap (λ (h : Here). h.form) same ∙ t.same.form ∙ v.same.form; set = ap (λ (h : Here). h.set) same ∙ t.same.set ∙ v.same.set };
+      same = record { form = ap (λ (h : Here). h.form) same ∙ t.same.form ∙ v.same.form; set = ap (λ (h : Here). h.set) same ∙ t.same.set ∙ v.same.set; numbered = ap (λ (h : Here). h.numbered) same ∙ t.same.numbered ∙ v.same.numbered };
       errors = h.failed ∙ t.failed ∙ v.errors;
       flushes = h.flushes ∙ t.flushes ∙ v.flushes;
       no_end = p.end.1 some ∙ v.no_end;

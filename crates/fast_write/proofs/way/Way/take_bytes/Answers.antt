@@ -9,7 +9,7 @@ loop-at-preserved g c =
     let e = c.in-Ok.ensures in
     record {
       place = piece_place _ _ _ v.place e.some.1;
-      same = record { form = e.same.form ∙ v.same.form; set = e.same.set ∙ v.same.set };
+      same = record { form = e.same.form ∙ v.same.form; set = e.same.set ∙ v.same.set; numbered = e.same.numbered ∙ v.same.numbered };
       errors = e.failed ∙ v.errors;
       flushes = e.flushes ∙ v.flushes;
       goes = λ before input go. subst (GoesOn (here c.take_piece.new.self) before (g.W.ByteOutput.taken c.take_piece.new.writer)) (piece_on input c.args.bytes.now c.loop-at.at c.in-Ok.count) (e.comes before _ (v.goes before input go));

@@ -1,25 +1,9 @@
-use Rattle.std.proofs.Common.{refl, inr}
-use Rattle.fast_stream.specs.Nodes.{content_of}
 use Rattle.fast_write.specs.Ways.{here}
-use Rattle.fast_write.proofs.OneLine.{not_changed, now_counted, refused_not_taken}
+use Rattle.fast_write.proofs.OneLine.{takes_in, takes_plain}
 use Rattle.fast_write.proofs.way.Way.take_line.Goals as goal
 
-pub returns-in-Err-encode : goal.returns-in-Err-encode
-returns-in-Err-encode g c =
-    let e = c.in-Err-encode.ensures in (
-      not_changed (here c.args.self.now) _ _ e.unchanged.1 e.unchanged.0,
-      refused_not_taken _ _ _ _ c.deref-2.result.now _ _ c.in-Ok.message.template _ c.in-Err-encode.fault _ c.args.self.now.same_set c.deref-2.ensures.value c.one_more-number.ensures refl c.in-Ok.ensures c.of_message.ensures e.refused e.no_form,
-    )
-
 pub returns : goal.returns
-returns g c =
-    let w = c.in-Ok-encode.ensures.written in
-    let after = g.E.Entries.contents c.encode.new.self.journal.entries in
-    inr (record {
-      bytes = w.0;
-      message = content_of c.in-Ok.message;
-      after = after;
-      spelled = rw (c.deref-2.ensures.value) at c.in-Ok.ensures;
-      canonical = rw (c.args.self.now.same_set) at w.2;
-      is = now_counted (here c.args.self.now) after _ w.0 _ _ w.1 c.one_more-number.ensures c.one_more-self.ensures;
-    })
+returns g c = takes_plain (here c.args.self.now) (here c.take_plain.new.self) _ c.take_plain.result c.if-self.false c.one_more-number.ensures c.take_plain.ensures
+
+pub returns-then-self : goal.returns-then-self
+returns-then-self g c = takes_in (here c.args.self.now) (here c.take_numbered.new.self) _ c.take_numbered.result c.if-self.true c.one_more-number.ensures c.take_numbered.ensures
