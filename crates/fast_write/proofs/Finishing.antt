@@ -1,8 +1,8 @@
 -- What is answered in the end.
-use Rattle.std.proofs.Common.{◌≡◌, ◌⊎◌, ℕ, ◌+◌, Bool, true, false, List, [], ◌∷◌, ◌++◌, length, Option, Result, Ok, Err, inl, inr, refl, sym, ap, ◌∙◌, subst, append_assoc, append-nil, length-append}
+use Rattle.std.proofs.Common.{◌≡◌, ◌⊎◌, ℕ, Bool, true, false, List, [], ◌++◌, length, Option, Result, Ok, Err, inl, inr, refl, sym, ap, ◌∙◌, subst, append_assoc, append-nil, length-append}
 use Rattle.std.specs.FinMap as map
 use Rattle.std.specs.Io.KnownBytes.{Appends, IsAtEnd}
-use Rattle.fast_io.specs.Counts.{counted, counted_by}
+use Rattle.fast_io.specs.Counts.{counted_by}
 use Rattle.fast_io.specs.Traffic.{Taken}
 use Rattle.fast_io.proofs.Outputs.{Appends-trans}
 use Rattle.fast_spelled.specs.Spelled.{lines_of}
@@ -13,9 +13,9 @@ use Rattle.fast_write.specs.declared.fault.WriteFault.TheVariants as refusal
 use Rattle.fast_write.specs.declared.output.OutputForm.{OutputForm}
 use Rattle.fast_write.specs.declared.summary.WrittenSummary.{WrittenSummary}
 use Rattle.fast_write.specs.Outputs.{ending_of, output_of, part_of}
-use Rattle.fast_write.specs.Packets.{Packets, WritesFrontIn, no_packets}
-use Rattle.fast_write.specs.Written.{FlushesOnce, Make, WritesFront}
-use Rattle.fast_write.specs.Ways.{Answers, Breaks, Closes, ClosesNot, ClosesOn, Ends, Finishes, Here, MadeIf, Makes, Stands, Stops, StopsAtWrite, StopsIf, StopsIn, WritesIf}
+use Rattle.fast_write.specs.Packets.{Packets, no_packets}
+use Rattle.fast_write.specs.Written.{FlushesOnce}
+use Rattle.fast_write.specs.Ways.{Answers, ClosesNot, ClosesOn, Ends, Finishes, Here, MadeIf, Makes, Stands, Stops, StopsIf, StopsIn, WritesIf}
 use Rattle.fast_write.proofs.Made.{make_none}
 use Rattle.fast_write.proofs.Standing.{closes_of, few_if, makes_if, more_counted, part_append, part_nil}
 

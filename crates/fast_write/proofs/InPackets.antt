@@ -1,17 +1,15 @@
 -- Messages in packets, and their recordings.
-use Rattle.std.proofs.Common.{◌≡◌, ◌⊎◌, ℕ, ◌+◌, ◌<◌, ◌≤◌, ◌==◌, Bool, true, false, List, [], ◌∷◌, ◌++◌, length, Option, inl, inr, refl, sym, ap, ◌∙◌, subst, arith, append_assoc, append-nil, length-append, eq-eqb}
+use Rattle.std.proofs.Common.{◌≡◌, ◌⊎◌, ℕ, ◌+◌, ◌<◌, ◌≤◌, ◌==◌, Bool, true, false, List, [], ◌∷◌, ◌++◌, length, inl, inr, refl, sym, ap, ◌∙◌, subst, arith, append_assoc, append-nil, length-append, eq-eqb}
 use Rattle.std.proofs.lemmas.Bool.{eqb-true}
 use Rattle.std.specs.Prelude.{if◌then◌else◌}
 use Rattle.std.specs.FinMap as map
-use Rattle.std.specs.List.{list_all, AllByRecursion}
+use Rattle.std.specs.List.{list_all}
 use Rattle.fast_field.specs.Fields.{Form}
 use Rattle.fast_field.specs.Best.{IsBest}
 use Rattle.fast_field.proofs.StrictForms.{best_at_level}
 use Rattle.fast_stream.specs.Streams.{MapAt, MessageForm}
 use Rattle.fast_stream.proofs.Weaker.{message_weaker}
 use Rattle.fast_stream.proofs.ModeReaders.{message_some}
-use Rattle.fast_wire.specs.Integer.{IsUnsigned}
-use Rattle.fast_wire.specs.Writing.{IsShortest}
 use Rattle.fast_wire.specs.declared.level.Level.TheVariants.{Usual}
 use Rattle.fast_template.specs.Resolved.{Resolved}
 use Rattle.fast_template.specs.TemplateSets.{TemplateList, templates_in}
@@ -23,7 +21,7 @@ use Rattle.fast_spelled.specs.Numbered.{SpellsIn}
 use Rattle.fast_spelled.specs.Spelled.{is_blank}
 use Rattle.fast_writer.specs.Canonical.{CanonFrom, CanonMessage, IsCanonical, IsShortestMap}
 use Rattle.fast_writer.proofs.Writers.{canon_more}
-use Rattle.fast_write.specs.Packets.{AreInOrder, IsTooMuch, Numbered, Packets, SpellIn, all_of, if_some, no_packets, packets_of, packets_on, with_next}
+use Rattle.fast_write.specs.Packets.{AreInOrder, IsTooMuch, Numbered, Packets, SpellIn, all_of, if_some, no_packets, packets_on, with_next}
 use Rattle.fast_write.specs.Ways.{Closes, MadePackets}
 
 -- ---- lines

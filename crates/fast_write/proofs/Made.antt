@@ -2,12 +2,10 @@
 use Rattle.std.proofs.Common.{◌≡◌, ℕ, true, List, [], ◌∷◌, ◌++◌, inl, inr, refl, ap}
 use Rattle.std.specs.FinMap as map
 use Rattle.std.specs.List.{list_all, AllByRecursion}
-use Rattle.fast_template.specs.TemplateSets.{TemplateList, templates_in}
+use Rattle.fast_template.specs.TemplateSets.{TemplateList}
 use Rattle.fast_dictionary.specs.Dictionary.{Dictionary}
 use Rattle.fast_stream.specs.Nodes.{Content}
 use Rattle.fast_spelled.specs.Spelled.{Spell, Spells, is_blank}
-use Rattle.fast_writer.specs.Canonical.{CanonMessage}
-use Rattle.fast_writer.proofs.Writers.{canon_more}
 use Rattle.fast_write.specs.Written.{IsShort, Make}
 
 pub all_short : (lines : List (List ℕ)) (line : List ℕ) → AllByRecursion IsShort lines → IsShort line → AllByRecursion IsShort (lines ++ line ∷ [])

@@ -1,5 +1,5 @@
 -- Lines that were taken: what was written, and what waits.
-use Rattle.std.proofs.Common.{◌≡◌, ◌⊎◌, ℕ, ◌+◌, ◌<◌, ◌≤◌, ◌==◌, Bool, true, false, List, [], ◌∷◌, ◌++◌, length, Option, Some, Result, Ok, Err, inl, inr, refl, sym, ap, ◌∙◌, subst, arith, append_assoc, append-nil, length-append}
+use Rattle.std.proofs.Common.{◌≡◌, ℕ, ◌+◌, ◌<◌, ◌≤◌, ◌==◌, Bool, true, false, List, [], ◌∷◌, ◌++◌, length, Option, Some, Result, Ok, Err, inl, inr, refl, sym, ap, ◌∙◌, subst, arith, append_assoc, append-nil, length-append}
 use Rattle.std.specs.Prelude.{if◌then◌else◌}
 use Rattle.std.specs.FinMap as map
 use Rattle.std.specs.List.{list_all, AllByRecursion}
@@ -12,7 +12,6 @@ use Rattle.fast_wire.proofs.ShortestForms.{shortest_unsigned}
 use Rattle.fast_wire.specs.declared.level.Level.TheVariants.{Usual}
 use Rattle.fast_template.specs.TemplateSets.{TemplateList, templates_in}
 use Rattle.fast_dictionary.specs.Dictionary.{Dictionary}
-use Rattle.fast_stream.specs.Nodes.{Content}
 use Rattle.fast_stream.specs.Streams.{MessageForm}
 use Rattle.fast_nodes.specs.FirstRefusal.{first_refusal}
 use Rattle.fast_nodes.specs.declared.fault.EncodeFault.{EncodeFault}
@@ -172,18 +171,21 @@ pub makes_if : (b : Bool) (set : TemplateList) (lines : List (List ℕ)) (bytes 
 makes_if false set lines bytes count p d number packet m short more k =
     let none : more ≡ [] = alone m.no_packet k in
     (record { messages = m.messages; short = short; spelled = m.spelled; canonical = rw (none, append-nil bytes) m.canonical }, m.many) where
-  alone : {packet more : List ℕ} → packet ≡ [] → Closes packet more → more ≡ []
-  alone {more = more} is k = subst (λ l. Closes l more) is k
-makes_if true set lines bytes count p d number packet m short more k = (record {
-  messages = m.messages;
-  short = short;
-  spelled = m.spelled;
-  in_order = m.in_order;
-  packets = m.packets;
-  recorded = closed_packet (templates_in set) p.ended p.last bytes packet more d m.recorded m.going_on m.few k;
-  stream = packet;
-  going_on = m.going_on;
-}, m.many)
+      alone : {packet more : List ℕ} → packet ≡ [] → Closes packet more → more ≡ []
+      alone {more = more} is k = subst (λ l. Closes l more) is k
+makes_if true set lines bytes count p d number packet m short more k = (
+  record {
+    messages = m.messages;
+    short = short;
+    spelled = m.spelled;
+    in_order = m.in_order;
+    packets = m.packets;
+    recorded = closed_packet (templates_in set) p.ended p.last bytes packet more d m.recorded m.going_on m.few k;
+    stream = packet;
+    going_on = m.going_on;
+  },
+  m.many,
+)
 
 pub few_if : (b : Bool) (set : TemplateList) (lines : List (List ℕ)) (bytes : List ℕ) (count : ℕ) (p : Packets) (d : Dictionary) (number : ℕ) (packet : List ℕ) → MadeIf b set lines bytes count p d number packet → length packet ≤ packet_limit
 few_if false set lines bytes count p d number packet m = subst (λ (l : List ℕ). length l ≤ packet_limit) (sym m.no_packet) (omega arith)

@@ -124,8 +124,11 @@ impl<'a, E: Entries> Way<'a, E> {
     fn begin_packet(&mut self, packet: u64, number: u64) -> Result<(), WriteFault>
         ensures kept { MatchResult result
             (λ _. (length self.old.fresh.items ≤ packet_limit) × (bytes : List ℕ) × Closes (here self.old).packet bytes
-            × (here self.new ≡ record (here self.old) { ready = (here self.old).ready ++ bytes; number = packet;
-            packet = self.old.fresh.items }))
+            × (here self.new ≡ record (here self.old) {
+              ready = (here self.old).ready ++ bytes;
+              number = packet;
+              packet = self.old.fresh.items;
+            }))
             (λ f. (here self.new ≡ here self.old) × ((f ≡ refusal.Memory)
             ⊎ ((fault : SpecFault) × (f ≡ refusal.Line number fault) × (fault.cause ≡ line_cause.Limit)
             × (packet_limit < length self.old.fresh.items)))) }
@@ -147,8 +150,11 @@ impl<'a, E: Entries> Way<'a, E> {
         ensures kept { MatchResult result
             (λ _. (ready : List ℕ) × Waits (here self.old) packet ready
             × (length (packet_at (here self.old) packet ++ self.old.fresh.items) ≤ packet_limit)
-            × (here self.new ≡ record (here self.old) { ready = ready; number = packet;
-            packet = packet_at (here self.old) packet ++ self.old.fresh.items }))
+            × (here self.new ≡ record (here self.old) {
+              ready = ready;
+              number = packet;
+              packet = packet_at (here self.old) packet ++ self.old.fresh.items;
+            }))
             (λ f. (here self.new ≡ here self.old) × ((f ≡ refusal.Memory)
             ⊎ ((fault : SpecFault) × (f ≡ refusal.Line number fault) × (fault.cause ≡ line_cause.Limit)
             × (packet_limit < length (packet_at (here self.old) packet ++ self.old.fresh.items))))) }

@@ -1,4 +1,4 @@
-use Rattle.std.proofs.Common.{◌≡◌, ◌≤◌, [], Err, inl, inr, refl, sym, arith, ◌∙◌, subst}
+use Rattle.std.proofs.Common.{[], Err, refl, arith, ◌∙◌, subst}
 use Rattle.fast_decoder.proofs.Inputs.{none_read}
 use Rattle.fast_write.specs.declared.fault.WriteFault.TheVariants as refusal
 use Rattle.fast_write.specs.Written.{FlushesOnce}

@@ -1,4 +1,4 @@
-use Rattle.std.proofs.Common.{refl, inl, inr}
+use Rattle.std.proofs.Common.{refl, inr}
 use Rattle.fast_io.proofs.Outputs.{Appends-nil}
 use Rattle.fast_write.specs.Ways.{here}
 use Rattle.fast_write.proofs.Standing.{closes_on, not_ended, not_handed}

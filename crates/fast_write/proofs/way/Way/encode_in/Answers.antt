@@ -1,5 +1,4 @@
 use Rattle.std.proofs.Common.{ap, ◌∙◌}
-use Rattle.fast_write.specs.Ways.{here}
 use Rattle.fast_write.proofs.OneLine.{at_other, at_same, encoded}
 use Rattle.fast_write.proofs.way.Way.encode_in.Goals as goal
 

@@ -1,5 +1,5 @@
 use Rattle.fast_write.specs.Ways.{here}
-use Rattle.fast_write.proofs.Standing.{ends_handed, fault_of_line, not_taken, stands_closed, stands_taken, takes_same}
+use Rattle.fast_write.proofs.Standing.{ends_handed, fault_of_line, not_taken, stands_closed, stands_taken}
 use Rattle.fast_write.proofs.way.Way.end_line.Goals as goal
 
 pub returns-in-Err-clause-ends : goal.returns-in-Err-clause-ends

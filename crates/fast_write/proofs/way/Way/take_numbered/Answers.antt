@@ -1,6 +1,6 @@
-use Rattle.std.proofs.Common.{arith, refl, ◌∙◌, ap}
+use Rattle.std.proofs.Common.{arith, refl, ◌∙◌}
 use Rattle.fast_stream.specs.Nodes.{content_of}
-use Rattle.fast_write.specs.Ways.{Here, here}
+use Rattle.fast_write.specs.Ways.{here}
 use Rattle.fast_write.proofs.OneLine.{fallen_not_taken, not_kept_in, refused_not_taken_in, taken_numbered, unread_not_taken_in}
 use Rattle.fast_write.proofs.way.Way.take_numbered.Goals as goal
 
