@@ -1,0 +1,10 @@
+pub mod Digits
+pub mod Cuts
+pub mod Made
+pub mod InPackets
+pub mod OneLine
+pub mod Standing
+pub mod Going
+pub mod Finishing
+pub mod Withins
+pub mod Shown

@@ -1,0 +1,5 @@
+pub mod Outputs
+pub mod Written
+pub mod Packets
+pub mod Ways
+pub mod Laws
