@@ -16,8 +16,8 @@ extern "C" {
 
 /* The version of this header, as a text and as a number (10,000 for each major version, 100 for each minor one, 1 for each
  * patch), and that of the library. */
-#define FASTCAT_VERSION "0.1.0"
-#define FASTCAT_VERSION_NUMBER 100
+#define FASTCAT_VERSION "0.2.0"
+#define FASTCAT_VERSION_NUMBER 200
 uint32_t fastcat_version(void);
 
 /* How a stream is read and shown: the sum of these. A mode with any other bit is refused, and one with blocks and packets. */

@@ -104,7 +104,7 @@ class Examples(unittest.TestCase):
             fastcat.check_templates(5)
 
     def test_version(self):
-        self.assertEqual(fastcat.__version__, "0.1.0")
+        self.assertEqual(fastcat.__version__, "0.2.0")
 
 
 class Refusals(unittest.TestCase):

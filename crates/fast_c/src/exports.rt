@@ -72,7 +72,7 @@ pub extern "C" fn fastcat_templates(alloc: Global, templates: &[u8], answer: &mu
 /// The version of the library: 10,000 for each major version, 100 for each minor one, 1 for each patch.
 #[unsafe(no_mangle)]
 pub extern "C" fn fastcat_version() -> u32
-    ensures { result ≡ 100 }
+    ensures { result ≡ 200 }
 {
     VERSION_NUMBER
 }

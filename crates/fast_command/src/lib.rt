@@ -16,7 +16,7 @@ pub use line::show_line;
 pub use packets::run_packets;
 
 /// The version of the program and of the library.
-pub const VERSION: &str = "0.1.0";
+pub const VERSION: &str = "0.2.0";
 
 /// The same as a number: 10,000 for each major version, 100 for each minor one, 1 for each patch.
-pub const VERSION_NUMBER: u32 = 100;
+pub const VERSION_NUMBER: u32 = 200;

@@ -75,7 +75,7 @@ pub fn meaning_of_line(cause: &str) -> &'static str {
     match cause {
         "Json" => "the line is no JSON text in UTF-8, or nests more than 128 levels; mend it there",
         "Line" => {
-            "a line is an object of \"template\" or \"id\" or both, and of \"fields\", each once, and of nothing else"
+            "a line is an object of \"template\" or \"id\" or both, and of \"fields\", each once, and of nothing else; with --packets also of \"packet\", a number that is not below that of the line before"
         }
         "D9" => {
             "no template has this name or identifier, or they are of two; compare them with the templates"
@@ -94,7 +94,7 @@ pub fn meaning_of_line(cause: &str) -> &'static str {
         "NotConstant" => "the value is not the constant of its field",
         "TooShort" => "the value is shorter than the earlier one whose end it changes",
         _ => {
-            "the line has more than 16777216 bytes, or more text, elements or fields than a message may have"
+            "the line has more than 16777216 bytes, or more text, elements or fields than a message may have, or its packet more than 65535 bytes"
         }
     }
 }

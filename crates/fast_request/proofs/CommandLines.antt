@@ -142,8 +142,11 @@ going_refused = refl
 canon_refused : task_named (codes "canon") (flags false false true true) ≡ None
 canon_refused = refl
 
-lines_asked : task_named (codes "write") (flags true true false false) ≡ Some Task.Write
+lines_asked : task_named (codes "write") (flags true true false false) ≡ Some (Task.Write false)
 lines_asked = refl
+
+lines_in_packets_asked : task_named (codes "write") (flags false false true false) ≡ Some (Task.Write true)
+lines_in_packets_asked = refl
 
 lines_going_refused : task_named (codes "write") (flags false false false true) ≡ None
 lines_going_refused = refl

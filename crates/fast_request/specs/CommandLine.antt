@@ -131,9 +131,9 @@ over_packets command flags =
 abbrev pub command_task : Flags → Command → Option Task
 command_task flags command = if flags.packets then over_packets command flags else over_stream command flags
 
--- lines are of no packets
+-- of lines no packet is refused behind which to go on
 abbrev pub over_lines : Flags → Option Task
-over_lines flags = if flags.keep_going || flags.packets then None else Some Task.Write
+over_lines flags = if flags.keep_going then None else Some (Task.Write flags.packets)
 
 -- what a word and the flags ask for; none where they cannot stand together
 abbrev pub task_named : Text → Flags → Option Task

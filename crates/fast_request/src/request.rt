@@ -17,8 +17,8 @@ pub enum Task {
     Stream { command: Command, mode: Mode },
     /// A command over a recording of packets, which is read so.
     Recording { command: Command, mode: PacketMode },
-    /// Lines of messages are written as canonical bytes.
-    Write,
+    /// Lines of messages are written as canonical bytes, or lines that say their packets as a canonical recording.
+    Write { packets: bool },
 }
 
 /// What a command line asks for.
@@ -249,10 +249,9 @@ fn over_lines(flags: Flags) -> Result<Task, Unasked>
     if flags.keep_going {
         return Err(Unasked::KeepGoing);
     }
-    if flags.packets {
-        return Err(Unasked::PacketsOfLines);
-    }
-    Ok(Task::Write)
+    Ok(Task::Write {
+        packets: flags.packets,
+    })
 }
 
 /// What a word and the flags ask for.
@@ -337,8 +336,6 @@ enum Unasked {
     InputTwice,
     /// Packets are to have blocks.
     PacketsOfBlocks,
-    /// Lines are to be of packets.
-    PacketsOfLines,
     /// It is to go on behind a refused packet where there are no packets, or none may be refused.
     KeepGoing,
 }
@@ -399,10 +396,6 @@ pub fn parse_words<'a>(alloc: Global, words: &'a [&'a str]) -> Result<Request<'a
         Err(Unasked::PacketsOfBlocks) => Err(line.error(
             ErrorKind::ArgumentConflict,
             "--packets cannot be used with --blocks: a packet is a stream without blocks",
-        )?),
-        Err(Unasked::PacketsOfLines) => Err(line.error(
-            ErrorKind::ArgumentConflict,
-            "write cannot be used with --packets",
         )?),
         Err(Unasked::KeepGoing) => Err(line.error(
             ErrorKind::ArgumentConflict,

@@ -1,6 +1,6 @@
 -- What the program did, by what its files and its input gave and what its output took. How it answers is the project's
 -- own.
-use Rattle.std.specs.Prelude.{◌≡◌, ◌≢◌, ◌⊎◌, ℕ, ◌≤◌, ◌++◌, List, [], ◌∷◌, Bool, true, false, Option, None, Some, Result, Ok, Err, IsErr, IsErrAnd, IsUtf8}
+use Rattle.std.specs.Prelude.{◌≡◌, ◌≢◌, ◌⊎◌, ◌&&◌, not, if◌then◌else◌, ℕ, ◌≤◌, ◌++◌, List, [], ◌∷◌, Bool, true, false, Option, None, Some, Result, Ok, Err, IsErr, IsErrAnd, IsUtf8}
 use Rattle.std.specs.Io.KnownBytes.{Appends}
 use Rattle.hex.specs.Hex.{decode_of, encode_lower}
 use Rattle.serde_json.specs.Data.{Data}
@@ -36,6 +36,7 @@ use Rattle.fast_command.specs.declared.command.Command.{Command}
 use Rattle.fast_command.specs.declared.command.Command.TheVariants.{Show, Check, Canon}
 use Rattle.fast_host.specs.declared.input.TextFault.{TextFault}
 use Rattle.fast_host.specs.declared.refusal.Refusal.{Refusal}
+use Rattle.fast_write.specs.Packets.{FlushesIn, WritesPackets}
 use Rattle.fast_write.specs.Written.{Writes, errors_behind}
 use Rattle.fast_write.specs.Written.{FlushesOnce as FlushesWritten}
 use Rattle.fast_write.specs.Written.{IsCausedBy as IsWriteCausedBy}
@@ -216,6 +217,18 @@ pub record RunsLines (hex : Bool) (set : TemplateList) (turns : ℕ) (in_old in_
   pub flushed : FlushesWritten answer out_old.flushes out_new.flushes
   pub answered : AnswersLines answer r
 
+-- likewise the canonical recording of the packets of lines that say theirs
+pub record RunsPacketLines (hex : Bool) (set : TemplateList) (turns : ℕ) (in_old in_new : Reader) (out_old out_new : Writer) (r : Answer) : Type 0 where
+  pub count : ℕ
+  pub input : List ℕ
+  pub answer : Result WrittenSummary WriteFault
+  pub read : ReadsUpTo turns count in_old in_new input
+  pub wrote : WritesPackets (form_by hex) set in_new.left out_old.taken out_new.taken input answer
+  pub caused : IsWriteCausedBy answer (count ≡ turns) in_old in_new
+  pub write_failed : out_new.errors ≡ errors_behind answer out_old.errors
+  pub flushed : FlushesIn answer out_old.flushes out_new.flushes
+  pub answered : AnswersLines answer r
+
 -- ---- a task
 
 -- what was done of an input's bytes; standard error is told of refused packets alone
@@ -224,8 +237,10 @@ RunsTask (Task.Stream command mode) hex form set turns in_old in_new out_old out
     RunsPlain command mode form set turns in_old in_new out_old out_new r × (err_new ≡ err_old)
 RunsTask (Task.Recording command mode) hex form set turns in_old in_new out_old out_new err_old err_new r =
     RunsRecording command mode form set turns in_old in_new out_old out_new err_old err_new r
-RunsTask Task.Write hex form set turns in_old in_new out_old out_new err_old err_new r =
+RunsTask (Task.Write false) hex form set turns in_old in_new out_old out_new err_old err_new r =
     RunsLines hex set turns in_old in_new out_old out_new r × (err_new ≡ err_old)
+RunsTask (Task.Write true) hex form set turns in_old in_new out_old out_new err_old err_new r =
+    RunsPacketLines hex set turns in_old in_new out_old out_new r × (err_new ≡ err_old)
 
 -- a task was done of bytes in memory
 abbrev pub RunsInMemory : Task → Bool → Form → TemplateList → ℕ → List ℕ → Writer → Writer → Writer → Writer → Answer → Type 0
@@ -256,11 +271,16 @@ PerformsHexText task hex form set turns in_old in_new out_old out_new err_old er
 
 -- ---- what is asked for
 
+-- lines are to be written
+abbrev pub is_written : Task → Bool
+is_written (Task.Write packets) = true
+is_written task = false
+
 -- a task over an input in plain bytes, or in hex text; lines are never hex text
 abbrev pub PerformsOver : Bool → Task → Form → TemplateList → ℕ → Reader → Reader → Writer → Writer → Writer → Writer → Answer → Type 0
-PerformsOver false task form set turns in_old in_new out_old out_new err_old err_new r = RunsTask task false form set turns in_old in_new out_old out_new err_old err_new r
-PerformsOver true Task.Write form set turns in_old in_new out_old out_new err_old err_new r = RunsTask Task.Write true form set turns in_old in_new out_old out_new err_old err_new r
-PerformsOver true task form set turns in_old in_new out_old out_new err_old err_new r = PerformsHexText task true form set turns in_old in_new out_old out_new err_old err_new r
+PerformsOver hex task form set turns in_old in_new out_old out_new err_old err_new r =
+    if hex && not (is_written task) then PerformsHexText task hex form set turns in_old in_new out_old out_new err_old err_new r
+    else RunsTask task hex form set turns in_old in_new out_old out_new err_old err_new r
 
 -- with templates that are loaded: the input's file cannot be opened, or it was opened at its beginning
 abbrev pub PerformsWith : Asked → TemplateList → Inputs → ℕ → Writer → Writer → Writer → Writer → Answer → Type 0

@@ -5,7 +5,7 @@ ghost use Rattle.std.specs.String.{string_bytes};
 ghost use Rattle.fast_decoder.specs.Inputs.{told_by};
 ghost use Rattle.fast_host.specs.Devices.{writer_by};
 ghost use Rattle.fast_serve.specs.Lines.{IsLineOrMemory, IsOfWriting, form_by as form_by_lem, line_cause_of, line_text_of, message_cause_of, message_text_of};
-ghost use Rattle.fast_serve.specs.Served.{RunsLines};
+ghost use Rattle.fast_serve.specs.Served.{RunsLines, RunsPacketLines};
 
 use crate::ended::Ended;
 use fast_explain::Notes;
@@ -14,6 +14,7 @@ use fast_io::{ByteInput, ByteOutput};
 use fast_template::TemplateSet;
 use fast_write::{
     EncodeCause, EncodeFault, LineCause, LineFault, OutputForm, WriteFault, write_lines,
+    write_packets,
 };
 use std::alloc::{AllocError, Global};
 
@@ -162,6 +163,29 @@ pub(crate) fn run_lines<I: ByteInput, O: ByteOutput>(
         (writer_by O.taken O.errors O.flushes out.old) (writer_by O.taken O.errors O.flushes out.new) result }
 {
     match write_lines(alloc, set, form_by(hex), input, out, turns) {
+        Ok(_) => Ok(Ended::Accepted),
+        Err(fault) => {
+            note(notes, fault);
+            Err(of_writing(alloc, fault))
+        }
+    }
+}
+
+/// Writes the canonical recording of the packets whose messages the input's lines stand for.
+pub(crate) fn run_packet_lines<I: ByteInput, O: ByteOutput>(
+    alloc: Global,
+    hex: bool,
+    set: &TemplateSet,
+    input: &mut I,
+    out: &mut O,
+    turns: u64,
+    notes: &mut Notes,
+) -> Result<Ended, Refusal>
+    requires turns { turns ≤ 2 ^ 40 }
+    ensures { RunsPacketLines hex set.now turns (told_by I.ByteInput input.old) (told_by I.ByteInput input.new)
+        (writer_by O.taken O.errors O.flushes out.old) (writer_by O.taken O.errors O.flushes out.new) result }
+{
+    match write_packets(alloc, set, form_by(hex), input, out, turns) {
         Ok(_) => Ok(Ended::Accepted),
         Err(fault) => {
             note(notes, fault);

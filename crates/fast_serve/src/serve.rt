@@ -6,10 +6,10 @@ ghost use Rattle.fast_template.specs.TemplateSets.{TemplateList};
 ghost use Rattle.fast_host.specs.Devices.{Writer, input_of, inputs_by, writer_by};
 ghost use Rattle.fast_host.specs.Refusals.{status_of, text_of};
 ghost use Rattle.fast_request.specs.CommandLine.{asked_by};
-ghost use Rattle.fast_serve.specs.Served.{CanonInHex, LoadsSet, Performs, PerformsAsked, PerformsHexText, PerformsInHex, PerformsOver, PerformsWith, ReadsHex, RefusesHex, RefusesTemplates, RefusesText, RunsInMemory, RunsPlain, RunsTask, Says, SaysAsked, SaysText, WritesHex, status_after};
+ghost use Rattle.fast_serve.specs.Served.{CanonInHex, LoadsSet, Performs, PerformsAsked, PerformsHexText, PerformsInHex, PerformsOver, PerformsWith, ReadsHex, RefusesHex, RefusesTemplates, RefusesText, RunsInMemory, RunsPlain, RunsTask, Says, SaysAsked, SaysText, WritesHex, is_written as is_written_lem, status_after};
 
 use crate::ended::Ended;
-use crate::lines::run_lines;
+use crate::lines::{run_lines, run_packet_lines};
 use crate::recording::{canon_recording_in_hex, run_recording};
 use fast_build::Load;
 use fast_canon::CanonFault;
@@ -169,7 +169,12 @@ fn run_task<I: ByteInput, O: ByteOutput, E: ByteOutput>(
             turns,
             notes,
         ),
-        Task::Write => run_lines(alloc, request.hex, set, input, out, turns, notes),
+        Task::Write { packets: false } => {
+            run_lines(alloc, request.hex, set, input, out, turns, notes)
+        }
+        Task::Write { packets: true } => {
+            run_packet_lines(alloc, request.hex, set, input, out, turns, notes)
+        }
     }
 }
 
@@ -284,7 +289,7 @@ fn perform_in_hex<O: ByteOutput, E: ByteOutput>(
         Task::Stream { .. } | Task::Recording { .. } => {
             run_in_memory(alloc, request, set, stream, out, err, turns, notes)
         }
-        Task::Write => run_in_memory(alloc, request, set, stream, out, err, turns, notes),
+        Task::Write { .. } => run_in_memory(alloc, request, set, stream, out, err, turns, notes),
     }
 }
 
@@ -313,6 +318,13 @@ fn perform_hex<I: ByteInput, O: ByteOutput, E: ByteOutput>(
     answer
 }
 
+/// Whether the input are lines to be written, which are never hex text.
+fn is_written(task: Task) -> bool
+    ensures { result ≡ is_written_lem task }
+{
+    matches!(task, Task::Write { .. })
+}
+
 /// Does what is asked of an input that is open.
 fn perform_over<I: ByteInput, O: ByteOutput, E: ByteOutput>(
     alloc: Global,
@@ -332,7 +344,7 @@ fn perform_over<I: ByteInput, O: ByteOutput, E: ByteOutput>(
         (writer_by E.taken E.errors E.flushes err.old) (writer_by E.taken E.errors E.flushes err.new) result }
     ensures quiet { result ≡ Ok Ended.Accepted → err.new ≡ err.old }
 {
-    if request.hex && request.task != Task::Write {
+    if request.hex && !is_written(request.task) {
         perform_hex(alloc, request, set, input, out, err, turns, notes)
     } else {
         run_task(alloc, request, set, input, out, err, turns, notes)
@@ -485,7 +497,7 @@ fn read_as(task: Task) -> ReadAs {
     match task {
         Task::Stream { mode, .. } => ReadAs::Stream(mode.framing),
         Task::Recording { .. } => ReadAs::Recording,
-        Task::Write => ReadAs::Lines,
+        Task::Write { .. } => ReadAs::Lines,
     }
 }
 

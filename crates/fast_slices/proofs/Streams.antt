@@ -31,7 +31,12 @@ use Rattle.fast_command.specs.declared.command.Command.TheVariants.{Show, Check,
 use Rattle.fast_lines.specs.declared.form.Form.{Form}
 use Rattle.fast_slices.specs.declared.answer.Refusal.{Refusal}
 use Rattle.fast_slices.specs.Answers.{answer_of}
-use Rattle.fast_slices.specs.Calls.{Canons, CountsStream, Done, StreamDone, IsRefused, Measures, Needs, Overflows, RefusesCall, Settles, Writes}
+use Rattle.fast_wire.specs.declared.level.Level.{Level}
+use Rattle.fast_recording.specs.Calls.{WritesCanonical}
+use Rattle.fast_slices.proofs.Recordings.{front_no_longer}
+use Rattle.fast_slices.specs.Packets.{WritesPackets}
+use Rattle.fast_slices.specs.declared.way.Reading.{Reading}
+use Rattle.fast_slices.specs.Calls.{Canons, CountsStream, Done, LooksAs, StreamDone, IsRefused, Measures, Needs, Overflows, RefusesCall, Settles, Writes}
 
 -- ---- why a stream is refused
 
@@ -257,7 +262,14 @@ no_room text word stream needed (inr (inr (some, few, inr (fault, e, machine, lo
 
 pub room_enough : (text : List ℕ) (word : ℕ) (stream old new : List ℕ) (r : Done) → Canons text word stream old new r → length stream ≤ length old → (answer_of r).status ≢ 3
 room_enough text word stream old new (Err (Refusal.Room needed)) (inl h) enough e = absurd (no_room text word stream needed h.0)
-room_enough text word stream old new (Err (Refusal.Room needed)) (inr (set, mode, given, over)) enough e =
-    let less = no_longer mode set given.sound stream over.bytes over.messages over.carried over.made in
-    let longer = over.longer in absurd (omega (arith, less, longer, enough))
+room_enough text word stream old new (Err (Refusal.Room needed)) (inr (set, way, given, over)) enough e = by_reading way.reading over
+  where
+    by_reading : (reading : Reading) → LooksAs (λ mode. Writes IsCanonical mode (templates_in set) stream old new) (λ level. WritesPackets (WritesCanonical set) level set stream old new) reading (Err (Refusal.Room needed)) → ⊥
+    by_reading (Reading.Stream mode) (Err (Refusal.Room n), is, o) =
+        let less = no_longer mode set given.sound stream o.bytes o.messages o.carried o.made in
+        let longer = o.longer in absurd (omega (arith, less, longer, enough))
+    by_reading (Reading.Stream mode) (done, is, o) = absurd cc
+    by_reading (Reading.Recording level) o =
+        let less = front_no_longer level set given.sound stream old new needed o in
+        let longer = o.longer in absurd (omega (arith, less, longer, enough))
 room_enough text word stream old new r h enough e = absurd cc

@@ -3,7 +3,7 @@
 ghost use Rattle.std.specs.Prelude.{◌<◌, ◌≡◌, ◌≤◌, ◌^◌, length};
 ghost use Rattle.fast_template.specs.TemplateSets.{IsSound};
 ghost use Rattle.fast_recording.specs.Calls.{WritesCanonical, WritesLines};
-ghost use Rattle.fast_slices.specs.Packets.{CountsPackets, Needs, WritesPackets};
+ghost use Rattle.fast_slices.specs.Packets.{CountsPackets, MeasuresPackets, MeasuresRun, SettlesPackets, WritesPackets, counts_by};
 
 use crate::answer::{Counts, Refusal};
 use crate::call::TURNS;
@@ -20,7 +20,9 @@ use fast_wire::Level;
 use std::alloc::Global;
 
 /// What is counted of a recording that was read to its end.
-fn counts_of(summary: RecordingSummary) -> Counts {
+fn counts_of(summary: RecordingSummary) -> Counts
+    ensures { result ≡ counts_by summary }
+{
     Counts {
         packets: summary.packets,
         messages: summary.messages,
@@ -36,6 +38,7 @@ fn settle(
     room: &mut [u8],
 ) -> Result<Counts, Refusal>
     requires fits { length bytes.now ≤ length room.now }
+    ensures { SettlesPackets ran bytes.now room.old room.new result }
 {
     let done = match ran {
         Ok(summary) => Ok(counts_of(summary)),
@@ -50,7 +53,9 @@ fn settle(
 }
 
 /// How many bytes a run has that wrote more than the room holds.
-fn measured(ran: Result<RecordingSummary, RecordingFault>, count: u64) -> Refusal {
+fn measured(ran: Result<RecordingSummary, RecordingFault>, count: u64) -> Refusal
+    ensures { MeasuresRun ran count result }
+{
     match ran {
         Ok(summary) => Refusal::Room(summary.written),
         Err(RecordingFault::Packet(refused)) if refused.fault.cause != Cause::Memory => {
@@ -64,6 +69,7 @@ fn measured(ran: Result<RecordingSummary, RecordingFault>, count: u64) -> Refusa
 fn canon_overflow(alloc: Global, set: &TemplateSet, level: Level, recording: &[u8]) -> Refusal
     requires sound { IsSound set.now }
     requires few { length recording.now < 2 ^ 40 }
+    ensures { MeasuresPackets (WritesCanonical set.now) level set.now recording.now result }
 {
     let mut tally = Tally::new();
     let mut input = SliceInput::new(recording);
@@ -81,6 +87,7 @@ fn show_overflow(
 ) -> Refusal
     requires sound { IsSound set.now }
     requires few { length recording.now < 2 ^ 40 }
+    ensures { MeasuresPackets (WritesLines form set.now) level set.now recording.now result }
 {
     let mut tally = Tally::new();
     let mut untold = Tally::new();

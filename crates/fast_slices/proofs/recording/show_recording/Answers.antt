@@ -1,0 +1,26 @@
+use Rattle.std.proofs.Common.{◌≡◌, ◌<◌, List, ℕ, Some, length, refl, sym, arith, rules}
+use Rattle.fast_wire.proofs.Calls.{all_bytes}
+use Rattle.fast_recording.specs.Calls.{WritesCanonical, WritesLines}
+use Rattle.fast_slices.proofs.Recordings.{as_records, fewer, has_read, overflows_from, settled_from}
+use Rattle.fast_slices.proofs.recording.show_recording.Goals as goal
+
+pub returns : goal.returns
+returns c =
+    let a = c.show_packets-ran.ensures.answer in
+    let recording = c.args.recording.now in
+    let set = c.args.set.now in
+    let bytes = all_bytes recording (λ k. omega (arith, c.type_inv.recording k)) in
+    let h = has_read set recording c.new-input.result.rest.now c.show_packets-ran.new.reader.rest.now a.1 a.0 _ _ a.2 c.requires.sound bytes c.requires.few refl c.new-input.ensures refl refl refl in
+    settled_from (WritesLines c.args.form set) c.args.level set recording _ a.1 c.new-kept.result.bytes.items c.show_packets-ran.new.writer.bytes.items c.deref.result.now c.args.room.now c.settle.new.room c.show_packets-ran.result c.settle.result h a.4 c.new-kept.ensures
+    c.deref.ensures.value c.deref.type_inv.0 c.settle.ensures
+
+pub returns-then-len-room : goal.returns-then-len-room
+returns-then-len-room c =
+    let a = c.show_packets-ran.ensures.answer in
+    let recording = c.args.recording.now in
+    let set = c.args.set.now in
+    let bytes = all_bytes recording (λ k. omega (arith, c.type_inv.recording k)) in
+    let h = has_read set recording c.new-input.result.rest.now c.show_packets-ran.new.reader.rest.now a.1 a.0 _ _ a.2 c.requires.sound bytes c.requires.few refl c.new-input.ensures refl refl refl in
+    let kept = c.show_packets-ran.new.writer.bytes.items in
+    let longer : length c.args.room.now < length kept = search rules in
+    overflows_from (WritesLines c.args.form set) c.args.level set recording _ a.1 c.new-kept.result.bytes.items kept c.args.room.now c.args.room.now c.show_packets-ran.result c.show_overflow.result h a.4 c.new-kept.ensures longer refl c.show_overflow.ensures
