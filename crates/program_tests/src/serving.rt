@@ -9,3 +9,4 @@ mod packets;
 mod programs;
 mod strict;
 mod worked;
+mod writing;

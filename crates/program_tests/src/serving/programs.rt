@@ -440,6 +440,7 @@ fn command_lines(rt: HostRuntime) -> Result<(), AllocError> {
         &["fastcat", "canon", "--templates"],
         &["fastcat", "show", "--packets", "--blocks", "--templates", TEMPLATES],
         &["fastcat", "show", "--keep-going", "--templates", TEMPLATES],
+        &["fastcat", "write", "--packets", "--keep-going", "--templates", TEMPLATES],
         &["fastcat", "canon", "--packets", "--keep-going", "--templates", TEMPLATES],
         &["fastcat", "canon", STREAM, STREAM, "--templates", TEMPLATES],
         &["fastcat", "canon", "--Hex", "--templates", TEMPLATES],
