@@ -1,22 +1,9 @@
--- The number of a packet in its lines (our own).
-use Rattle.std.specs.Prelude.{◌≡◌, ℕ, ◌+◌, ◌-◌, ◌<◌, ◌≤◌, ◌==◌, Bool, true, false, List, [], ◌∷◌, ◌++◌, codes, decimal, Option, Some, None, length, take, slice_index}
+-- How the text of a packet is written in lines (our own).
+use Rattle.std.specs.Prelude.{◌≡◌, ℕ, ◌+◌, ◌-◌, ◌<◌, ◌≤◌, ◌==◌, false, List, ◌++◌, Option, Some, None, length, take, slice_index}
 use Rattle.std.specs.Io.KnownBytes.{Appends}
 use Rattle.fast_io.specs.Counts.{counted_by}
+pub use Rattle.fast_packets.specs.Numbered.{labelled, numbered, packet_label}
 use Rattle.fast_recording.specs.declared.packet_lines.PacketLines.{PacketLines}
-
--- bytes with a label behind the first byte of each line; whether they begin one
-abbrev pub labelled : List ℕ → Bool → List ℕ → List ℕ
-labelled label begins [] = []
-labelled label true (b ∷ bytes) = b ∷ (label ++ labelled label (b == 10) bytes)
-labelled label false (b ∷ bytes) = b ∷ labelled label (b == 10) bytes
-
--- the member of a line that says which packet its message is of
-abbrev pub packet_label : ℕ → List ℕ
-packet_label n = codes "\"packet\":" ++ (decimal n ++ codes ",")
-
--- the lines of a packet, each of which says its number
-abbrev pub numbered : ℕ → List ℕ → List ℕ
-numbered n = labelled (packet_label n) true
 
 -- how the text of a packet is written: as it is, or with the packet's number in each line
 abbrev pub lines_of : Option ℕ → List ℕ → List ℕ
