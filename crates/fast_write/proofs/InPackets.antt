@@ -17,11 +17,11 @@ use Rattle.fast_dictionary.specs.Dictionary.{Dictionary}
 use Rattle.fast_stream.specs.Nodes.{Content}
 use Rattle.fast_packets.specs.Recordings.{packet_limit}
 use Rattle.fast_packet_laws.specs.CanonicalRecordings.{CanonicalPacket, IsCanonicalRecording}
-use Rattle.fast_spelled.specs.Numbered.{SpellsIn}
+use Rattle.fast_spelled.specs.Numbered.{SpellIn, SpellsIn}
 use Rattle.fast_spelled.specs.Spelled.{is_blank}
 use Rattle.fast_writer.specs.Canonical.{CanonFrom, CanonMessage, IsCanonical, IsShortestMap}
 use Rattle.fast_writer.proofs.Writers.{canon_more}
-use Rattle.fast_write.specs.Packets.{AreInOrder, IsTooMuch, Numbered, Packets, SpellIn, all_of, if_some, no_packets, packets_on, with_next}
+use Rattle.fast_write.specs.Packets.{AreInOrder, IsTooMuch, Numbered, Packets, all_of, if_some, no_packets, packets_on, with_next}
 use Rattle.fast_write.specs.Ways.{Closes, MadePackets}
 
 -- ---- lines

@@ -17,7 +17,7 @@ use Rattle.fast_nodes.specs.declared.fault.EncodeFault.{EncodeFault}
 use Rattle.fast_nodes.specs.FirstRefusal.{first_refusal}
 use Rattle.fast_spelled.specs.declared.fault.LineFault.{LineFault}
 use Rattle.fast_spelled.specs.declared.fault.LineCause.TheVariants.{Limit, Line}
-use Rattle.fast_spelled.specs.Numbered.{SpellsIn}
+use Rattle.fast_spelled.specs.Numbered.{SpellIn, SpellsIn}
 use Rattle.fast_spelled.specs.Spelled.{lines_of, is_blank}
 use Rattle.fast_write.specs.declared.fault.WriteFault.{WriteFault}
 use Rattle.fast_write.specs.declared.output.OutputForm.{OutputForm}
@@ -30,13 +30,6 @@ use Rattle.fast_write.specs.Written.{IsShort, line_limit, size_of}
 -- a message, with the number of its packet
 abbrev pub Numbered : Type 0
 Numbered = ℕ × Content
-
--- lines stand for messages in packets; a line of blanks alone is passed
-abbrev pub SpellIn : TemplateList → List (List ℕ) → List Numbered → Type 0
-SpellIn set [] ms = ms ≡ []
-SpellIn set (line ∷ lines) ms =
-    ((list_all is_blank line ≡ true) × SpellIn set lines ms)
-    ⊎ ((n : ℕ) × (m : Content) × (rest : List Numbered) × (ms ≡ (n, m) ∷ rest) × SpellsIn set line n m × SpellIn set lines rest)
 
 -- none is of a packet before that of the message in front of it, or before this one
 abbrev pub AreInOrder : ℕ → List Numbered → Type 0

@@ -24,10 +24,10 @@ use Rattle.fast_nodes.specs.FirstRefusal.{first_refusal}
 use Rattle.fast_nodes.specs.declared.fault.EncodeFault.{EncodeFault}
 use Rattle.fast_packets.specs.Recordings.{packet_limit}
 use Rattle.fast_packet_laws.specs.CanonicalRecordings.{IsCanonicalRecording}
-use Rattle.fast_spelled.specs.Numbered.{SpellsIn}
+use Rattle.fast_spelled.specs.Numbered.{SpellIn, SpellsIn}
 use Rattle.fast_spelled.specs.declared.fault.LineFault.{LineFault}
 use Rattle.fast_spelled.specs.declared.fault.LineCause.TheVariants.{Limit, Line}
-use Rattle.fast_write.specs.Packets.{AreInOrder, MakePackets, Numbered, Packets, SpellIn, StopsForIn, WritesPackets, packets_of}
+use Rattle.fast_write.specs.Packets.{AreInOrder, MakePackets, Numbered, Packets, StopsForIn, WritesPackets, packets_of}
 use Rattle.fast_write.specs.Written.{HasNoForm, IsNoLine, IsShort, Make, StopsFor, Writes, is_no_feed, line_limit}
 
 -- how far lines have come: the entries that their messages left, the canonical bytes that wait, the line that has not
