@@ -19,13 +19,13 @@ use stream_rows::modes::PLAIN;
 use template_tests::texts::WORKED;
 
 /// A stream of one message, its line, and another spelling of what that stands for.
-struct Row {
-    stream: &'static [u8],
-    line: &'static str,
+pub(crate) struct Row {
+    pub(crate) stream: &'static [u8],
+    pub(crate) line: &'static str,
     read_as: &'static str,
 }
 
-const WORKED_ROWS: [Row; 8] = [
+pub(crate) const WORKED_ROWS: [Row; 8] = [
     Row {
         stream: b"\xf0\x81\x81\x41\xc2\xfe\x00\xe4",
         line: "{\"template\":\"Quote\",\"id\":1,\"fields\":\
@@ -71,7 +71,7 @@ const WORKED_ROWS: [Row; 8] = [
 ];
 
 /// A template with a field of each type, two of one name, names that are escaped, and a group in a group.
-const KINDS: &str = r#"{"templates":[
+pub(crate) const KINDS: &str = r#"{"templates":[
 {"name":"K\"\\","id":4294967295,"instructions":[
  {"kind":"uInt32","name":"u32"},
  {"kind":"int32","name":"i32"},
@@ -88,7 +88,7 @@ const KINDS: &str = r#"{"templates":[
  {"kind":"sequence","name":"s","instructions":[
   {"kind":"int32","name":"\\"}]}]}]}"#;
 
-const KIND_ROWS: [Row; 2] = [
+pub(crate) const KIND_ROWS: [Row; 2] = [
     // what is farthest from nought, and strings that are escaped
     Row {
         stream: b"\xc0\x0f\x7f\x7f\x7f\xff\x0f\x7f\x7f\x7f\xff\x78\x00\x00\x00\x80\x01\x7f\x7f\x7f\x7f\x7f\

@@ -23,3 +23,5 @@ mod streams;
 mod strict;
 #[cfg(test)]
 mod worked;
+#[cfg(test)]
+mod writing;
