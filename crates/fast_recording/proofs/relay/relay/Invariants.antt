@@ -1,4 +1,4 @@
-use Rattle.std.proofs.Common.{◌≡◌, ◌≤◌, ◌-◌, ℕ, List, ◌++◌}
+use Rattle.std.proofs.Common.{◌≡◌, ◌≤◌, ◌-◌, ℕ, List, ◌++◌, length}
 use Rattle.fast_template.specs.TemplateSets.{templates_in}
 use Rattle.fast_decoder.specs.Inputs.{Reads, told_by}
 use Rattle.fast_machine.specs.Calls.{IsSameStream}
@@ -28,7 +28,8 @@ invariant-reads g l =
       still : IsOpen from now;
       begun : IsOpenAt m.level l.held.items l.unread;
       passes : (front : List ℕ) × Reads from now l.reads (front ++ l.held.items)
-          × Passes m.keep_going m.level set (WritesMade (numbering_of m.numbered) g.O.PacketOutput.sized O.makes set) l.progress.counts (outputs (W.taken l.fn.writer) (T.taken l.fn.teller)) (outputs (W.taken l.writer) (T.taken l.teller)) front;
+          × Passes m.keep_going m.level set (WritesMade (numbering_of m.numbered) g.O.PacketOutput.sized O.makes set) l.progress.counts (outputs (W.taken l.fn.writer) (T.taken l.fn.teller)) (outputs (W.taken l.writer) (T.taken l.teller)) front
+          × (l.reads ≤ length (front ++ l.held.items));
     }
 
 abbrev pub decreases-reads : goal.decreases-reads
