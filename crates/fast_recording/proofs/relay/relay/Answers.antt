@@ -10,6 +10,7 @@ use Rattle.fast_recording.specs.Recorded.{IsUsedUp, by_reader, outputs}
 use Rattle.fast_recording.proofs.Flushed.{answers_front, ended_by_bytes, ended_by_reader}
 use Rattle.fast_recording.proofs.Readings.{few_read, more_open, one_more, reader_ended, reader_failed}
 use Rattle.fast_recording.proofs.Relayed.{breaks_between}
+use Rattle.fast_recording.proofs.Untold.{untold_on}
 use Rattle.fast_recording.proofs.relay.relay.Goals as goal
 
 pub returns-in_err-ended-clause-answer : goal.returns-in_err-ended-clause-answer
@@ -178,6 +179,7 @@ reads-preserved g c =
       write = e.write ∙ v.write;
       tell = e.tell ∙ v.tell;
       flushes = e.flushes ∙ v.flushes;
+      untold = untold_on v.untold e.untold;
       still = still;
       begun = rw (left) h.1;
       passes = (front ++ take at c.deref-in-reads.result.now, rw (parts) all, h.2, rw (parts) (one_more front held got c.reads.reads v.passes.3 on.0));
@@ -277,3 +279,18 @@ returns-clause-answer g c =
       v.few,
       ended_by_reader m.keep_going m.level set Writes (IsUsedUp c.args.turns c.reads.reads (front ++ c.deref-2.result.now)) from mid Cause.Turns c.end-2.new.progress.counts old _ (front ++ c.deref-2.result.now) c.end-2.result (λ e. absurd cc) (λ e. ((used, gave), v.still)) ends,
     )
+
+pub returns-in-Some-clause-untold : goal.returns-in-Some-clause-untold
+returns-in-Some-clause-untold g c = untold_on c.reads.invariant.untold c.end.ensures.untold
+
+pub returns-in_err-came-clause-untold : goal.returns-in_err-came-clause-untold
+returns-in_err-came-clause-untold g c = untold_on c.reads.invariant.untold c.in_err-came.ensures.untold
+
+pub returns-in-End-clause-untold : goal.returns-in-End-clause-untold
+returns-in-End-clause-untold g c = untold_on c.reads.invariant.untold c.in_ok-came.ensures.untold
+
+pub returns-in-Refused-clause-untold : goal.returns-in-Refused-clause-untold
+returns-in-Refused-clause-untold g c = untold_on c.reads.invariant.untold c.in_ok-came.ensures.untold
+
+pub returns-clause-untold : goal.returns-clause-untold
+returns-clause-untold g c = untold_on c.reads.invariant.untold c.end-2.ensures.untold

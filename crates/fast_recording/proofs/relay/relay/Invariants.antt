@@ -3,6 +3,7 @@ use Rattle.fast_template.specs.TemplateSets.{templates_in}
 use Rattle.fast_decoder.specs.Inputs.{Reads, told_by}
 use Rattle.fast_machine.specs.Calls.{IsSameStream}
 use Rattle.fast_recording.specs.Begins.{IsOpenAt}
+use Rattle.fast_recording.specs.Faults.{IsUntold}
 use Rattle.fast_recording.specs.Made.{WritesMade, numbering_of}
 use Rattle.fast_recording.specs.Passing.{IsReady, Passes}
 use Rattle.fast_recording.specs.Recorded.{IsOpen, outputs}
@@ -25,6 +26,7 @@ invariant-reads g l =
       write : W.errors l.writer ≡ W.errors l.fn.writer;
       tell : T.errors l.teller ≡ T.errors l.fn.teller;
       flushes : W.flushes l.writer ≡ W.flushes l.fn.writer;
+      untold : IsUntold l.fn.progress.counts l.progress.counts l.fn.teller l.teller;
       still : IsOpen from now;
       begun : IsOpenAt m.level l.held.items l.unread;
       passes : (front : List ℕ) × Reads from now l.reads (front ++ l.held.items)
