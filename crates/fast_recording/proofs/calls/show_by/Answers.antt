@@ -1,4 +1,4 @@
-use Rattle.std.proofs.Common.{◌≡◌, false}
+use Rattle.std.proofs.Common.{false}
 use Rattle.fast_decoder.specs.Inputs.{told_by}
 use Rattle.fast_template.specs.TemplateSets.{templates_in}
 use Rattle.fast_recording.specs.Calls.{WritesLines, is_numbered}
