@@ -82,8 +82,8 @@ module _ (goes_on : Bool) (level : Level) (set : List Resolved) (Writes : Writin
     out = r.out;
     made = r.made;
     messages = [];
-    read = inl refl;
     more = [];
+    read = inl (refl, refl);
     next = inl refl;
     told = told_from 1 told;
     untold = told_from (1 + length told) rest;

@@ -13,5 +13,6 @@ pub mod Relayed
 pub mod Sized
 pub mod Streams
 pub mod Takings
+pub mod Untold
 pub mod Wholes
 pub mod Written

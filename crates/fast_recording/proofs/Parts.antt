@@ -167,6 +167,7 @@ module _ (goes_on : Bool) (level : Level) (set : List Resolved) (numbering : Num
           parts = sym (take-append-drop behind bytes) ∙ ap (λ (z : List ℕ). take behind bytes ++ z) (sym (append-nil (drop behind bytes)));
           size_is = is.size_is;
           few = let short = is.short in omega (arith, short);
+          limited = is.few;
           carried = t.3;
         })) (front_written goes_on level set numbering sized makes t.0 t.1 t.4) t.2 same
 

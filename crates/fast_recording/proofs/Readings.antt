@@ -1,5 +1,5 @@
 -- Lemmas on the reads of a recording.
-use Rattle.std.proofs.Common.{List, ℕ, ◌++◌, ◌*◌, ◌≤◌, ◌^◌, ◌≡◌, ◌≢◌, ◌⊎◌, inl, inr, length, sym, ap, subst, ◌∙◌, arith, length-append}
+use Rattle.std.proofs.Common.{List, ℕ, ◌++◌, ◌+◌, ◌*◌, ◌<◌, ◌≤◌, ◌^◌, ◌≡◌, ◌≢◌, ◌⊎◌, inl, inr, length, sym, ap, subst, ◌∙◌, arith, length-append}
 use Rattle.fast_io.specs.Counts.{counted}
 use Rattle.fast_decoder.specs.Inputs.{Reader}
 use Rattle.fast_stream.specs.declared.fault.Cause.{Cause}
@@ -28,3 +28,11 @@ reader_failed UsedUp a b c cause still (inr h) other = subst (λ (d : Cause). Ha
 -- so many reads give few bytes
 pub few_read : (front held : List ℕ) (n turns : ℕ) → length (front ++ held) ≤ 4096 * n → n ≤ turns → turns ≤ 2 ^ 40 → AreFew front held
 few_read front held n turns few some most = let all = length-append front held in omega (arith, all, few, some, most)
+
+-- one read more gave a byte
+pub one_more : (front held got : List ℕ) (n : ℕ) → n ≤ length (front ++ held) → 0 < length got → n + 1 ≤ length (front ++ (held ++ got))
+one_more front held got n some gave =
+    let before = length-append front held in
+    let after = length-append front (held ++ got) in
+    let more = length-append held got in
+    omega (arith, before, after, more, some, gave)

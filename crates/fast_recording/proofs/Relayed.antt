@@ -113,7 +113,7 @@ module _ (goes_on : Bool) (level : Level) (set : List Resolved) where
         }
 
     -- a write failed or memory was refused in the packet that is next
-    pub breaks : {counts : RecordingSummary} {old now later : Outputs} {front : List ℕ} (rest more : List ℕ) (ms : List Content) (p : Passes goes_on level set Writes counts old now front) → (ms ≡ []) ⊎ HasCome level set rest ms
+    pub breaks : {counts : RecordingSummary} {old now later : Outputs} {front : List ℕ} (rest more : List ℕ) (ms : List Content) (p : Passes goes_on level set Writes counts old now front) → ((ms ≡ []) × (more ≡ [])) ⊎ HasCome level set rest ms
         → FrontWritten Writes (length p.outcomes + 1) ms more → Appends now.taken later.taken more → later.told ≡ now.told → RecordsFront goes_on level set Writes old later (front ++ rest)
     breaks {old = old} {now = now} {later = later} {front = front} rest more ms p read next written same =
         let whole : front ++ [] ≡ front = append-nil front in
@@ -127,8 +127,8 @@ module _ (goes_on : Bool) (level : Level) (set : List Resolved) where
           out = p.out;
           made = p.made;
           messages = ms;
-          read = read;
           more = more;
+          read = read;
           next = next;
           told = told_from 1 p.outcomes;
           untold = [];
@@ -138,7 +138,7 @@ module _ (goes_on : Bool) (level : Level) (set : List Resolved) where
 
     -- nothing of it was written
     pub breaks_between : {counts : RecordingSummary} {old now : Outputs} {front : List ℕ} (rest : List ℕ) → Passes goes_on level set Writes counts old now front → RecordsFront goes_on level set Writes old now (front ++ rest)
-    breaks_between {now = now} rest p = breaks rest [] [] p (inl refl) (inl refl) (Appends-nil now.taken) refl
+    breaks_between {now = now} rest p = breaks rest [] [] p (inl (refl, refl)) (inl refl) (Appends-nil now.taken) refl
 
     -- the last packet was not told whole
     pub breaks_telling : {counts : RecordingSummary} {old now later : Outputs} {front : List ℕ} (rest behind more untold : List ℕ) (last : Outcome) (p : Passes goes_on level set Writes counts old now front)
@@ -155,8 +155,8 @@ module _ (goes_on : Bool) (level : Level) (set : List Resolved) where
           out = p.out ++ more;
           made = written_more Writes p.outcomes (last ∷ []) 1 p.out more p.made (rw (number) (written_one Writes last (length p.outcomes + 1) more writes));
           messages = [];
-          read = inl refl;
           more = [];
+          read = inl (refl, refl);
           next = inl refl;
           told = told_from 1 p.outcomes ++ t.front;
           untold = untold;

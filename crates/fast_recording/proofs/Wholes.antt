@@ -153,5 +153,6 @@ module _ (goes_on : Bool) (level : Level) (set : List Resolved) (numbering : Num
           parts = ap (λ (z : List ℕ). z ++ more) is.packet.parts ∙ append_assoc is.packet.size (drop behind bytes) more;
           size_is = is.packet.size_is;
           few = omega arith;
+          limited = is.packet.few;
           carried = t.3;
         })) (front_written t.0 t.1 t.4) t.2 same

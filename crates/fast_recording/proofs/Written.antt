@@ -39,8 +39,8 @@ module _ (One Two : Writing) (same : (number : ℕ) (o : Outcome) (bytes : List 
       out = h.out;
       made = written_as h.outcomes 1 h.out h.made;
       messages = h.messages;
-      read = h.read;
       more = h.more;
+      read = h.read;
       next = front_as (length h.outcomes + 1) h.messages h.more h.next;
       told = h.told;
       untold = h.untold;

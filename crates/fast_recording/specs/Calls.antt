@@ -18,7 +18,7 @@ use Rattle.fast_recording.specs.declared.fault.RecordingFault.{RecordingFault}
 use Rattle.fast_recording.specs.declared.mode.PacketMode.{PacketMode}
 use Rattle.fast_recording.specs.declared.summary.RecordingSummary.{RecordingSummary}
 use Rattle.fast_recording.specs.Made.{Writing, WritesMade, numbering_of, unnumbered}
-use Rattle.fast_recording.specs.Recorded.{Outputs, RecordsBy, RecordsCut, RecordsFront, Why, by_reader, messages_in, outputs}
+use Rattle.fast_recording.specs.Recorded.{IsUsedUp, Outputs, RecordsBy, RecordsCut, RecordsFront, Why, by_reader, messages_in, outputs}
 
 -- ---- show
 
@@ -89,4 +89,4 @@ CanonicalisesAs why level set taken_old taken_new input (Err e) =
 abbrev pub CanonicalisesPackets : Level → TemplateList → ℕ → Reader → Reader → Option (List ℕ) → Option (List ℕ) → Result RecordingSummary RecordingFault → Type 0
 CanonicalisesPackets level set turns from now taken_old taken_new result =
     (count : ℕ) × (input : List ℕ) × Reads from now count input × (count ≤ turns)
-    × CanonicalisesAs (by_reader (count ≡ turns) from now) level set taken_old taken_new input result
+    × CanonicalisesAs (by_reader (IsUsedUp turns count input) from now) level set taken_old taken_new input result

@@ -69,6 +69,10 @@ Refuses goes_on f old new (Ok None) = (goes_on ≡ true) × Appends old new (ref
 Refuses goes_on f old new (Ok (Some g)) = (goes_on ≡ false) × (g ≡ f) × (new ≡ old)
 Refuses goes_on f old new (Err e) = (goes_on ≡ true) × (e ≢ Halt.Write) × ((rest : List ℕ) × Taken old new (refused_line_of f) rest)
 
+-- Where no packet is refused none was before, and the writer of refusals is not called.
+abbrev pub IsUntold : {T : Type 0} → RecordingSummary → RecordingSummary → T → T → Type 0
+IsUntold before after old new = after.refused ≡ 0 → (before.refused ≡ 0) × (new ≡ old)
+
 -- a place in a stream that begins at this place in the recording, as it is counted
 abbrev pub counted_behind : ℕ → Place → Place
 counted_behind at p = record { message = p.message; offset = count_more at p.offset; template = p.template; instruction = p.instruction }

@@ -13,6 +13,7 @@ use Rattle.fast_io.specs.Counts.{counted, counted_by}
 use Rattle.fast_decoder.specs.Inputs.{Reader, Reads}
 use Rattle.fast_machine.specs.Standing.{Carried}
 use Rattle.fast_packets.specs.Outcomes.{Outcome, Outcomes, accepted, refusal_in, refused, size_place, sizeless}
+use Rattle.fast_packets.specs.Recordings.{packet_limit}
 use Rattle.fast_recording.specs.Told.{told_from}
 use Rattle.fast_recording.specs.Made.{FrontWritten, Writing, WrittenOf}
 use Rattle.fast_recording.specs.declared.fault.PacketFault.{PacketFault}
@@ -129,6 +130,7 @@ pub record HasCome (level : Level) (set : List Resolved) (bytes : List ℕ) (mes
   pub parts : bytes ≡ size ++ (come ++ behind)
   pub size_is : IsSize level size room
   pub few : length come ≤ room
+  pub limited : room ≤ packet_limit
   pub carried : Carried (plainly level) set come messages
 
 -- A write failed or memory was refused, behind these packets of the bytes read, in one of which these messages were read. A
@@ -142,8 +144,8 @@ pub record RecordsFront (goes_on : Bool) (level : Level) (set : List Resolved) (
   pub out : List ℕ
   pub made : WrittenOf Writes 1 outcomes out
   pub messages : List Content
-  pub read : (messages ≡ []) ⊎ HasCome level set back messages
   pub more : List ℕ
+  pub read : ((messages ≡ []) × (more ≡ [])) ⊎ HasCome level set back messages
   pub next : FrontWritten Writes (length outcomes + 1) messages more
   pub told : List ℕ
   pub untold : List ℕ
@@ -175,11 +177,15 @@ HasFailed UsedUp old new c = ⊥
 abbrev pub by_reader : Type 0 → Reader → Reader → Why
 by_reader UsedUp old new = record { Ended = HasEnded old new; Open = IsOpen old new; Failed = HasFailed UsedUp old new }
 
+-- all reads are made, and each of them gave a byte
+abbrev pub IsUsedUp : ℕ → ℕ → List ℕ → Type 0
+IsUsedUp turns count input = (count ≡ turns) × (turns ≤ length input)
+
 -- So many reads, no more than asked for, gave bytes of which this is answered, and the reader's counts show why.
 abbrev pub RecordsBy : Bool → Level → List Resolved → Writing → ℕ → Reader → Reader → Outputs → Outputs → Result RecordingSummary RecordingFault → Type 0
 RecordsBy goes_on level set Writes turns from now old new result =
     (count : ℕ) × (input : List ℕ) × Reads from now count input × (count ≤ turns)
-    × RecordsPackets (by_reader (count ≡ turns) from now) goes_on level set Writes old new input result
+    × RecordsPackets (by_reader (IsUsedUp turns count input) from now) goes_on level set Writes old new input result
 
 -- a failed write is answered exactly where a call of the writer failed, and so of the writer of refusals
 abbrev pub writes_failed : Result RecordingSummary RecordingFault → ℕ → ℕ

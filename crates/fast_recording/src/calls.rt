@@ -1,6 +1,6 @@
 //! What is done with a recording.
 
-ghost use Rattle.std.specs.Prelude.{◌≡◌, ◌≢◌, ◌≤◌, ◌^◌, Err};
+ghost use Rattle.std.specs.Prelude.{◌≡◌, ◌≢◌, ◌≤◌, ◌^◌, Err, IfOk};
 ghost use Rattle.fast_decoder.specs.Inputs.{told_by};
 ghost use Rattle.fast_template.specs.TemplateSets.{templates_in};
 ghost use Rattle.fast_recording.specs.Calls.{CanonicalisesPackets, ChecksPackets, ShowsPackets, WritesLines, is_numbered};
@@ -89,6 +89,8 @@ pub fn check_packets<R: ByteInput, T: ByteOutput>(
         (told_by R.ByteInput reader.new) (T.taken teller.old) (T.taken teller.new) result }
     ensures writes { result ≢ Err RecordingFault.Write }
     ensures tell { T.errors teller.new ≡ tells_failed result (T.errors teller.old) }
+    // where no packet is refused the teller is not called
+    ensures untold { IfOk result (λ s. s.refused ≡ 0 → teller.new ≡ teller.old) }
 {
     let mut nowhere = Nowhere {
         calls: 0,
@@ -129,6 +131,8 @@ fn show_by<S: Signs, R: ByteInput, W: ByteOutput, T: ByteOutput>(
         (outputs (W.taken writer.old) (T.taken teller.old)) (outputs (W.taken writer.new) (T.taken teller.new)) result }
     ensures write { W.errors writer.new ≡ writes_failed result (W.errors writer.old) }
     ensures tell { T.errors teller.new ≡ tells_failed result (T.errors teller.old) }
+    // where no packet is refused the teller is not called
+    ensures untold { IfOk result (λ s. s.refused ≡ 0 → teller.new ≡ teller.old) }
     ensures flush { FlushesOnce result (W.flushes writer.old) (W.flushes writer.new) }
 {
     let output = LineWriter::new(alloc, signs, set);
@@ -158,6 +162,8 @@ pub fn show_packets<R: ByteInput, W: ByteOutput, T: ByteOutput>(
         (outputs (W.taken writer.new) (T.taken teller.new)) result }
     ensures write { W.errors writer.new ≡ writes_failed result (W.errors writer.old) }
     ensures tell { T.errors teller.new ≡ tells_failed result (T.errors teller.old) }
+    // where no packet is refused the teller is not called
+    ensures untold { IfOk result (λ s. s.refused ≡ 0 → teller.new ≡ teller.old) }
     ensures flush { FlushesOnce result (W.flushes writer.old) (W.flushes writer.new) }
 {
     let manner = Manner {

@@ -8,7 +8,7 @@ ghost use Rattle.fast_decoder.specs.Inputs.{told_by};
 ghost use Rattle.fast_pass.specs.Relays.{errors_behind};
 ghost use Rattle.fast_machine.specs.Calls.{IsSameStream};
 ghost use Rattle.fast_recording.specs.Begins.{IsOpenAt, IsPacketAt, IsPartAt};
-ghost use Rattle.fast_recording.specs.Faults.{EndsInSizeBy, OfDevice, answer_of, next_fault, tell_errors, write_errors};
+ghost use Rattle.fast_recording.specs.Faults.{EndsInSizeBy, IsUntold, OfDevice, answer_of, next_fault, tell_errors, write_errors};
 ghost use Rattle.fast_recording.specs.Made.{WritesMade, number_of, numbering_of};
 ghost use Rattle.fast_recording.specs.Packets.{TakesNumbered};
 ghost use Rattle.fast_recording.specs.Passing.{EndsOpen, IsEnd, IsReady, LeavesFew, ReadsMore, TakesOn, TakesPackets, nothing_counted};
@@ -108,6 +108,7 @@ fn take_whole<O: PacketOutput, W: ByteOutput, T: ByteOutput, E: Entries>(
     ensures ready { OnOk result (IsReady O.waiting manner.level machine.new) }
     ensures write { W.errors writer.new ≡ write_errors result (W.errors writer.old) }
     ensures tell { T.errors teller.new ≡ tell_errors result (T.errors teller.old) }
+    ensures untold { IsUntold progress.old.counts progress.new.counts teller.old teller.new }
     ensures flushes { W.flushes writer.new ≡ W.flushes writer.old }
     ensures same { IsSameStream machine.old machine.new }
 {
@@ -147,6 +148,7 @@ fn take_packets<O: PacketOutput, W: ByteOutput, T: ByteOutput, E: Entries>(
     ensures ready { OnOk result (IsReady O.waiting manner.level machine.new) }
     ensures write { W.errors writer.new ≡ write_errors result (W.errors writer.old) }
     ensures tell { T.errors teller.new ≡ tell_errors result (T.errors teller.old) }
+    ensures untold { IsUntold progress.old.counts progress.new.counts teller.old teller.new }
     ensures flushes { W.flushes writer.new ≡ W.flushes writer.old }
     ensures same { IsSameStream machine.old machine.new }
 {
@@ -200,6 +202,7 @@ fn end_in_size<T: ByteOutput>(
     ensures ends { EndsInSizeBy manner.keep_going progress.old.counts progress.new.counts (T.taken teller.old)
         (T.taken teller.new) bytes.now cause result }
     ensures tell { T.errors teller.new ≡ tell_errors result (T.errors teller.old) }
+    ensures untold { IsUntold progress.old.counts progress.new.counts teller.old teller.new }
 {
     if cause != Cause::Truncated {
         return Ok(Some(next_refused(progress, cause)));
@@ -242,6 +245,7 @@ fn end_in_packet<O: PacketOutput, W: ByteOutput, T: ByteOutput, E: Entries>(
         bytes.now cause result }
     ensures write { W.errors writer.new ≡ write_errors result (W.errors writer.old) }
     ensures tell { T.errors teller.new ≡ tell_errors result (T.errors teller.old) }
+    ensures untold { IsUntold progress.old.counts progress.new.counts teller.old teller.new }
     ensures flushes { W.flushes writer.new ≡ W.flushes writer.old }
 {
     let number = progress.counts.packets.saturating_add(1);
@@ -300,6 +304,7 @@ fn end<O: PacketOutput, W: ByteOutput, T: ByteOutput, E: Entries>(
         bytes.now cause result }
     ensures write { W.errors writer.new ≡ write_errors result (W.errors writer.old) }
     ensures tell { T.errors teller.new ≡ tell_errors result (T.errors teller.old) }
+    ensures untold { IsUntold progress.old.counts progress.new.counts teller.old teller.new }
     ensures flushes { W.flushes writer.new ≡ W.flushes writer.old }
 {
     match behind {
@@ -358,6 +363,7 @@ fn relay<O: PacketOutput, R: ByteInput, W: ByteOutput, T: ByteOutput, E: Entries
         (answer_of result progress.new.counts) }
     ensures write { W.errors writer.new ≡ write_errors result (W.errors writer.old) }
     ensures tell { T.errors teller.new ≡ tell_errors result (T.errors teller.old) }
+    ensures untold { IsUntold progress.old.counts progress.new.counts teller.old teller.new }
     ensures flushes { W.flushes writer.new ≡ W.flushes writer.old }
 {
     // (a packet that is not whole, and what one read gave)
@@ -420,6 +426,8 @@ fn pass_by<O: PacketOutput, R: ByteInput, W: ByteOutput, T: ByteOutput, E: Entri
         (outputs (W.taken writer.old) (T.taken teller.old)) (outputs (W.taken writer.new) (T.taken teller.new)) result }
     ensures write { W.errors writer.new ≡ writes_failed result (W.errors writer.old) }
     ensures tell { T.errors teller.new ≡ tells_failed result (T.errors teller.old) }
+    // where no packet is refused the teller is not called
+    ensures untold { IfOk result (λ s. s.refused ≡ 0 → teller.new ≡ teller.old) }
     ensures flush { FlushesOnce result (W.flushes writer.old) (W.flushes writer.new) }
 {
     match relay(
@@ -463,6 +471,8 @@ pub(crate) fn pass_packets<O: PacketOutput, R: ByteInput, W: ByteOutput, T: Byte
         (outputs (W.taken writer.old) (T.taken teller.old)) (outputs (W.taken writer.new) (T.taken teller.new)) result }
     ensures write { W.errors writer.new ≡ writes_failed result (W.errors writer.old) }
     ensures tell { T.errors teller.new ≡ tells_failed result (T.errors teller.old) }
+    // where no packet is refused the teller is not called
+    ensures untold { IfOk result (λ s. s.refused ≡ 0 → teller.new ≡ teller.old) }
     ensures flush { FlushesOnce result (W.flushes writer.old) (W.flushes writer.new) }
     ensures sound { result ≢ Err RecordingFault.Memory → IsSound set.now }
 {

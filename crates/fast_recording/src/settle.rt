@@ -2,7 +2,7 @@
 
 ghost use Rattle.std.specs.Prelude.{◌≡◌, ◌≢◌, ◌+◌, ◌<◌, ◌^◌, Err};
 ghost use Rattle.fast_packets.specs.Outcomes.{size_place};
-ghost use Rattle.fast_recording.specs.Faults.{Refuses, Settles, count_more, counted_behind, counts_refused, counts_taken, tell_errors};
+ghost use Rattle.fast_recording.specs.Faults.{IsUntold, Refuses, Settles, count_more, counted_behind, counts_refused, counts_taken, tell_errors};
 
 use crate::fault::PacketFault;
 use crate::halt::Halt;
@@ -73,6 +73,7 @@ pub(crate) fn refuse<T: ByteOutput>(
     ensures refuses { Refuses keep_going (record { packet = progress.new.counts.packets; fault = fault })
         (T.taken teller.old) (T.taken teller.new) result }
     ensures failed { T.errors teller.new ≡ tell_errors result (T.errors teller.old) }
+    ensures untold { IsUntold progress.old.counts progress.new.counts teller.old teller.new }
 {
     let counts = &mut progress.counts;
     counts.packets = counts.packets.saturating_add(1);
@@ -95,6 +96,7 @@ pub(crate) fn settle<T: ByteOutput>(
     ensures settles { Settles keep_going progress.new.counts.packets (count_more progress.old.counts.read behind)
         taken.fault (T.taken teller.old) (T.taken teller.new) result }
     ensures failed { T.errors teller.new ≡ tell_errors result (T.errors teller.old) }
+    ensures untold { IsUntold progress.old.counts progress.new.counts teller.old teller.new }
 {
     let begin = progress.counts.read.saturating_add(behind as u64);
     let counts = &mut progress.counts;

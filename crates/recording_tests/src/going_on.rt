@@ -182,3 +182,25 @@ fn devices_end_the_run(rt: HostRuntime) -> Result<(), AllocError> {
         told,
     )
 }
+
+// A line of JSON says its packet first, also behind one that is refused.
+#[test]
+fn lines_of_json_say_their_packet(rt: HostRuntime) -> Result<(), AllocError> {
+    let alloc = rt.alloc();
+    let set = loaded(&rt, alloc, WORKED)?;
+    let bytes = b"\x8b\xf0\x81\x81\x41\xc2\xfe\x00\xe4\x80\x80\x81\x84\xc0\xff\x81\x82\x88\xf0\x81\x81\x41\xc2\xfe\x00\xe4";
+    let lines = b"{\"packet\":1,\"template\":\"Quote\",\"id\":1,\"fields\":{\"Seq\":1,\"Sym\":\"AB\",\"Px\":100e-2,\"Qty\":null}}\n\
+{\"packet\":1,\"template\":\"Quote\",\"id\":1,\"fields\":{\"Seq\":2,\"Sym\":\"AB\",\"Px\":101e-2,\"Qty\":null}}\n\
+{\"packet\":3,\"template\":\"Quote\",\"id\":1,\"fields\":{\"Seq\":1,\"Sym\":\"AB\",\"Px\":100e-2,\"Qty\":null}}\n";
+    let told = "refused D9 packet=2 message=1 offset=14 template=0 instruction=0\n";
+    for step in [1, 2, 4096] {
+        let given = Given {
+            mode: KEEPS_GOING,
+            step,
+            ..usually(bytes)
+        };
+        let shown = counted(3, 1, 3, bytes.len() as u64, lines.len() as u64);
+        gives(&rt, alloc, &set, Call::Json, given, shown, lines, told)?;
+    }
+    Ok(())
+}

@@ -1,4 +1,4 @@
-use Rattle.std.proofs.Common.{◌≡◌, ◌++◌, ◌+◌, ◌∙◌, List, ℕ, Some, None, arith, drop, take, ap, sym, append-nil, append_assoc, take-append-drop}
+use Rattle.std.proofs.Common.{◌≡◌, ◌++◌, ◌+◌, ◌≤◌, ◌∙◌, List, ℕ, Some, None, arith, drop, take, length, ap, sym, append-nil, append_assoc, take-append-drop}
 use Rattle.std.proofs.lemmas.Result.{err_from_is_err_and}
 use Rattle.fast_decoder.proofs.Inputs.{more_read}
 use Rattle.fast_decoder.specs.Inputs.{Reads, told_by}
@@ -6,10 +6,11 @@ use Rattle.fast_stream.specs.declared.fault.Cause.{Cause}
 use Rattle.fast_template.specs.TemplateSets.{templates_in}
 use Rattle.fast_machine.proofs.Calls.{same_on}
 use Rattle.fast_recording.specs.Made.{WritesMade, numbering_of}
-use Rattle.fast_recording.specs.Recorded.{by_reader, outputs}
+use Rattle.fast_recording.specs.Recorded.{IsUsedUp, by_reader, outputs}
 use Rattle.fast_recording.proofs.Flushed.{answers_front, ended_by_bytes, ended_by_reader}
-use Rattle.fast_recording.proofs.Readings.{few_read, more_open, reader_ended, reader_failed}
+use Rattle.fast_recording.proofs.Readings.{few_read, more_open, one_more, reader_ended, reader_failed}
 use Rattle.fast_recording.proofs.Relayed.{breaks_between}
+use Rattle.fast_recording.proofs.Untold.{untold_on}
 use Rattle.fast_recording.proofs.relay.relay.Goals as goal
 
 pub returns-in_err-ended-clause-answer : goal.returns-in_err-ended-clause-answer
@@ -37,7 +38,7 @@ returns-in_err-ended-clause-answer g c =
       front ++ (held ++ got),
       all,
       omega (arith, some),
-      rw (e.1) (answers_front m.keep_going m.level set Writes (by_reader (c.reads.reads + 1 ≡ c.args.turns) from now) c.reads.progress.counts old _ (front ++ (held ++ got)) e.0 (breaks_between m.keep_going m.level set Writes (held ++ got) p)),
+      rw (e.1) (answers_front m.keep_going m.level set Writes (by_reader (IsUsedUp c.args.turns (c.reads.reads + 1) (front ++ (held ++ got))) from now) c.reads.progress.counts old _ (front ++ (held ++ got)) e.0 (breaks_between m.keep_going m.level set Writes (held ++ got) p)),
     )
 
 pub returns-in-Some-clause-answer : goal.returns-in-Some-clause-answer
@@ -71,8 +72,8 @@ returns-in-Some-clause-answer g c =
       front ++ c.deref.result.now,
       whole,
       omega (arith, some),
-      ended_by_reader m.keep_going m.level set Writes (c.reads.reads + 1 ≡ c.args.turns) from now c.in-Some.cause c.end.new.progress.counts old _ (front ++ c.deref.result.now) c.end.result
-          (reader_ended from mid now c.in-Some.cause v.still on.2) (reader_failed (c.reads.reads + 1 ≡ c.args.turns) from mid now c.in-Some.cause v.still on.2) ends,
+      ended_by_reader m.keep_going m.level set Writes (IsUsedUp c.args.turns (c.reads.reads + 1) (front ++ c.deref.result.now)) from now c.in-Some.cause c.end.new.progress.counts old _ (front ++ c.deref.result.now) c.end.result
+          (reader_ended from mid now c.in-Some.cause v.still on.2) (reader_failed (IsUsedUp c.args.turns (c.reads.reads + 1) (front ++ c.deref.result.now)) from mid now c.in-Some.cause v.still on.2) ends,
     )
 
 pub returns-in_err-came-clause-answer : goal.returns-in_err-came-clause-answer
@@ -106,7 +107,7 @@ returns-in_err-came-clause-answer g c =
       front ++ (held ++ got),
       all,
       omega (arith, some),
-      rw (e.1) (answers_front m.keep_going m.level set Writes (by_reader (c.reads.reads + 1 ≡ c.args.turns) from now) c.take_packets.new.progress.counts old _ (front ++ (held ++ got)) e.0 (rw (bytes) at comes)),
+      rw (e.1) (answers_front m.keep_going m.level set Writes (by_reader (IsUsedUp c.args.turns (c.reads.reads + 1) (front ++ (held ++ got))) from now) c.take_packets.new.progress.counts old _ (front ++ (held ++ got)) e.0 (rw (bytes) at comes)),
     )
 
 pub forget-requires : goal.forget-requires
@@ -178,9 +179,10 @@ reads-preserved g c =
       write = e.write ∙ v.write;
       tell = e.tell ∙ v.tell;
       flushes = e.flushes ∙ v.flushes;
+      untold = untold_on v.untold e.untold;
       still = still;
       begun = rw (left) h.1;
-      passes = (front ++ take at c.deref-in-reads.result.now, rw (parts) all, h.2);
+      passes = (front ++ take at c.deref-in-reads.result.now, rw (parts) all, h.2, rw (parts) (one_more front held got c.reads.reads v.passes.3 on.0));
     }
 
 pub returns-in-End-clause-answer : goal.returns-in-End-clause-answer
@@ -214,7 +216,7 @@ returns-in-End-clause-answer g c =
       front ++ (held ++ got),
       all,
       omega (arith, some),
-      ended_by_bytes m.keep_going m.level set Writes (c.reads.reads + 1 ≡ c.args.turns) from now c.take_packets.new.progress.counts old _ (front ++ (held ++ got)) None still h,
+      ended_by_bytes m.keep_going m.level set Writes (IsUsedUp c.args.turns (c.reads.reads + 1) (front ++ (held ++ got))) from now c.take_packets.new.progress.counts old _ (front ++ (held ++ got)) None still h,
     )
 
 pub returns-in-Refused-clause-answer : goal.returns-in-Refused-clause-answer
@@ -248,7 +250,7 @@ returns-in-Refused-clause-answer g c =
       front ++ (held ++ got),
       all,
       omega (arith, some),
-      ended_by_bytes m.keep_going m.level set Writes (c.reads.reads + 1 ≡ c.args.turns) from now c.take_packets.new.progress.counts old _ (front ++ (held ++ got)) (Some c.in-Refused.refused) still h,
+      ended_by_bytes m.keep_going m.level set Writes (IsUsedUp c.args.turns (c.reads.reads + 1) (front ++ (held ++ got))) from now c.take_packets.new.progress.counts old _ (front ++ (held ++ got)) (Some c.in-Refused.refused) still h,
     )
 
 pub returns-clause-answer : goal.returns-clause-answer
@@ -269,10 +271,26 @@ returns-clause-answer g c =
     let bound = few_read front c.deref-2.result.now c.reads.reads c.args.turns whole.few v.few c.requires.turns in
     let templates = ap (λ x. templates_in x.now) v.same.set in
     let used : c.reads.reads ≡ c.args.turns = let few = v.few in omega (arith, few, c.reads-test.false) in
+    let gave : c.args.turns ≤ length (front ++ c.deref-2.result.now) = let some = v.passes.3 in omega (arith, some, used, ap (λ (z : List ℕ). length (front ++ z)) bytes) in
     let ends = c.end-2.ensures.ends set old front templates bound p in (
       c.reads.reads,
       front ++ c.deref-2.result.now,
       whole,
       v.few,
-      ended_by_reader m.keep_going m.level set Writes (c.reads.reads ≡ c.args.turns) from mid Cause.Turns c.end-2.new.progress.counts old _ (front ++ c.deref-2.result.now) c.end-2.result (λ e. absurd cc) (λ e. (used, v.still)) ends,
+      ended_by_reader m.keep_going m.level set Writes (IsUsedUp c.args.turns c.reads.reads (front ++ c.deref-2.result.now)) from mid Cause.Turns c.end-2.new.progress.counts old _ (front ++ c.deref-2.result.now) c.end-2.result (λ e. absurd cc) (λ e. ((used, gave), v.still)) ends,
     )
+
+pub returns-in-Some-clause-untold : goal.returns-in-Some-clause-untold
+returns-in-Some-clause-untold g c = untold_on c.reads.invariant.untold c.end.ensures.untold
+
+pub returns-in_err-came-clause-untold : goal.returns-in_err-came-clause-untold
+returns-in_err-came-clause-untold g c = untold_on c.reads.invariant.untold c.in_err-came.ensures.untold
+
+pub returns-in-End-clause-untold : goal.returns-in-End-clause-untold
+returns-in-End-clause-untold g c = untold_on c.reads.invariant.untold c.in_ok-came.ensures.untold
+
+pub returns-in-Refused-clause-untold : goal.returns-in-Refused-clause-untold
+returns-in-Refused-clause-untold g c = untold_on c.reads.invariant.untold c.in_ok-came.ensures.untold
+
+pub returns-clause-untold : goal.returns-clause-untold
+returns-clause-untold g c = untold_on c.reads.invariant.untold c.end-2.ensures.untold

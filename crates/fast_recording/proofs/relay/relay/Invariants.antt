@@ -1,8 +1,9 @@
-use Rattle.std.proofs.Common.{◌≡◌, ◌≤◌, ◌-◌, ℕ, List, ◌++◌}
+use Rattle.std.proofs.Common.{◌≡◌, ◌≤◌, ◌-◌, ℕ, List, ◌++◌, length}
 use Rattle.fast_template.specs.TemplateSets.{templates_in}
 use Rattle.fast_decoder.specs.Inputs.{Reads, told_by}
 use Rattle.fast_machine.specs.Calls.{IsSameStream}
 use Rattle.fast_recording.specs.Begins.{IsOpenAt}
+use Rattle.fast_recording.specs.Faults.{IsUntold}
 use Rattle.fast_recording.specs.Made.{WritesMade, numbering_of}
 use Rattle.fast_recording.specs.Passing.{IsReady, Passes}
 use Rattle.fast_recording.specs.Recorded.{IsOpen, outputs}
@@ -25,10 +26,12 @@ invariant-reads g l =
       write : W.errors l.writer ≡ W.errors l.fn.writer;
       tell : T.errors l.teller ≡ T.errors l.fn.teller;
       flushes : W.flushes l.writer ≡ W.flushes l.fn.writer;
+      untold : IsUntold l.fn.progress.counts l.progress.counts l.fn.teller l.teller;
       still : IsOpen from now;
       begun : IsOpenAt m.level l.held.items l.unread;
       passes : (front : List ℕ) × Reads from now l.reads (front ++ l.held.items)
-          × Passes m.keep_going m.level set (WritesMade (numbering_of m.numbered) g.O.PacketOutput.sized O.makes set) l.progress.counts (outputs (W.taken l.fn.writer) (T.taken l.fn.teller)) (outputs (W.taken l.writer) (T.taken l.teller)) front;
+          × Passes m.keep_going m.level set (WritesMade (numbering_of m.numbered) g.O.PacketOutput.sized O.makes set) l.progress.counts (outputs (W.taken l.fn.writer) (T.taken l.fn.teller)) (outputs (W.taken l.writer) (T.taken l.teller)) front
+          × (l.reads ≤ length (front ++ l.held.items));
     }
 
 abbrev pub decreases-reads : goal.decreases-reads

@@ -10,6 +10,7 @@ use Rattle.fast_recording.proofs.Fronts.{few_front, few_step, rest_is, rest_long
 use Rattle.fast_recording.proofs.Held.{held_few}
 use Rattle.fast_recording.proofs.Numbered.{nothing_numbered}
 use Rattle.fast_recording.proofs.Parts.{size_answered, size_told, size_untold}
+use Rattle.fast_recording.proofs.Untold.{untold_on}
 use Rattle.fast_recording.proofs.relay.take_packets.Goals as goal
 
 pub returns-in_err-refuse-in-Sizeless-clause-takes : goal.returns-in_err-refuse-in-Sizeless-clause-takes
@@ -101,6 +102,7 @@ packets-preserved g c =
       write = e.write ∙ v.write;
       tell = e.tell ∙ v.tell;
       flushes = e.flushes ∙ v.flushes;
+      untold = untold_on v.untold e.untold;
       passes = λ set old front set_is bound p.
           let passes = v.passes set old front set_is bound p in
           let templates = ap (λ x. templates_in x.now) v.same.set ∙ set_is in
@@ -123,3 +125,18 @@ returns-in-Some-2-clause-takes g c = λ set old front set_is bound p.
 
 pub returns-in-Open-clause-few : goal.returns-in-Open-clause-few
 returns-in-Open-clause-few g c = rw (take_rest c.args.bytes.now c.packets.at) at (held_few c.args.manner.level _ c.in-Open.behind c.in-Open.ensures)
+
+pub returns-in_err-refuse-in-Sizeless-clause-untold : goal.returns-in_err-refuse-in-Sizeless-clause-untold
+returns-in_err-refuse-in-Sizeless-clause-untold g c = untold_on c.packets.invariant.untold c.in_err-refuse-in-Sizeless.ensures.untold
+
+pub returns-in-None-clause-untold : goal.returns-in-None-clause-untold
+returns-in-None-clause-untold g c = untold_on c.packets.invariant.untold c.in_ok-refuse-in-Sizeless.ensures.untold
+
+pub returns-in-Some-clause-untold : goal.returns-in-Some-clause-untold
+returns-in-Some-clause-untold g c = untold_on c.packets.invariant.untold c.in_ok-refuse-in-Sizeless.ensures.untold
+
+pub returns-in_err-take_whole-in-Whole-clause-untold : goal.returns-in_err-take_whole-in-Whole-clause-untold
+returns-in_err-take_whole-in-Whole-clause-untold g c = untold_on c.packets.invariant.untold c.in_err-take_whole-in-Whole.ensures.untold
+
+pub returns-in-Some-2-clause-untold : goal.returns-in-Some-2-clause-untold
+returns-in-Some-2-clause-untold g c = untold_on c.packets.invariant.untold c.in_ok-take_whole-in-Whole.ensures.untold

@@ -2,6 +2,7 @@ use Rattle.std.proofs.Common.{◌≡◌, ◌≤◌, ◌-◌, ℕ, List, ◌++◌
 use Rattle.fast_template.specs.Resolved.{Resolved}
 use Rattle.fast_template.specs.TemplateSets.{templates_in}
 use Rattle.fast_machine.specs.Calls.{IsSameStream}
+use Rattle.fast_recording.specs.Faults.{IsUntold}
 use Rattle.fast_recording.specs.Made.{WritesMade, numbering_of}
 use Rattle.fast_recording.specs.Passing.{AreFew, IsReady, Passes}
 use Rattle.fast_recording.specs.Recorded.{Outputs, outputs}
@@ -21,6 +22,7 @@ invariant-packets g l =
       write : W.errors l.writer ≡ W.errors l.fn.writer;
       tell : T.errors l.teller ≡ T.errors l.fn.teller;
       flushes : W.flushes l.writer ≡ W.flushes l.fn.writer;
+      untold : IsUntold l.fn.progress.counts l.progress.counts l.fn.teller l.teller;
       passes : (set : List Resolved) (old : Outputs) (front : List ℕ) → templates ≡ set → AreFew front l.bytes
           → Passes m.keep_going m.level set (WritesMade (numbering_of m.numbered) g.O.PacketOutput.sized O.makes set) l.fn.progress.counts old (outputs (W.taken l.fn.writer) (T.taken l.fn.teller)) front
           → Passes m.keep_going m.level set (WritesMade (numbering_of m.numbered) g.O.PacketOutput.sized O.makes set) l.progress.counts old (outputs (W.taken l.writer) (T.taken l.teller)) (front ++ take l.at l.bytes);
