@@ -8,3 +8,4 @@ pub mod Going
 pub mod Finishing
 pub mod Withins
 pub mod Shown
+pub mod PacketsShown

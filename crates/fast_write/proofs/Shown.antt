@@ -62,7 +62,7 @@ among set (l ∷ ls) line more ms (inr x) = behind_line (among set ls line more 
     spelled = a.spelled;
   })
 
-short_one : (lines : List (List ℕ)) (line : List ℕ) (more : List (List ℕ)) → AllByRecursion IsShort (lines ++ line ∷ more) → IsShort line
+pub short_one : (lines : List (List ℕ)) (line : List ℕ) (more : List (List ℕ)) → AllByRecursion IsShort (lines ++ line ∷ more) → IsShort line
 short_one [] line more h = h.0
 short_one (l ∷ ls) line more h = short_one ls line more h.1
 
@@ -76,7 +76,7 @@ pub record Apart (set : List Resolved) (d : Dictionary) (front : List Content) (
   pub earlier : CanonFrom set d before front between
   pub form : CanonMessage set between own m after
 
-apart : (set : List Resolved) (front : List Content) (m : Content) (back : List Content) (d after : Dictionary) (bytes : List ℕ) → CanonFrom set d bytes (front ++ m ∷ back) after → Apart set d front m
+pub apart : (set : List Resolved) (front : List Content) (m : Content) (back : List Content) (d after : Dictionary) (bytes : List ℕ) → CanonFrom set d bytes (front ++ m ∷ back) after → Apart set d front m
 apart set [] m back d after bytes h = record { before = []; own = h.front; between = d; after = h.between; earlier = (refl, refl); form = h.first }
 apart set (n ∷ ns) m back d after bytes h =
     let a = apart set ns m back h.between after h.back h.second in

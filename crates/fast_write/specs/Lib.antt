@@ -3,3 +3,4 @@ pub mod Written
 pub mod Packets
 pub mod Ways
 pub mod Laws
+pub mod PacketLaws

@@ -1,7 +1,8 @@
 //! Lines to canonical bytes.
 //!
 //! [`write_lines`] reads lines of JSON, each of which stands for a message (`fast_spelled`), and writes the canonical bytes
-//! of the messages. `specs/Written` says what is answered.
+//! of the messages. `specs/Written` says what is answered. [`write_packets`] reads lines that say their packets, and writes
+//! their canonical recording (`specs/Packets`).
 #![tactic(auto)]
 
 mod fault;
