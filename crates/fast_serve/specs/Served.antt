@@ -279,8 +279,8 @@ is_written task = false
 -- a task over an input in plain bytes, or in hex text; lines are never hex text
 abbrev pub PerformsOver : Bool → Task → Form → TemplateList → ℕ → Reader → Reader → Writer → Writer → Writer → Writer → Answer → Type 0
 PerformsOver hex task form set turns in_old in_new out_old out_new err_old err_new r =
-    if hex && not (is_written task) then PerformsHexText task hex form set turns in_old in_new out_old out_new err_old err_new r
-    else RunsTask task hex form set turns in_old in_new out_old out_new err_old err_new r
+    (((hex && not (is_written task)) ≡ true) × PerformsHexText task hex form set turns in_old in_new out_old out_new err_old err_new r)
+    ⊎ (((hex && not (is_written task)) ≡ false) × RunsTask task hex form set turns in_old in_new out_old out_new err_old err_new r)
 
 -- with templates that are loaded: the input's file cannot be opened, or it was opened at its beginning
 abbrev pub PerformsWith : Asked → TemplateList → Inputs → ℕ → Writer → Writer → Writer → Writer → Answer → Type 0
