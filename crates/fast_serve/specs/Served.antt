@@ -276,11 +276,17 @@ abbrev pub is_written : Task → Bool
 is_written (Task.Write packets) = true
 is_written task = false
 
+-- a task over an input that is read as hex text, or as it is
+abbrev pub PerformsBy : Bool → Bool → Task → Form → TemplateList → ℕ → Reader → Reader → Writer → Writer → Writer → Writer → Answer → Type 0
+PerformsBy true hex task form set turns in_old in_new out_old out_new err_old err_new r =
+    PerformsHexText task hex form set turns in_old in_new out_old out_new err_old err_new r
+PerformsBy false hex task form set turns in_old in_new out_old out_new err_old err_new r =
+    RunsTask task hex form set turns in_old in_new out_old out_new err_old err_new r
+
 -- a task over an input in plain bytes, or in hex text; lines are never hex text
 abbrev pub PerformsOver : Bool → Task → Form → TemplateList → ℕ → Reader → Reader → Writer → Writer → Writer → Writer → Answer → Type 0
 PerformsOver hex task form set turns in_old in_new out_old out_new err_old err_new r =
-    (((hex && not (is_written task)) ≡ true) × PerformsHexText task hex form set turns in_old in_new out_old out_new err_old err_new r)
-    ⊎ (((hex && not (is_written task)) ≡ false) × RunsTask task hex form set turns in_old in_new out_old out_new err_old err_new r)
+    PerformsBy (hex && not (is_written task)) hex task form set turns in_old in_new out_old out_new err_old err_new r
 
 -- with templates that are loaded: the input's file cannot be opened, or it was opened at its beginning
 abbrev pub PerformsWith : Asked → TemplateList → Inputs → ℕ → Writer → Writer → Writer → Writer → Answer → Type 0
