@@ -5,3 +5,4 @@ pub mod Outcomes
 pub mod Refusals
 pub mod Readers
 mod WorkedRecordings
+pub mod Labels

@@ -7,7 +7,8 @@ use Rattle.fast_io.specs.Counts.{counted_by}
 use Rattle.fast_io.specs.Traffic.{Taken}
 use Rattle.fast_io.proofs.Outputs.{Appends-nil, Appends-trans}
 use Rattle.memchr.specs.Find.{IsFirstByte, is_byte}
-use Rattle.fast_recording.specs.PacketLines.{IsPiece, LeadsOn, Writes, labelled, numbered, packet_label, written_by}
+use Rattle.fast_packets.proofs.Labels.{labelled-append}
+use Rattle.fast_recording.specs.PacketLines.{IsPiece, LeadsOn, Writes, labelled, written_by}
 use Rattle.fast_recording.specs.declared.packet_lines.PacketLines.{PacketLines}
 
 -- ---- answers of one kind
@@ -135,24 +136,6 @@ pub writes_plainly : (old : PacketLines) (count : ℕ) (a b : Option (List ℕ))
 writes_plainly old count a b bytes empty counts p =
     let same = labelled_by_empty old.label.items old.begins bytes empty in
     record { written = rw same p; leads_on = leads_on_by_empty old.label.items old.begins bytes empty; counted = λ n before. rw same (count_more old.written count n (length bytes) counts before) }
-
--- ---- lines one behind the other
-
--- whether a line begins behind bytes
-abbrev pub begins_behind : Bool → List ℕ → Bool
-begins_behind begins [] = begins
-begins_behind begins (b ∷ bytes) = begins_behind (b == 10) bytes
-
-pub labelled-append : (label : List ℕ) (begins : Bool) (s t : List ℕ) → labelled label begins (s ++ t) ≡ labelled label begins s ++ labelled label (begins_behind begins s) t
-labelled-append label begins [] t = refl
-labelled-append label true (b ∷ s) t =
-    ap (λ (xs : List ℕ). b ∷ (label ++ xs)) (labelled-append label (b == 10) s t)
-    ∙ ap (λ (xs : List ℕ). b ∷ xs) (sym (append_assoc label (labelled label (b == 10) s) (labelled label (begins_behind (b == 10) s) t)))
-labelled-append label false (b ∷ s) t = ap (λ (xs : List ℕ). b ∷ xs) (labelled-append label (b == 10) s t)
-
--- lines that are whole are written one by one
-pub numbered-append : (n : ℕ) (s t : List ℕ) → begins_behind true s ≡ true → numbered n (s ++ t) ≡ numbered n s ++ numbered n t
-numbered-append n s t whole = labelled-append (packet_label n) true s t ∙ ap (λ (b : Bool). numbered n s ++ labelled (packet_label n) b t) whole
 
 -- ---- bytes that are written one behind the other
 

@@ -1,6 +1,6 @@
 //! Which entries were asked for to be changed.
 
-ghost use Rattle.std.specs.Prelude.{◌≡◌, ◌≢◌, ℕ, false, IfOk};
+ghost use Rattle.std.specs.Prelude.{◌≡◌, ◌≢◌, ◌<◌, ℕ, false, IfOk, vec_capacity, vec_len};
 ghost use Rattle.fast_dictionary.specs.declared.entry.Entry.TheVariants.{Undefined};
 ghost use Rattle.fast_recording.specs.Touched.{is_touched};
 
@@ -18,7 +18,8 @@ pub(crate) struct Touched {
 impl Touched {
     /// No slot, with room for so many.
     pub(crate) fn new(alloc: Global, room: u32) -> Result<Touched, AllocError>
-        ensures { IfOk result (λ t. (n : ℕ) → is_touched t n ≡ false) }
+        ensures none { IfOk result (λ t. (n : ℕ) → is_touched t n ≡ false) }
+        ensures room { IfOk result (λ t. vec_capacity t.slots ≡ room) }
     {
         Ok(Touched {
             slots: Vec::with_capacity(alloc, room as usize)?,
@@ -31,6 +32,8 @@ impl Touched {
     pub(crate) fn note(&mut self, slot: u32)
         ensures noted { (n : ℕ) → is_touched self.new n ≡ false → n ≢ slot }
         ensures before { (n : ℕ) → is_touched self.new n ≡ false → is_touched self.old n ≡ false }
+        ensures listed { vec_len self.old.slots < vec_capacity self.old.slots → self.new.all ≡ self.old.all }
+        ensures room { vec_capacity self.new.slots ≡ vec_capacity self.old.slots }
     {
         if self.slots.len() < self.slots.capacity() {
             self.slots.push_reserved(slot);
@@ -52,7 +55,8 @@ impl Touched {
 
     /// Forgets all slots, and keeps the room.
     pub(crate) fn clear(&mut self)
-        ensures { (n : ℕ) → is_touched self.new n ≡ false }
+        ensures none { (n : ℕ) → is_touched self.new n ≡ false }
+        ensures room { vec_capacity self.new.slots ≡ vec_capacity self.old.slots }
     {
         self.slots.clear();
         self.all = false;

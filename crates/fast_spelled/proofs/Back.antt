@@ -53,7 +53,7 @@ integer_back k z text e r = ap (option_and_then (λ y. where_so (in_range k y) (
 pub below32 : (n : ℕ) → n < 2 ^ 32 → in_range Kind.UInt32 (pos n) ≡ true
 below32 n h = and_from _ _ (le-leb 0 n (omega arith)) (le-leb n 4294967295 (omega arith))
 
-below64 : (n : ℕ) → n < 2 ^ 64 → in_range Kind.UInt64 (pos n) ≡ true
+pub below64 : (n : ℕ) → n < 2 ^ 64 → in_range Kind.UInt64 (pos n) ≡ true
 below64 n h = and_from _ _ (le-leb 0 n (omega arith)) (le-leb n 18446744073709551615 (omega arith))
 
 -- two hex digits for each byte

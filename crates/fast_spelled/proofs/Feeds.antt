@@ -78,7 +78,7 @@ digits_clean : (ds : List ℕ) → AllDigits 10 ds → NoFeed ds
 digits_clean [] h = refl
 digits_clean (c ∷ cs) h = let k = digit_from_value c h.0 in and_from _ _ (rw (ne_eqb c 10 (λ e. omega (arith, k.0))) refl) (digits_clean cs h.1)
 
-decimal_clean : (n : ℕ) → n < 2 ^ 64 → NoFeed (decimal n)
+pub decimal_clean : (n : ℕ) → n < 2 ^ 64 → NoFeed (decimal n)
 decimal_clean n h = digits_clean (decimal n) (decimal_is_IsNumeral n h).0.1
 
 signed_clean : (z : _) → mag z < 2 ^ 63 → NoFeed (signed_decimal z)

@@ -15,3 +15,4 @@ pub mod Texture
 pub mod Capped
 pub mod Heads
 pub mod Looked
+pub mod InPackets

@@ -38,7 +38,7 @@ blank_one c cs e = elim (or_cases _ _ e) [
   ]
 ]
 
-blanks : (line : List ℕ) → list_all is_blank line ≡ true → lex between line ≡ []
+pub blanks : (line : List ℕ) → list_all is_blank line ≡ true → lex between line ≡ []
 unfolding lex
 blanks [] e = refl
 blanks (c ∷ cs) e = let p = and_parts _ _ e in blank_one c cs p.0 ∙ blanks cs p.1

@@ -137,7 +137,7 @@ digits_ascii : (ds : List ℕ) → AllDigits 10 ds → are_ascii ds ≡ true
 digits_ascii [] h = refl
 digits_ascii (c ∷ cs) h = let k = digit_from_value c h.0 in and_from _ _ (lt-ltb c 128 (omega (arith, k.1))) (digits_ascii cs h.1)
 
-decimal_text_is : (n : ℕ) → n < 2 ^ 64 → IsUtf8 (decimal n)
+pub decimal_text_is : (n : ℕ) → n < 2 ^ 64 → IsUtf8 (decimal n)
 decimal_text_is n h = ascii_text (decimal n) (digits_ascii (decimal n) (decimal_is_IsNumeral n h).0.1)
 
 signed_text_is : (z : _) → mag z < 2 ^ 63 → IsUtf8 (signed_decimal z)

@@ -51,7 +51,7 @@ mutual
   numbers_item (group_of name i presence members) (sequence_elements es) h = tt
   numbers_item (sequence_of name i presence length members) (group_items ns) h = tt
 
-  numbers_members : (is : Instructions) (ns : Items) → HaveScalars ns → MembersHaveNumbers (json_members is ns)
+  pub numbers_members : (is : Instructions) (ns : Items) → HaveScalars ns → MembersHaveNumbers (json_members is ns)
   numbers_members no_instructions ns h = tt
   numbers_members (then_instruction i is) no_items h = tt
   numbers_members (then_instruction i is) (then_item n ns) h = (numbers_item i n h.0, numbers_members is ns h.1)
@@ -85,7 +85,7 @@ mutual
   depth_item (group_of name i presence members) (sequence_elements es) = omega arith
   depth_item (sequence_of name i presence length members) (group_items ns) = omega arith
 
-  depth_members : (is : Instructions) (ns : Items) → members_depth (json_members is ns) ≤ 2 * depth_of is
+  pub depth_members : (is : Instructions) (ns : Items) → members_depth (json_members is ns) ≤ 2 * depth_of is
   depth_members no_instructions ns = omega arith
   depth_members (then_instruction i is) no_items = omega arith
   depth_members (then_instruction i is) (then_item n ns) = omega (arith, depth_item i n, depth_members is ns)
@@ -100,9 +100,9 @@ has_own : (id : ℕ) (o : Option ℕ) → has_id id o ≡ true → o ≡ Some id
 has_own id None e = absurd (true≢false (sym e))
 has_own id (Some own) e = ap Some (eqb-true own id e)
 
-record Found (id : ℕ) (t : FlatTemplate) : Type 0 where
-  own : t.id ≡ Some id
-  shallow : depth_of (resolved_of t).members ≤ 8
+pub record Found (id : ℕ) (t : FlatTemplate) : Type 0 where
+  pub own : t.id ≡ Some id
+  pub shallow : depth_of (resolved_of t).members ≤ 8
 
 abbrev value_or : FlatTemplate → Option FlatTemplate → FlatTemplate
 value_or d None = d
@@ -112,7 +112,7 @@ found_at : (id : ℕ) (x t : FlatTemplate) (o : Option FlatTemplate) (b : Bool) 
 found_at id x t o true is e h later = subst (Found id) (ap (value_or x) e) (record { own = has_own id x.id (sym is); shallow = h })
 found_at id x t o false is e h later = later e
 
-found : (id : ℕ) (ts : List FlatTemplate) (t : FlatTemplate) → find (λ u. has_id id u.id) ts ≡ Some t → AllByRecursion (λ u. depth_of u.members ≤ 8) (map resolved_of ts) → Found id t
+pub found : (id : ℕ) (ts : List FlatTemplate) (t : FlatTemplate) → find (λ u. has_id id u.id) ts ≡ Some t → AllByRecursion (λ u. depth_of u.members ≤ 8) (map resolved_of ts) → Found id t
 found id [] t e h = absurd (cc e)
 found id (x ∷ xs) t e h = found_at id x t (find (λ u. has_id id u.id) xs) (has_id id x.id) refl e h.0 (λ f. found id xs t f h.1)
 
@@ -131,7 +131,7 @@ read_back t m line e w f =
 own_named : (t : FlatTemplate) → if_named t.name (Some t) ≡ Some t
 own_named t = rw ((bytes_eq-Decides t.name t.name).1 refl) refl
 
-stands : (set : TemplateList) (t : FlatTemplate) (m : Content) (line : List ℕ) → template_of m.template set ≡ Some t → line_by form.Json t.name (resolved_of t).members m ≡ Some line → IsWithin m → Found m.template t
+pub stands : (set : TemplateList) (t : FlatTemplate) (m : Content) (line : List ℕ) → template_of m.template set ≡ Some t → line_by form.Json t.name (resolved_of t).members m ≡ Some line → IsWithin m → Found m.template t
     → message_by set (json_line t.name (resolved_of t).members m) ≡ Some m
 stands set t m line there e w f =
     let is = (resolved_of t).members in

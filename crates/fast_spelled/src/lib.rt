@@ -62,3 +62,32 @@ ghost use Rattle.fast_spelled.specs.Laws.{HasTextNames};
 pub fn lines_are_text()
     ensures { (set : TemplateList) → HasTextNames set → HasTextLines set }
 {}
+
+ghost use Rattle.std.specs.Prelude.{◌<◌, ◌^◌};
+ghost use Rattle.fast_packets.specs.Numbered.{numbered};
+ghost use Rattle.fast_spelled.specs.Numbered.{SpellsIn};
+
+/// The line that `show --packets --json` writes of a message in a packet stands for that message in that packet, and for
+/// no other.
+pub fn numbered_lines_spell_their_messages()
+    ensures spelled { (set : TemplateList) (n : ℕ) (m : Content) (line : List ℕ) → IsSound set
+        → IsWithin m → IsUtf8 line → line_in Json set m ≡ Some line → 0 < n → n < 2 ^ 64
+        → SpellsIn set (numbered n line) n m }
+    ensures once { (set : TemplateList) (line : List ℕ) (n k : ℕ) (m l : Content)
+        → SpellsIn set line n m → SpellsIn set line k l → (n ≡ k) × (m ≡ l) }
+{}
+
+ghost use Rattle.std.specs.Prelude.{◌++◌, map};
+ghost use Rattle.fast_spelled.specs.Numbered.{SpellIn};
+
+/// The lines that `show --packets --json` writes of the messages of a packet stand for these messages in that packet, in
+/// front of whatever other lines stand for, and for no others.
+pub fn numbered_lines_spell_messages()
+    ensures spelled { (set : TemplateList) (n : ℕ) (ms : List Content) (text later : List ℕ)
+        (others : List (ℕ × Content)) → IsSound set → HasTextLines set
+        → AllByRecursion IsWithin ms → 0 < n → n < 2 ^ 64 → lines_in Json set ms ≡ Some text
+        → SpellIn set (lines_of later) others
+        → SpellIn set (lines_of (numbered n text ++ later)) (map (λ m. (n, m)) ms ++ others) }
+    ensures once { (set : TemplateList) (lines : List (List ℕ)) (ms ns : List (ℕ × Content))
+        → SpellIn set lines ms → SpellIn set lines ns → ms ≡ ns }
+{}
