@@ -11,7 +11,7 @@ use template_tests::texts::WORKED;
 // A packet of so many bytes, of which these have come.
 fn packet(alloc: Global, size: usize, stream: &[u8]) -> Result<Vec<u8>, AllocError> {
     let mut bytes = Vec::new(alloc);
-    bytes.push(0x80 | size as u8 % 128)?;
+    bytes.push(0x80 | (size % 128) as u8)?;
     bytes.extend_from_slice(stream)?;
     Ok(bytes)
 }

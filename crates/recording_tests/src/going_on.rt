@@ -188,8 +188,10 @@ fn devices_end_the_run(rt: HostRuntime) -> Result<(), AllocError> {
 fn lines_of_json_say_their_packet(rt: HostRuntime) -> Result<(), AllocError> {
     let alloc = rt.alloc();
     let set = loaded(&rt, alloc, WORKED)?;
-    let bytes = b"\x8b\xf0\x81\x81\x41\xc2\xfe\x00\xe4\x80\x80\x81\x84\xc0\xff\x81\x82\x88\xf0\x81\x81\x41\xc2\xfe\x00\xe4";
-    let lines = b"{\"packet\":1,\"template\":\"Quote\",\"id\":1,\"fields\":{\"Seq\":1,\"Sym\":\"AB\",\"Px\":100e-2,\"Qty\":null}}\n\
+    let bytes =
+        b"\x8b\xf0\x81\x81\x41\xc2\xfe\x00\xe4\x80\x80\x81\x84\xc0\xff\x81\x82\x88\xf0\x81\x81\x41\xc2\xfe\x00\xe4";
+    let lines =
+        b"{\"packet\":1,\"template\":\"Quote\",\"id\":1,\"fields\":{\"Seq\":1,\"Sym\":\"AB\",\"Px\":100e-2,\"Qty\":null}}\n\
 {\"packet\":1,\"template\":\"Quote\",\"id\":1,\"fields\":{\"Seq\":2,\"Sym\":\"AB\",\"Px\":101e-2,\"Qty\":null}}\n\
 {\"packet\":3,\"template\":\"Quote\",\"id\":1,\"fields\":{\"Seq\":1,\"Sym\":\"AB\",\"Px\":100e-2,\"Qty\":null}}\n";
     let told = "refused D9 packet=2 message=1 offset=14 template=0 instruction=0\n";

@@ -106,14 +106,7 @@ pub(crate) fn run(
             &mut teller,
             turns,
         ),
-        Call::Check => check_packets(
-            alloc,
-            set,
-            given.mode,
-            &mut reader,
-            &mut teller,
-            turns,
-        ),
+        Call::Check => check_packets(alloc, set, given.mode, &mut reader, &mut teller, turns),
         Call::Canon => canonicalise_packets(
             alloc,
             set,
