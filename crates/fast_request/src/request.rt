@@ -73,9 +73,11 @@ const STRICT: &str = "Refuse overlong entities, and map bits that no instruction
 
 const BLOCKS: &str = "Read a stream of blocks: a size, and as many bytes of whole messages";
 
-const PACKETS: &str = "Read a recording: packets, each a size and as many bytes, a stream of its own";
+const PACKETS: &str =
+    "Read a recording: packets, each a size and as many bytes, a stream of its own";
 
-const KEEP_GOING: &str = "With --packets, tell of a refused packet on standard error and read the next";
+const KEEP_GOING: &str =
+    "With --packets, tell of a refused packet on standard error and read the next";
 
 const JSON: &str = "Show each message as a JSON text";
 
