@@ -193,8 +193,7 @@ fn read_as_text(read_as: ReadAs, packet: Option<u64>, fault: Fault) -> &'static 
             "explain: if each block is a datagram that begins with undefined entries, give --packets in place of --blocks\n"
         }
         (ReadAs::Recording, Cause::D5 | Cause::D9 | Cause::Truncated | Cause::BlockEnd)
-            if is_early =>
-        {
+            if is_early => {
             "explain: if the input has no packets, leave out --packets; if entries go on from packet to packet, give --blocks; if other bytes stand before each packet's messages, take them out\n"
         }
         _ => "",

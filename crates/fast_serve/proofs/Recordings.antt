@@ -1,5 +1,5 @@
 -- What was done of a recording in memory.
-use Rattle.fast_serve.proofs.Common.{◌≡◌, List, ℕ, [], Some, Result, Ok, Err, inl, inr, refl, sym, subst, Reader, TemplateList, Writer, Refusal, Answer, WritesHex}
+use Rattle.fast_serve.proofs.Common.{◌≡◌, List, ℕ, [], Some, Result, Err, inl, inr, subst, Reader, TemplateList, Writer, Refusal, Answer, WritesHex}
 use Rattle.fast_recording.specs.Calls.{CanonicalisesPackets}
 use Rattle.fast_recording.specs.declared.fault.PacketFault.{PacketFault}
 use Rattle.fast_recording.specs.declared.fault.RecordingFault.{RecordingFault}

@@ -1,6 +1,6 @@
 -- What the program did, by what its files and its input gave and what its output took. How it answers is the project's
 -- own.
-use Rattle.std.specs.Prelude.{◌≡◌, ◌≢◌, ◌⊎◌, ◌&&◌, not, if◌then◌else◌, ℕ, ◌≤◌, ◌++◌, List, [], ◌∷◌, Bool, true, false, Option, None, Some, Result, Ok, Err, IsErr, IsErrAnd, IsUtf8}
+use Rattle.std.specs.Prelude.{◌≡◌, ◌≢◌, ◌⊎◌, ◌&&◌, not, ℕ, ◌≤◌, ◌++◌, List, [], ◌∷◌, Bool, true, false, Option, None, Some, Result, Ok, Err, IsErr, IsErrAnd, IsUtf8}
 use Rattle.std.specs.Io.KnownBytes.{Appends}
 use Rattle.hex.specs.Hex.{decode_of, encode_lower}
 use Rattle.serde_json.specs.Data.{Data}
@@ -33,7 +33,7 @@ use Rattle.fast_recording.specs.declared.summary.RecordingSummary.{RecordingSumm
 use Rattle.fast_request.specs.CommandLine.{Asked, AsksFor}
 use Rattle.fast_request.specs.declared.request.Task.{Task}
 use Rattle.fast_command.specs.declared.command.Command.{Command}
-use Rattle.fast_command.specs.declared.command.Command.TheVariants.{Show, Check, Canon}
+use Rattle.fast_command.specs.declared.command.Command.TheVariants.{Canon}
 use Rattle.fast_host.specs.declared.input.TextFault.{TextFault}
 use Rattle.fast_host.specs.declared.refusal.Refusal.{Refusal}
 use Rattle.fast_write.specs.Packets.{FlushesIn, WritesPackets}

@@ -1,4 +1,4 @@
-use Rattle.fast_serve.proofs.Common.{inr, asked_by, inputs_by}
+use Rattle.fast_serve.proofs.Common.{inr, asked_by}
 use Rattle.fast_serve.proofs.Opened.{performs_behind, same_input}
 use Rattle.fast_serve.proofs.serve.perform_asked.Goals as goal
 
