@@ -14,7 +14,9 @@ use fast_command::{Command, Form, run_packets};
 use fast_explain::Notes;
 use fast_host::{MemoryOutput, Refusal};
 use fast_io::{ByteInput, ByteOutput, Counted};
-use fast_recording::{PacketFault, PacketMode, RecordingFault, RecordingSummary, canonicalise_packets};
+use fast_recording::{
+    PacketFault, PacketMode, RecordingFault, RecordingSummary, canonicalise_packets,
+};
 use fast_stream::Place;
 use fast_template::TemplateSet;
 use std::alloc::{AllocError, Global};
@@ -105,17 +107,7 @@ pub(crate) fn run_recording<I: ByteInput, O: ByteOutput, E: ByteOutput>(
         (writer_by E.taken E.errors E.flushes err.old) (writer_by E.taken E.errors E.flushes err.new) result }
     ensures quiet { result ≡ Ok Ended.Accepted → err.new ≡ err.old }
 {
-    match run_packets(
-        alloc,
-        command,
-        set,
-        mode,
-        form,
-        input,
-        out,
-        err,
-        turns,
-    ) {
+    match run_packets(alloc, command, set, mode, form, input, out, err, turns) {
         Ok(summary) => Ok(ended(summary)),
         Err(fault) => {
             note(notes, fault);

@@ -16,9 +16,9 @@ returns-in_err-write_hex_line-in-Err-Packet g c =
     let refusal = c.in_err-write_hex_line-in-Err-Packet.field-0.0 in
     let p = err_from_is_err_and c.from_residual.result c.from_residual.ensures.1 in
     let all : CanonRecordingInHex c.args.mode c.args.set.now c.args.turns c.args.recording.now old new (Err refusal) =
-        in_hex_but c.args.mode c.args.set.now c.args.turns c.args.recording.now _ _ _ _ c.deref-in-Err-Packet.result.now c.in-Err-Packet.field-0 (RecordingFault.Packet c.in-Err-Packet.refused) old new (Err refusal) (search rules)
-        c.new.ensures.items c.in-Err-Packet.field-0-is c.in-Err-Packet.ensures.answer c.deref-in-Err-Packet.ensures.value
-        (failed_line old new c.deref-in-Err-Packet.result.now c.in-Err-Packet.refused refusal c.in_err-write_hex_line-in-Err-Packet.ensures) in
+    in_hex_but c.args.mode c.args.set.now c.args.turns c.args.recording.now _ _ _ _ c.deref-in-Err-Packet.result.now c.in-Err-Packet.field-0 (RecordingFault.Packet c.in-Err-Packet.refused) old new (Err refusal) (search rules)
+    c.new.ensures.items c.in-Err-Packet.field-0-is c.in-Err-Packet.ensures.answer c.deref-in-Err-Packet.ensures.value
+    (failed_line old new c.deref-in-Err-Packet.result.now c.in-Err-Packet.refused refusal c.in_err-write_hex_line-in-Err-Packet.ensures) in
     rw (p.1, p.2) all
 
 pub returns-in-Err-Packet : goal.returns-in-Err-Packet
