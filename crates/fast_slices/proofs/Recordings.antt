@@ -1,11 +1,9 @@
 -- What was read of a recording in memory, and what its run wrote.
-use Rattle.std.proofs.Common.{◌≡◌, ◌≢◌, ◌<◌, ◌≤◌, ◌+◌, ◌^◌, ◌⊎◌, ℕ, suc, Bool, true, false, List, [], ◌∷◌, ◌++◌, length, map, Option, None, Some, Result, Ok, Err, refl, sym, ap, subst, ◌∙◌, arith, append-nil, append_assoc, length-append, inl, inr}
+use Rattle.std.proofs.Common.{◌≡◌, ◌<◌, ◌≤◌, ◌+◌, ◌^◌, ◌⊎◌, ℕ, suc, false, List, [], ◌∷◌, ◌++◌, length, map, Option, None, Some, Result, Ok, Err, refl, sym, ap, subst, ◌∙◌, arith, append-nil, append_assoc, length-append, inl, inr}
 use Rattle.std.specs.Io.KnownBytes.{Appends, Consumes, IsAtEnd}
 use Rattle.fast_io.specs.Counts.{counted, counted_by}
-use Rattle.fast_wire.specs.Integer.{IsUnsigned}
 use Rattle.fast_wire.specs.Reader.{IsBytes}
 use Rattle.fast_wire.specs.declared.level.Level.{Level}
-use Rattle.fast_template.specs.Resolved.{Resolved}
 use Rattle.fast_template.specs.TemplateSets.{IsSound, TemplateList, templates_in}
 use Rattle.fast_stream.specs.declared.fault.Cause.{Cause}
 use Rattle.fast_stream.specs.declared.fault.Fault.{Fault}
@@ -355,20 +353,23 @@ module _ (set : TemplateList) where
       }
   as_records why level a b input (Err (RecordingFault.Packet f)) few (inl p) =
       let r = p.refusal in
-      inl (refl, record {
-        packets = r.packets;
-        last = r.last;
-        recorded = record {
-          out = p.out;
-          are = r.outcomes;
-          made = subst (λ (xs : List ℕ). WrittenOf (WritesCanonical set) 1 (map accepted r.packets ++ r.last ∷ []) xs) (append-nil p.out)
-              (one_more (WritesCanonical set) (map accepted r.packets) r.last 1 p.out [] (written_so r.packets 1 p.out p.canonical) (nothing_of r.last f.fault r.refusal));
-          grown = record { written = p.written; said = tt };
-        };
-        refusal = r.refusal;
-        number_is = r.number_is;
-        ended = p.ended;
-      })
+      inl (
+        refl,
+        record {
+          packets = r.packets;
+          last = r.last;
+          recorded = record {
+            out = p.out;
+            are = r.outcomes;
+            made = subst (λ (xs : List ℕ). WrittenOf (WritesCanonical set) 1 (map accepted r.packets ++ r.last ∷ []) xs) (append-nil p.out)
+                (one_more (WritesCanonical set) (map accepted r.packets) r.last 1 p.out [] (written_so r.packets 1 p.out p.canonical) (nothing_of r.last f.fault r.refusal));
+            grown = record { written = p.written; said = tt };
+          };
+          refusal = r.refusal;
+          number_is = r.number_is;
+          ended = p.ended;
+        },
+      )
   as_records why level a b input (Err (RecordingFault.Packet f)) few (inr p) = inr p
   as_records why level a b input (Err RecordingFault.Tell) few p = absurd p
   as_records why level a b input (Err RecordingFault.Write) few p = p

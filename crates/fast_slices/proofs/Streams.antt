@@ -31,7 +31,6 @@ use Rattle.fast_command.specs.declared.command.Command.TheVariants.{Show, Check,
 use Rattle.fast_lines.specs.declared.form.Form.{Form}
 use Rattle.fast_slices.specs.declared.answer.Refusal.{Refusal}
 use Rattle.fast_slices.specs.Answers.{answer_of}
-use Rattle.fast_wire.specs.declared.level.Level.{Level}
 use Rattle.fast_recording.specs.Calls.{WritesCanonical}
 use Rattle.fast_slices.proofs.Recordings.{front_no_longer}
 use Rattle.fast_slices.specs.Packets.{WritesPackets}

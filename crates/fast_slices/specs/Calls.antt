@@ -1,5 +1,5 @@
 -- What a call did with a template text, a stream and the room that C lent it.
-use Rattle.std.specs.Prelude.{◌≡◌, ◌≢◌, ◌⊎◌, ◌<◌, ◌≤◌, ◌^◌, ℕ, List, length, ◌++◌, drop, Option, None, Some, ◌+◌, Result, Ok, Err, IsErrAnd, IsSome, IsUtf8}
+use Rattle.std.specs.Prelude.{◌≡◌, ◌≢◌, ◌⊎◌, ◌<◌, ◌≤◌, ◌^◌, ℕ, List, length, None, Some, ◌+◌, Result, Ok, Err, IsErrAnd, IsSome, IsUtf8}
 use Rattle.serde_json.specs.Data.{Data}
 use Rattle.serde_json.specs.Read.{read}
 use Rattle.fast_wire.specs.declared.level.Level.{Level}

@@ -56,14 +56,7 @@ fn overflow(
     let mut input = SliceInput::new(stream);
     let mut tally = Tally::new();
     match run(
-        alloc,
-        command,
-        set,
-        mode,
-        form,
-        &mut input,
-        &mut tally,
-        TURNS,
+        alloc, command, set, mode, form, &mut input, &mut tally, TURNS,
     ) {
         Ok(summary) => Refusal::Room(summary.written),
         Err(CanonFault::Stream(fault)) if fault.cause != Cause::Memory => {
@@ -120,14 +113,7 @@ fn canon_with(
         TURNS,
     );
     if kept.bytes.len() > room.len() {
-        return Err(overflow(
-            alloc,
-            Command::Canon,
-            set,
-            mode,
-            Form::Text,
-            stream,
-        ));
+        return Err(overflow(alloc, Command::Canon, set, mode, Form::Text, stream));
     }
     settle(ran, &kept.bytes, room)
 }

@@ -97,7 +97,14 @@ fn show_overflow(
         keep_going: false,
     };
     let ran = show_packets(
-        alloc, set, mode, form, &mut input, &mut tally, &mut untold, TURNS,
+        alloc,
+        set,
+        mode,
+        form,
+        &mut input,
+        &mut tally,
+        &mut untold,
+        TURNS,
     );
     measured(ran, tally.count)
 }
@@ -145,7 +152,14 @@ pub(crate) fn show_recording(
         keep_going: false,
     };
     let ran = show_packets(
-        alloc, set, mode, form, &mut input, &mut kept, &mut untold, TURNS,
+        alloc,
+        set,
+        mode,
+        form,
+        &mut input,
+        &mut kept,
+        &mut untold,
+        TURNS,
     );
     if kept.bytes.len() > room.len() {
         return Err(show_overflow(alloc, set, level, form, recording));

@@ -1,6 +1,6 @@
-use Rattle.std.proofs.Common.{◌≡◌, ◌<◌, List, ℕ, Some, length, refl, sym, arith, rules}
+use Rattle.std.proofs.Common.{refl, arith}
 use Rattle.fast_wire.proofs.Calls.{all_bytes}
-use Rattle.fast_recording.specs.Calls.{WritesCanonical, WritesLines}
+use Rattle.fast_recording.specs.Calls.{WritesCanonical}
 use Rattle.fast_slices.proofs.Recordings.{as_records, fewer, has_read, measured}
 use Rattle.fast_slices.proofs.recording.canon_overflow.Goals as goal
 

@@ -1,6 +1,5 @@
-use Rattle.std.proofs.Common.{◌≡◌, ◌<◌, List, ℕ, Some, length, refl, sym, arith, rules}
+use Rattle.std.proofs.Common.{refl, arith}
 use Rattle.fast_wire.proofs.Calls.{all_bytes}
-use Rattle.fast_recording.specs.Calls.{WritesCanonical, WritesLines}
 use Rattle.fast_slices.proofs.Recordings.{counted_all, has_read}
 use Rattle.fast_slices.proofs.recording.check_recording.Goals as goal
 

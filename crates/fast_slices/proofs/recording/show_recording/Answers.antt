@@ -1,7 +1,7 @@
-use Rattle.std.proofs.Common.{◌≡◌, ◌<◌, List, ℕ, Some, length, refl, sym, arith, rules}
+use Rattle.std.proofs.Common.{◌<◌, length, refl, arith, rules}
 use Rattle.fast_wire.proofs.Calls.{all_bytes}
-use Rattle.fast_recording.specs.Calls.{WritesCanonical, WritesLines}
-use Rattle.fast_slices.proofs.Recordings.{as_records, fewer, has_read, overflows_from, settled_from}
+use Rattle.fast_recording.specs.Calls.{WritesLines}
+use Rattle.fast_slices.proofs.Recordings.{has_read, overflows_from, settled_from}
 use Rattle.fast_slices.proofs.recording.show_recording.Goals as goal
 
 pub returns : goal.returns
