@@ -266,6 +266,8 @@ fn answered(
         Err(WriteFault::Message(line, _, fault)) => {
             Ok((line, Answer::Form(fault.cause, fault.instruction)))
         }
+        // (the output keeps what is written, and fails where memory for it is refused)
+        Err(WriteFault::Memory | WriteFault::Write) => Err(AllocError),
         Err(fault) => {
             same(rt, fault, WriteFault::Memory);
             Err(AllocError)
