@@ -1,5 +1,5 @@
 -- A refusal stays, whatever follows: only one for want of bytes may go.
-use Rattle.std.proofs.Common.{Bool, true, false, List, ℕ, [], ◌∷◌, ◌++◌, ◌+◌, ◌-◌, ◌<◌, ◌≤◌, ◌≡◌, ◌≢◌, ◌⊎◌, inl, inr, Option, Some, None, take, drop, length, map, refl, sym, ap, subst, ◌∙◌, arith, append_assoc, length-append}
+use Rattle.std.proofs.Common.{true, false, List, ℕ, [], ◌∷◌, ◌++◌, ◌+◌, ◌-◌, ◌≤◌, ◌≡◌, ◌≢◌, inl, inr, Option, Some, take, drop, length, map, refl, sym, ap, subst, ◌∙◌, arith, append_assoc, length-append}
 use Rattle.std.proofs.lemmas.Bool.{cases_lt}
 use Rattle.std.proofs.lemmas.List.{take-append-drop, length-take}
 use Rattle.fast_wire.specs.Reader.{IsBytes}
@@ -14,8 +14,7 @@ use Rattle.fast_stream.specs.Blocks.{Stand, block_cause}
 use Rattle.fast_stream.specs.Modes.{GoesOn, plainly}
 use Rattle.fast_stream.proofs.BlockSizes.{size_faulty, size_refused, size_stays}
 use Rattle.fast_stream.specs.Readers.{IsNextReader, further_on}
-use Rattle.fast_packets.specs.Recordings.{packet_limit}
-use Rattle.fast_packets.specs.Outcomes.{CutPacket, FirstRefusal, Outcome, Outcomes, PacketSizeFault, Stops, accepted, refusal_in, refused, size_place, sizeless}
+use Rattle.fast_packets.specs.Outcomes.{CutPacket, FirstRefusal, Outcome, Outcomes, PacketSizeFault, Stops, accepted, refusal_in, refused, sizeless}
 use Rattle.fast_packets.proofs.Outcomes.{bytes_before, bytes_behind}
 
 -- no other cause than want of bytes is another in a packet that has come whole
@@ -71,7 +70,8 @@ module _ (level : Level) (set : List Resolved) (is : IsNextReader (plainly level
       let behind = bytes_behind h.size (h.come ++ more) (subst (λ (z : List ℕ). IsBytes z) parts fits) in
       let stops : Stops level set h.come ms h.within cause = elim h.stops [ inl s ↦ s | inr s ↦ absurd (other s.2) ] in
       elim (cases_lt (length (h.come ++ more)) h.room) [
-        | inl short ↦ inr (record {
+        | inl short ↦ inr (
+          record {
             size = h.size;
             come = h.come ++ more;
             room = h.room;
@@ -82,7 +82,9 @@ module _ (level : Level) (set : List Resolved) (is : IsNextReader (plainly level
             within = h.within;
             stops = inl (stops_stay h.come more ms h.within cause behind stops other);
             place_is = h.place_is;
-          }, refl)
+          },
+          refl,
+        )
         | inr long ↦
             let sizes = length-append h.come more in
             let rest = h.room - length h.come in

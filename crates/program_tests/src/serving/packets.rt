@@ -7,27 +7,92 @@ use std::alloc::AllocError;
 
 const SHOW: &[&str] = &["fastcat", "show", "--packets", "--templates", TEMPLATES];
 
-const SHOW_JSON: &[&str] = &["fastcat", "show", "--json", "--packets", "--templates", TEMPLATES];
+const SHOW_JSON: &[&str] = &[
+    "fastcat",
+    "show",
+    "--json",
+    "--packets",
+    "--templates",
+    TEMPLATES,
+];
 
 const CHECK: &[&str] = &["fastcat", "check", "--packets", "--templates", TEMPLATES];
 
 const CANON: &[&str] = &["fastcat", "canon", "--packets", "--templates", TEMPLATES];
 
-const CANON_STRICTLY: &[&str] = &["fastcat", "canon", "--strict", "--packets", "--templates", TEMPLATES];
+const CANON_STRICTLY: &[&str] = &[
+    "fastcat",
+    "canon",
+    "--strict",
+    "--packets",
+    "--templates",
+    TEMPLATES,
+];
 
-const CANON_HEX: &[&str] = &["fastcat", "canon", "--packets", "--hex", "--templates", TEMPLATES];
+const CANON_HEX: &[&str] = &[
+    "fastcat",
+    "canon",
+    "--packets",
+    "--hex",
+    "--templates",
+    TEMPLATES,
+];
 
-const CHECK_HEX: &[&str] = &["fastcat", "check", "--hex", "--packets", "--templates", TEMPLATES];
+const CHECK_HEX: &[&str] = &[
+    "fastcat",
+    "check",
+    "--hex",
+    "--packets",
+    "--templates",
+    TEMPLATES,
+];
 
-const SHOW_ON: &[&str] = &["fastcat", "show", "--packets", "--keep-going", "--templates", TEMPLATES];
+const SHOW_ON: &[&str] = &[
+    "fastcat",
+    "show",
+    "--packets",
+    "--keep-going",
+    "--templates",
+    TEMPLATES,
+];
 
-const JSON_ON: &[&str] = &["fastcat", "show", "--keep-going", "--json", "--packets", "--templates", TEMPLATES];
+const JSON_ON: &[&str] = &[
+    "fastcat",
+    "show",
+    "--keep-going",
+    "--json",
+    "--packets",
+    "--templates",
+    TEMPLATES,
+];
 
-const CHECK_ON: &[&str] = &["fastcat", "check", "--keep-going", "--packets", "--templates", TEMPLATES];
+const CHECK_ON: &[&str] = &[
+    "fastcat",
+    "check",
+    "--keep-going",
+    "--packets",
+    "--templates",
+    TEMPLATES,
+];
 
-const CHECK_STRICTLY_ON: &[&str] = &["fastcat", "check", "--strict", "--keep-going", "--packets", "--templates", TEMPLATES];
+const CHECK_STRICTLY_ON: &[&str] = &[
+    "fastcat",
+    "check",
+    "--strict",
+    "--keep-going",
+    "--packets",
+    "--templates",
+    TEMPLATES,
+];
 
-const EXPLAINED: &[&str] = &["fastcat", "check", "--packets", "--explain", "--templates", TEMPLATES];
+const EXPLAINED: &[&str] = &[
+    "fastcat",
+    "check",
+    "--packets",
+    "--explain",
+    "--templates",
+    TEMPLATES,
+];
 
 #[test]
 fn recordings(rt: HostRuntime) -> Result<(), AllocError> {
@@ -254,16 +319,14 @@ fn refused_packets_are_told(rt: HostRuntime) -> Result<(), AllocError> {
 
 #[test]
 fn refused_packets_are_explained(rt: HostRuntime) -> Result<(), AllocError> {
-    const ROWS: &[Case] = &[
-        Case {
-            words: EXPLAINED,
-            input: b"\x88\xf0\x81\x81\x41\xc2\xfe\x00\xe4\x84\xc0\xff\x81\x82",
-            status: 1,
-            err: "refused D9 packet=2 message=1 offset=11 template=0 instruction=0\n\
+    const ROWS: &[Case] = &[Case {
+        words: EXPLAINED,
+        input: b"\x88\xf0\x81\x81\x41\xc2\xfe\x00\xe4\x84\xc0\xff\x81\x82",
+        status: 1,
+        err: "refused D9 packet=2 message=1 offset=11 template=0 instruction=0\n\
                 explain: packet 2, message 1, offset 11: no template has the identifier 127; add the template, or see that the stream begins where a message does\n\
                 explain: if the input has no packets, leave out --packets; if entries go on from packet to packet, give --blocks; if other bytes stand before each packet\'s messages, take them out\n",
-            ..OVER_QUOTES
-        },
-    ];
+        ..OVER_QUOTES
+    }];
     rows_are_served(&rt, rt.alloc(), ROWS)
 }
