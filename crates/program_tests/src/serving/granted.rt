@@ -35,6 +35,15 @@ fn is_front(out: &[u8], whole: &[u8]) -> bool {
     }
 }
 
+/// What is told of packets before it is said that memory was refused, where that is not to be said.
+fn told_before<'a>(said: &'a [u8], wanted: &[u8]) -> Option<&'a [u8]> {
+    if said.ends_with(MEMORY) && !wanted.ends_with(MEMORY) {
+        said.get(..said.len().saturating_sub(MEMORY.len()))
+    } else {
+        None
+    }
+}
+
 /// Whether a command line asks for an explanation.
 fn asks_to_explain(words: &[&str]) -> bool {
     for word in words {
@@ -45,13 +54,19 @@ fn asks_to_explain(words: &[&str]) -> bool {
     false
 }
 
-/// Ends a test where memory was refused. Where that is said, what was written is a front of what else would be. Where a
+/// Ends a test where memory was refused. Where that is said, what was written and told is a front of what else would be. Where a
 /// refusal is said but less is explained, all else is as it would be. Where nothing can be said, the status tells it.
 pub fn granted(rt: &impl Abort, case: &Case, ended: &Ended) -> Result<(), AllocError> {
     let (said, wanted) = (ended.err.as_slice(), case.err.as_bytes());
     if said.starts_with(MEMORY) && !wanted.starts_with(MEMORY) {
         same_of(rt, case.words, ended.status, 3);
         same_of(rt, case.words, is_front(&ended.out, case.out), true);
+        return Err(AllocError);
+    }
+    if let Some(told) = told_before(said, wanted) {
+        same_of(rt, case.words, ended.status, 3);
+        same_of(rt, case.words, is_front(&ended.out, case.out), true);
+        same_of(rt, case.words, wanted.starts_with(told), true);
         return Err(AllocError);
     }
     if asks_to_explain(case.words) && says_less(said, wanted) {
