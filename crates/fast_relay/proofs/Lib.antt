@@ -17,6 +17,7 @@ mod VectorJudging
 mod OneByte
 mod ShortLengths
 mod StringEnds
+mod Undefined
 mod StringJudging
 mod AsciiWords
 mod Utf8Steps

@@ -89,7 +89,11 @@ pub(crate) fn units_bit(instr: &FieldPart, entry: &Entry, part: &[u8]) -> Option
                 }
             }
             Entry::Empty => Some(true),
-            Entry::Undefined => None,
+            // bit 0 gives the initial value
+            Entry::Undefined => match &instr.initial {
+                None => Some(true),
+                Some(initial) => (*units(initial.value()) != *part).then_some(true),
+            },
         },
         Operator::Constant | Operator::Increment | Operator::Delta | Operator::Tail => None,
     }
@@ -112,7 +116,13 @@ pub(crate) fn text_bit(instr: &FieldPart, entry: &Entry, form: &[u8]) -> Option<
         Operator::Copy => match entry {
             Entry::Assigned(Scalar::Ascii(text)) => Some(!is_text_of(text.as_slice(), form)),
             Entry::Empty => Some(true),
-            Entry::Assigned(_) | Entry::Undefined => None,
+            // bit 0 gives the initial value
+            Entry::Undefined => match instr.initial() {
+                None => Some(true),
+                Some(Scalar::Ascii(text)) => (!is_text_of(text.as_slice(), form)).then_some(true),
+                Some(_) => None,
+            },
+            Entry::Assigned(_) => None,
         },
         Operator::Constant | Operator::Increment | Operator::Delta | Operator::Tail => None,
     }

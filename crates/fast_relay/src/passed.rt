@@ -1,10 +1,11 @@
 //! What bit 0 gives of an entry, with so little code that a loop over fields has room for it. What is not served here is
 //! `pass_left_out` of `fast_field`.
 
-ghost use Rattle.std.specs.Prelude.{◌≡◌, Some, IsTrue, true};
+ghost use Rattle.std.specs.Prelude.{◌≡◌, IfSome, Some, IsTrue, true};
 ghost use Rattle.fast_value.specs.Scalar.{is_of};
 ghost use Rattle.fast_value.specs.declared.kind.Part.TheVariants as part_type;
 ghost use Rattle.fast_value.specs.declared.kind.Operator.TheVariants as operator_type;
+ghost use Rattle.fast_dictionary.specs.declared.entry.Entry.TheVariants as entry_type;
 ghost use Rattle.fast_field.specs.Fields.{within_part};
 ghost use Rattle.fast_field.specs.Numbers.{Predicts, Repeats};
 ghost use Rattle.fast_field.specs.Parts.{IsFieldPart};
@@ -67,27 +68,79 @@ pub(crate) fn can_begin(which: Part, instr: &FieldPart, value: &Scalar) -> bool
     }
 }
 
-/// No value, where the field may be absent.
+/// A number once more; of another value nothing.
 #[inline(always)]
-fn pass_empty(instr: &FieldPart, entry: &Entry) -> Passed
-    requires { Predicts instr.now.operator }
-    ensures { IsPassed instr.now entry.now entry.now result }
+fn copy_number(value: &Scalar) -> Option<Scalar>
+    ensures { IfSome result (λ copy. copy ≡ value.now) }
+{
+    match value {
+        Scalar::I32(number) => Some(Scalar::I32(*number)),
+        Scalar::U32(number) => Some(Scalar::U32(*number)),
+        Scalar::I64(number) => Some(Scalar::I64(*number)),
+        Scalar::U64(number) => Some(Scalar::U64(*number)),
+        Scalar::Decimal { exponent, mantissa } => Some(Scalar::Decimal {
+            exponent: *exponent,
+            mantissa: *mantissa,
+        }),
+        Scalar::Ascii(_) | Scalar::Unicode(_) | Scalar::Bytes(_) => None,
+    }
+}
+
+/// The initial value, which the entry then has, or none where the field may be absent. (A call of its own, since it is rare.)
+#[inline(never)]
+fn pass_undefined(which: Part, instr: &FieldPart, entry: &mut Entry) -> Passed
+    requires predicts { Predicts instr.now.operator }
+    requires which { which ≡ instr.now.part }
+    requires part { IsFieldPart instr.now }
+    requires undefined { entry.now ≡ entry_type.Undefined }
+    ensures { IsPassed instr.now entry.old entry.new result }
+{
+    match &instr.initial {
+        None => match instr.presence {
+            Presence::Optional => {
+                *entry = Entry::Empty;
+                Passed::Absent
+            }
+            Presence::Mandatory => Passed::Elsewhere,
+        },
+        Some(initial) => {
+            let value = initial.value();
+            match copy_number(value) {
+                Some(number) if can_begin(which, instr, value) => {
+                    *entry = Entry::Assigned(number);
+                    Passed::Present
+                }
+                Some(_) | None => Passed::Elsewhere,
+            }
+        }
+    }
+}
+
+/// No value, where the field may be absent, or the initial value of an undefined entry.
+#[inline(always)]
+fn pass_empty(which: Part, instr: &FieldPart, entry: &mut Entry) -> Passed
+    requires predicts { Predicts instr.now.operator }
+    requires which { which ≡ instr.now.part }
+    requires part { IsFieldPart instr.now }
+    ensures { IsPassed instr.now entry.old entry.new result }
 {
     match entry {
         Entry::Empty => match instr.presence {
             Presence::Optional => Passed::Absent,
             Presence::Mandatory => Passed::Elsewhere,
         },
-        Entry::Undefined | Entry::Assigned(_) => Passed::Elsewhere,
+        Entry::Undefined => pass_undefined(which, instr, entry),
+        Entry::Assigned(_) => Passed::Elsewhere,
     }
 }
 
 /// The value that the entry has.
 #[inline(always)]
-fn pass_kept(which: Part, instr: &FieldPart, entry: &Entry) -> Passed
+fn pass_kept(which: Part, instr: &FieldPart, entry: &mut Entry) -> Passed
     requires operator { Repeats instr.now.operator }
-    requires part { which ≡ instr.now.part }
-    ensures { IsPassed instr.now entry.now entry.now result }
+    requires which { which ≡ instr.now.part }
+    requires part { IsFieldPart instr.now }
+    ensures { IsPassed instr.now entry.old entry.new result }
 {
     match entry {
         Entry::Assigned(value) => {
@@ -97,7 +150,7 @@ fn pass_kept(which: Part, instr: &FieldPart, entry: &Entry) -> Passed
                 Passed::Elsewhere
             }
         }
-        Entry::Undefined | Entry::Empty => pass_empty(instr, entry),
+        Entry::Undefined | Entry::Empty => pass_empty(which, instr, entry),
     }
 }
 
@@ -106,11 +159,12 @@ fn pass_kept(which: Part, instr: &FieldPart, entry: &Entry) -> Passed
 fn pass_next<T: ShortInteger>(which: Part, instr: &FieldPart, entry: &mut Entry) -> Passed
     requires kind { T.kind ≡ instr.now.kind }
     requires operator { instr.now.operator ≡ operator_type.Increment }
-    requires part { which ≡ instr.now.part }
+    requires which { which ≡ instr.now.part }
+    requires part { IsFieldPart instr.now }
     ensures { IsPassed instr.now entry.old entry.new result }
 {
     let Some(kept) = T::kept(entry) else {
-        return pass_empty(instr, entry);
+        return pass_empty(which, instr, entry);
     };
     if kept >= T::greatest() || !T::is_field_number(which, kept + 1) {
         return Passed::Elsewhere;
@@ -123,7 +177,8 @@ fn pass_next<T: ShortInteger>(which: Part, instr: &FieldPart, entry: &mut Entry)
 #[inline(always)]
 fn pass_increment(which: Part, instr: &FieldPart, entry: &mut Entry) -> Passed
     requires operator { instr.now.operator ≡ operator_type.Increment }
-    requires part { which ≡ instr.now.part }
+    requires which { which ≡ instr.now.part }
+    requires part { IsFieldPart instr.now }
     ensures { IsPassed instr.now entry.old entry.new result }
 {
     match instr.kind {

@@ -93,7 +93,7 @@ fn make_string(alloc: Global, form: &[u8]) -> Option<ByteString>
 }
 
 /// Makes an entry the one that the string leaves which bytes spell whole; answers false, and leaves it as it was,
-/// where it is neither empty nor has a string to put it in the place of, or memory is refused.
+/// where it has a value that is no string, or memory is refused.
 #[inline(always)]
 pub(crate) fn keep_plain(alloc: Global, operator: Operator, entry: &mut Entry, form: &[u8]) -> bool
     requires operator { SpellsWhole operator }
@@ -105,14 +105,14 @@ pub(crate) fn keep_plain(alloc: Global, operator: Operator, entry: &mut Entry, f
     match operator {
         Operator::Copy | Operator::Increment => match entry {
             Entry::Assigned(Scalar::Ascii(text)) => put_characters(alloc, text, 0, form),
-            Entry::Empty => match make_string(alloc, form) {
+            Entry::Empty | Entry::Undefined => match make_string(alloc, form) {
                 Some(text) => {
                     *entry = Entry::Assigned(Scalar::Ascii(text));
                     true
                 }
                 None => false,
             },
-            Entry::Assigned(_) | Entry::Undefined => false,
+            Entry::Assigned(_) => false,
         },
         _ => true,
     }

@@ -151,7 +151,7 @@ pub(crate) fn make_units(alloc: Global, kind: Kind, part: &[u8]) -> Option<Scala
 }
 
 /// Makes an entry the one that bytes leave which are spelled whole; answers false, and leaves it as it was, where it
-/// is neither empty nor has a value of the type to put them in the place of, or memory is refused.
+/// has a value of another type, or memory is refused.
 #[inline(always)]
 pub(crate) fn keep_bytes(
     alloc: Global,
@@ -169,14 +169,13 @@ pub(crate) fn keep_bytes(
     match operator {
         Operator::Copy | Operator::Increment => match entry {
             Entry::Assigned(value) => put_units(alloc, kind, value, 0, part),
-            Entry::Empty => match make_units(alloc, kind, part) {
+            Entry::Empty | Entry::Undefined => match make_units(alloc, kind, part) {
                 Some(value) => {
                     *entry = Entry::Assigned(value);
                     true
                 }
                 None => false,
             },
-            Entry::Undefined => false,
         },
         _ => true,
     }
