@@ -224,6 +224,17 @@ fn strings_that_are_judged(rt: HostRuntime) -> Result<(), AllocError> {
             judged: Judged::Given(3),
             after: Kept::Assigned(Value::Ascii(b"AB")),
         },
+        // an undefined entry
+        Row {
+            part: Part::Whole,
+            kind: Kind::Ascii,
+            presence: Presence::Mandatory,
+            operator: Operator::Copy,
+            before: Kept::Undefined,
+            bytes: &[0, 0x43, 0xc4],
+            judged: Judged::Stands(3),
+            after: Kept::Assigned(Value::Ascii(b"CD")),
+        },
         // a string with no operator, and a default, leave their entries
         Row {
             part: Part::Whole,
@@ -359,17 +370,6 @@ fn strings_that_are_not_judged(rt: HostRuntime) -> Result<(), AllocError> {
             bytes: &[0, 0x80],
             judged: Judged::Elsewhere,
             after: Kept::Assigned(Value::Ascii(b"AB")),
-        },
-        // an undefined entry
-        Row {
-            part: Part::Whole,
-            kind: Kind::Ascii,
-            presence: Presence::Mandatory,
-            operator: Operator::Copy,
-            before: Kept::Undefined,
-            bytes: &[0, 0x43, 0xc4],
-            judged: Judged::Elsewhere,
-            after: Kept::Undefined,
         },
         // one character is removed and put back, and one removal in front is shorter
         Row {

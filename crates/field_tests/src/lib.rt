@@ -28,6 +28,8 @@ mod taken;
 #[cfg(test)]
 mod texts;
 #[cfg(test)]
+mod undefined;
+#[cfg(test)]
 mod vectors;
 #[cfg(test)]
 mod ways;

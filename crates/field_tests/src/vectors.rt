@@ -42,6 +42,28 @@ fn texts_and_vectors_that_are_judged(rt: HostRuntime) -> Result<(), AllocError> 
             judged: Judged::Stands(4),
             after: Kept::Assigned(Value::Unicode("ü")),
         },
+        // undefined entries
+        Row {
+            part: Part::Whole,
+            kind: Kind::Unicode,
+            presence: Presence::Mandatory,
+            operator: Operator::Copy,
+            before: Kept::Undefined,
+            bytes: &[0, 0x82, 0xc3, 0xbc],
+            judged: Judged::Stands(4),
+            after: Kept::Assigned(Value::Unicode("ü")),
+        },
+        Row {
+            part: Part::Whole,
+            kind: Kind::Bytes,
+            presence: Presence::Optional,
+            operator: Operator::Copy,
+            before: Kept::Undefined,
+            bytes: &[0, 0x83, 0x00, 0xff],
+            judged: Judged::Stands(4),
+            after: Kept::Assigned(Value::Bytes(&[0x00, 0xff])),
+        },
+        // a default
         Row {
             part: Part::Whole,
             kind: Kind::Unicode,

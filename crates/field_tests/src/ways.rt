@@ -76,7 +76,7 @@ fn has_initial(instr: &FieldPart) -> bool
 }
 
 // Whether this is the instruction of a field.
-fn is_part(which: Part, instr: &FieldPart) -> bool
+pub(crate) fn is_part(which: Part, instr: &FieldPart) -> bool
     ensures part { result ≡ true → IsFieldPart instr.now }
     ensures which { result ≡ true → which ≡ instr.now.part }
 {
