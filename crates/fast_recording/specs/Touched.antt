@@ -1,13 +1,10 @@
 -- Entries of which those that are not undefined are noted.
 -- Own: the standard says what a reset leaves, not how much of it is looked at.
-use Rattle.std.specs.Prelude.{◌≡◌, ℕ, Bool, false, ◌||◌, List, nat_eq, slice_index_or}
-use Rattle.std.specs.List.{list_any}
+use Rattle.std.specs.Prelude.{◌≡◌, ℕ, Bool, false, ◌||◌, List, slice_index_or}
 use Rattle.fast_dictionary.specs.declared.entry.Entry.{Entry}
 use Rattle.fast_dictionary.specs.declared.entry.Entry.TheVariants.{Undefined}
+use Rattle.fast_recording.specs.Listed.{is_listed}
 use Rattle.fast_recording.specs.declared.touched.Touched.{Touched}
-
-abbrev pub is_listed : List ℕ → ℕ → Bool
-is_listed slots n = list_any (nat_eq n) slots
 
 abbrev pub is_touched : Touched → ℕ → Bool
 is_touched touched n = touched.all || is_listed touched.slots.items n

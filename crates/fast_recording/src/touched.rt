@@ -1,40 +1,57 @@
 //! Which entries were asked for to be changed.
 
-ghost use Rattle.std.specs.Prelude.{◌≡◌, ◌≢◌, ◌<◌, ℕ, false, IfOk, vec_capacity, vec_len};
+ghost use Rattle.std.specs.Prelude.{◌≡◌, ◌≢◌, ◌≤◌, ◌||◌, ℕ, false, true, IfOk, slice_index_or, vec_len};
 ghost use Rattle.fast_dictionary.specs.declared.entry.Entry.TheVariants.{Undefined};
-ghost use Rattle.fast_recording.specs.Touched.{is_touched};
+ghost use Rattle.fast_recording.specs.Listed.{is_listed};
 
 use fast_dictionary::Entry;
 use std::alloc::{AllocError, Global};
 
-/// Slots that were noted, or all of them once the room for them is used up: there is room for as many as there are slots,
-/// so to look at each of them is then no more than what was noted.
+/// Slots that were noted since they were last forgotten, each once, or all of them.
 #[derive(Drop)]
 pub(crate) struct Touched {
     pub(crate) slots: Vec<u32>,
     pub(crate) all: bool,
+    // for each slot the round that it was noted in last
+    rounds: Vec<u64>,
+    // a round ends where all slots are forgotten
+    round: u64,
+    ghost noted: { (n : ℕ) → slice_index_or rounds.items n 0 ≡ round → (all || is_listed slots.items n) ≡ true },
+    ghost past: { (n : ℕ) → slice_index_or rounds.items n 0 ≤ round },
 }
 
 impl Touched {
-    /// No slot, with room for so many.
-    pub(crate) fn new(alloc: Global, room: u32) -> Result<Touched, AllocError>
+    ghost use Rattle.fast_recording.specs.Touched.{is_touched};
+
+    /// No slot of so many.
+    pub(crate) fn new(alloc: Global, count: u32) -> Result<Touched, AllocError>
         ensures none { IfOk result (λ t. (n : ℕ) → is_touched t n ≡ false) }
-        ensures room { IfOk result (λ t. vec_capacity t.slots ≡ room) }
     {
+        let mut rounds = Vec::with_capacity(alloc, count as usize)?;
+        for _ in 0..count {
+            rounds.push(0)?;
+        }
         Ok(Touched {
-            slots: Vec::with_capacity(alloc, room as usize)?,
+            slots: Vec::with_capacity(alloc, count as usize)?,
             all: false,
+            rounds,
+            round: 1,
         })
     }
 
     /// Notes a slot. Takes no memory.
     #[inline(always)]
-    pub(crate) fn note(&mut self, slot: u32)
-        ensures noted { (n : ℕ) → is_touched self.new n ≡ false → n ≢ slot }
+    fn note(&mut self, slot: u32)
+        ensures noted { is_touched self.new slot ≡ true }
         ensures before { (n : ℕ) → is_touched self.new n ≡ false → is_touched self.old n ≡ false }
-        ensures listed { vec_len self.old.slots < vec_capacity self.old.slots → self.new.all ≡ self.old.all }
-        ensures room { vec_capacity self.new.slots ≡ vec_capacity self.old.slots }
     {
+        let place = slot as usize;
+        if place < self.rounds.len() {
+            if self.rounds[place] == self.round {
+                return;
+            }
+            self.rounds[place] = self.round;
+        }
         if self.slots.len() < self.slots.capacity() {
             self.slots.push_reserved(slot);
         } else {
@@ -56,8 +73,12 @@ impl Touched {
     /// Forgets all slots, and keeps the room.
     pub(crate) fn clear(&mut self)
         ensures none { (n : ℕ) → is_touched self.new n ≡ false }
-        ensures room { vec_capacity self.new.slots ≡ vec_capacity self.old.slots }
     {
+        if self.round == u64::MAX {
+            forget_rounds(&mut self.rounds);
+            self.round = 0;
+        }
+        self.round += 1;
         self.slots.clear();
         self.all = false;
     }
@@ -71,6 +92,17 @@ impl Touched {
         Ok(Touched {
             slots,
             all: self.all,
+            rounds: self.rounds.to_vec(alloc)?,
+            round: self.round,
         })
+    }
+}
+
+// Notes no round.
+fn forget_rounds(rounds: &mut Vec<u64>)
+    ensures { (n : ℕ) → slice_index_or rounds.new.items n 0 ≡ 0 }
+{
+    for place in 0..rounds.len() {
+        rounds[place] = 0;
     }
 }
