@@ -1,5 +1,5 @@
 -- Lemmas on a stream on its way to canonical bytes.
-use Rattle.std.proofs.Common.{◌≡◌, ◌≤◌, ℕ, List, length, length-append, arith, Option, Result, Ok, Err, OnOk, ap, ◌∙◌}
+use Rattle.std.proofs.Common.{◌≡◌, ◌≢◌, ◌≤◌, ℕ, List, length, length-append, arith, Option, Result, Ok, Err, ap, ◌∙◌}
 use Rattle.fast_canon.proofs.Common.{IsSound, TemplateList, templates_in, Mode, at_start, as_messages_from, Content, Carried, counted_by, all_carried, Summary, summary_by, CanonFault, Passes, Canonicalises, IsCanonical}
 use Rattle.fast_canon.proofs.StreamLaws.{none_shorter_alone}
 
@@ -10,10 +10,10 @@ no_longer mode set sound input bytes messages c canonical =
     omega (arith, none_shorter_alone set sound alone.0 bytes messages c.start.dictionary alone.1 canonical, ap (λ (xs : List ℕ). length xs) c.parts ∙ length-append c.front c.rest)
 
 -- What a run answers of canonical bytes: they are counted exactly, being no more than the bytes read.
-pub canonicalised : (mode : Mode) (set : TemplateList) (turns : ℕ) (left a b : Option (List ℕ)) (input : List ℕ) (r : Result Summary CanonFault) → OnOk r (IsSound set) → ((n : ℕ) → n ≤ length input → counted_by 0 n ≡ n)
+pub canonicalised : (mode : Mode) (set : TemplateList) (turns : ℕ) (left a b : Option (List ℕ)) (input : List ℕ) (r : Result Summary CanonFault) → (r ≢ Err CanonFault.Memory → IsSound set) → ((n : ℕ) → n ≤ length input → counted_by 0 n ≡ n)
     → Passes IsCanonical mode (templates_in set) turns left a b input r → Canonicalises mode (templates_in set) turns left a b input r
 canonicalised mode set turns left a b input (Ok summary) sound exact p =
-    let less = no_longer mode set sound input p.out p.messages (all_carried mode (templates_in set) input p.messages p.ends.carried) p.made in
+    let less = no_longer mode set (sound (λ e. cc)) input p.out p.messages (all_carried mode (templates_in set) input p.messages p.ends.carried) p.made in
     record {
       messages = p.messages;
       out = p.out;

@@ -8,4 +8,5 @@ pub mod BetterParts
 pub mod BetterBodies
 pub mod OneCanonical
 pub mod StreamLaws
+pub mod Headlines
 mod WorkedLengths

@@ -1,1 +1,2 @@
 pub mod Canonicalised
+pub mod Headline

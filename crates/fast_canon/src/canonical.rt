@@ -1,7 +1,7 @@
 //! Streams in canonical form.
 
-ghost use Rattle.std.specs.Prelude.{◌≡◌, ◌≤◌, ◌^◌, ℕ, List};
-ghost use Rattle.fast_template.specs.TemplateSets.{templates_in};
+ghost use Rattle.std.specs.Prelude.{◌≡◌, ◌≢◌, ◌≤◌, ◌^◌, ℕ, List, Err};
+ghost use Rattle.fast_template.specs.TemplateSets.{IsSound, templates_in};
 ghost use Rattle.fast_decoder.specs.Inputs.{Reads, told_by};
 ghost use Rattle.fast_pass.specs.Passed.{FlushesOnce, IsCausedBy, errors_after};
 ghost use Rattle.fast_canon.specs.Canonicalised.{Canonicalises, Checks};
@@ -47,6 +47,8 @@ pub fn canonicalise<R: ByteInput, W: ByteOutput>(
         (told_by R.ByteInput reader.old) (told_by R.ByteInput reader.new) }
     ensures write { W.errors writer.new ≡ errors_after result (W.errors writer.old) }
     ensures flush { FlushesOnce result (W.flushes writer.old) (W.flushes writer.new) }
+    // the set is one that the laws of streams speak of
+    ensures sound { result ≢ Err CanonFault.Memory → IsSound set.now }
 {
     pass_through(alloc, set, mode, Writer::new(alloc), reader, writer, turns)
 }
@@ -70,6 +72,7 @@ pub fn check<R: ByteInput>(
         × Checks mode (templates_in set.now) turns (R.left reader.new) input result
         × IsCausedBy result (count ≡ turns)
         (told_by R.ByteInput reader.old) (told_by R.ByteInput reader.new) }
+    ensures sound { result ≢ Err CanonFault.Memory → IsSound set.now }
 {
     let mut nowhere = Nowhere {
         calls: 0,

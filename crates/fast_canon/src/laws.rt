@@ -1,5 +1,6 @@
 //! Laws of streams, each the contract of a function that does nothing. They speak of the definitions alone: what a
-//! stream carries (`fast_stream`), its first fault, and the canonical bytes of messages (`fast_writer`).
+//! stream carries (`fast_stream`), its first fault, and the canonical bytes of messages (`fast_writer`). The first of them
+//! speaks of what `canonicalise` answers.
 
 ghost use Rattle.std.specs.Prelude.{◌≡◌, ◌≢◌, ◌≤◌, ◌⊎◌, ◌↔◌, ◌++◌, ℕ, List, length};
 ghost use Rattle.fast_wire.specs.declared.level.Level.{Level};
@@ -14,8 +15,29 @@ ghost use Rattle.fast_stream.specs.Nodes.{Content};
 ghost use Rattle.fast_stream.specs.Blocks.{Stand};
 ghost use Rattle.fast_stream.specs.Modes.{Carries, CarriesFrom, FirstFault, IsWithoutSizes, in_blocks, plainly};
 ghost use Rattle.fast_writer.specs.Canonical.{IsCanonical};
+ghost use Rattle.fast_stream.specs.declared.fault.Fault.{Fault};
+ghost use Rattle.fast_canon.specs.Headline.{Accepts, Call, IsAboutStream, Refuses, stream_of};
 
 use fast_stream::Cause;
+
+/// The headline, for calls of `canonicalise` in any mode with one template set, whose answers are about their streams: no
+/// memory was refused, no write and no read failed, and the reads were not used up.
+///
+/// A stream is accepted, and what was written are the canonical bytes of its messages; or it is refused at the first field
+/// that has no reading, with its cause, and what was written are those of the messages before. Two accepted streams carry
+/// the same messages exactly if their canonical bytes are the same. And canonical bytes are accepted in plain framing, at
+/// each level and however they are cut, carry the same messages, and are what is written of them.
+pub fn the_headline()
+    ensures answered { (set : TemplateList) (call : Call set) → IsSound set
+        → IsBytes (stream_of set call) → IsAboutStream call.result
+        → ((messages : List Content) × Accepts set call messages) ⊎ ((f : Fault) × Refuses set call f) }
+    ensures same { (set : TemplateList) (a b : Call set) (messages others : List Content) → IsSound set
+        → Accepts set a messages → Accepts set b others → (messages ≡ others) ↔ (a.out ≡ b.out) }
+    ensures stays { (set : TemplateList) (a b : Call set) (messages : List Content) → IsSound set
+        → Accepts set a messages → IsBytes a.out
+        → b.mode ≡ plainly b.mode.level → stream_of set b ≡ a.out → IsAboutStream b.result
+        → Accepts set b messages × (b.out ≡ a.out) }
+{}
 
 /// A stream carries at most one list of messages.
 pub fn one_reading()
@@ -68,7 +90,7 @@ pub fn canonical_stays()
         → (others ≡ messages) × (IsCanonical (templates_in set) others more ↔ (more ≡ bytes)) }
 {}
 
-/// A stream carries messages or has a first fault, never both, and one first fault only.
+/// A stream carries messages or has a first fault, never both, and one first fault only, behind one list of messages.
 pub fn carried_or_refused()
     ensures one_of_the_two { (mode : Mode) (set : TemplateList) (stream : List ℕ) → IsSound set → IsBytes stream
         → ((messages : List Content) × Carries mode (templates_in set) stream messages)
@@ -80,6 +102,9 @@ pub fn carried_or_refused()
     ensures one_refusal { (mode : Mode) (set : TemplateList) (stream : List ℕ) (place other : Place)
         (cause second : Cause) → IsSound set → FirstFault mode (templates_in set) stream place cause
         → FirstFault mode (templates_in set) stream other second → (place ≡ other) × (cause ≡ second) }
+    ensures one_list_before { (mode : Mode) (set : TemplateList) (stream : List ℕ) (place other : Place)
+        (cause second : Cause) → IsSound set → (f : FirstFault mode (templates_in set) stream place cause)
+        (g : FirstFault mode (templates_in set) stream other second) → f.messages ≡ g.messages }
 {}
 
 /// No stream of the same messages is shorter, in any mode: the canonical bytes of what a stream carries are no more than

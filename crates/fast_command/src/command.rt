@@ -1,7 +1,7 @@
 //! What is done with a stream, and doing it.
 
-ghost use Rattle.std.specs.Prelude.{◌≡◌, ◌≤◌, ◌^◌, ℕ, List};
-ghost use Rattle.fast_template.specs.TemplateSets.{templates_in};
+ghost use Rattle.std.specs.Prelude.{◌≡◌, ◌≢◌, ◌≤◌, ◌^◌, ℕ, List, Err};
+ghost use Rattle.fast_template.specs.TemplateSets.{IsSound};
 ghost use Rattle.fast_decoder.specs.Inputs.{Reads, reader_by};
 ghost use Rattle.fast_pass.specs.Passed.{FlushesOnce, IsCausedBy, errors_after};
 ghost use Rattle.fast_command.specs.Run.{Runs};
@@ -62,6 +62,8 @@ pub fn run<R: ByteInput, W: ByteOutput>(
     // a failed write is answered exactly where a call of the writer failed
     ensures write { W.errors writer.new ≡ errors_after result (W.errors writer.old) }
     ensures flush { FlushesOnce result (W.flushes writer.old) (W.flushes writer.new) }
+    // the set is one that the laws of streams speak of
+    ensures sound { result ≢ Err CanonFault.Memory → IsSound set.now }
 {
     match command {
         Command::Show => show(alloc, set, mode, form, reader, writer, turns),

@@ -1,6 +1,7 @@
 //! Streams as lines.
 
-ghost use Rattle.std.specs.Prelude.{◌≡◌, ◌≤◌, ◌^◌, ℕ, List};
+ghost use Rattle.std.specs.Prelude.{◌≡◌, ◌≢◌, ◌≤◌, ◌^◌, ℕ, List, Err};
+ghost use Rattle.fast_template.specs.TemplateSets.{IsSound};
 ghost use Rattle.fast_decoder.specs.Inputs.{Reads, reader_by};
 ghost use Rattle.fast_pass.specs.Passed.{FlushesOnce, IsCausedBy, errors_after};
 ghost use Rattle.fast_command.specs.Run.{Shows};
@@ -35,6 +36,7 @@ fn show_by<S: Signs, R: ByteInput, W: ByteOutput>(
         (reader_by R.left R.calls R.errors R.ends reader.new) }
     ensures write { W.errors writer.new ≡ errors_after result (W.errors writer.old) }
     ensures flush { FlushesOnce result (W.flushes writer.old) (W.flushes writer.new) }
+    ensures sound { result ≢ Err CanonFault.Memory → IsSound set.now }
 {
     pass_through(
         alloc,
@@ -69,6 +71,7 @@ pub(crate) fn show<R: ByteInput, W: ByteOutput>(
         (reader_by R.left R.calls R.errors R.ends reader.new) }
     ensures write { W.errors writer.new ≡ errors_after result (W.errors writer.old) }
     ensures flush { FlushesOnce result (W.flushes writer.old) (W.flushes writer.new) }
+    ensures sound { result ≢ Err CanonFault.Memory → IsSound set.now }
 {
     match form {
         Form::Text => show_by(alloc, set, mode, TextSigns, reader, writer, turns),

@@ -1,6 +1,6 @@
 //! Streams on their way through an output: what it makes of the messages of one is handed on.
 
-ghost use Rattle.std.specs.Prelude.{◌≡◌, ◌≤◌, ◌<◌, ◌+◌, ◌∷◌, ◌^◌, [], ℕ, List, Option, OnOk, None, length};
+ghost use Rattle.std.specs.Prelude.{◌≡◌, ◌≢◌, ◌≤◌, ◌<◌, ◌+◌, ◌∷◌, ◌^◌, [], ℕ, List, Option, OnOk, Err, None, length};
 ghost use Rattle.std.specs.FinMap as finite;
 ghost use Rattle.fast_template.specs.TemplateSets.{IsSound, templates_in};
 ghost use Rattle.fast_walk.specs.Received.{handed_on};
@@ -236,7 +236,7 @@ pub fn pass_through<O: Output, R: ByteInput, W: ByteOutput>(
         (told_by R.ByteInput reader.old) (told_by R.ByteInput reader.new) (W.taken writer.old) (W.taken writer.new) result }
     ensures write { W.errors writer.new ≡ errors_after result (W.errors writer.old) }
     ensures flush { FlushesOnce result (W.flushes writer.old) (W.flushes writer.new) }
-    ensures sound { OnOk result (IsSound set.now) }
+    ensures sound { result ≢ Err CanonFault.Memory → IsSound set.now }
 {
     let entries = match SlotEntries::new(alloc, set) {
         Err(_) => return Err(CanonFault::Memory),

@@ -2,7 +2,6 @@ pub mod Begins
 pub mod Calls
 pub mod Faults
 pub mod Handing
-pub mod Listed
 pub mod Made
 pub mod PacketLines
 pub mod Packets

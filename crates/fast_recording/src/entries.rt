@@ -1,19 +1,20 @@
 //! Entries that are reset often.
 
-ghost use Rattle.std.specs.Prelude.{◌≡◌, Contains, IfOk, IsTrue, false, vec_len, ℕ};
+ghost use Rattle.std.specs.Prelude.{◌≡◌, ◌≢◌, ◌≤◌, ◌*◌, ◌/◌, ◌^◌, Contains, IfOk, IsTrue, false, true, slice_index_or, vec_len, ℕ};
+ghost use Rattle.fast_dictionary.specs.declared.entry.Entry.TheVariants.{Undefined};
 ghost use Rattle.std.specs.FinMap as map;
 ghost use Rattle.fast_value.specs.declared.key.Key.{Key as KeyOf};
 ghost use Rattle.fast_template.specs.TemplateSets.{keys_in};
 ghost use Rattle.fast_dictionary.specs.Slots.{AllUndefined, AreBelow, HaveOwnSlots, dictionary_in, is_key_in};
-ghost use Rattle.fast_recording.specs.Touched.{AreListed, AreTouched};
+ghost use Rattle.fast_recording.specs.Touched.{AreTouched};
 
-use crate::touched::Touched;
+use crate::touched::{GROUP, Touched};
 use fast_dictionary::{Entries, Entry, EntryRef};
 use fast_template::{Key, TemplateSet};
 use std::alloc::{AllocError, Global};
 
 /// Entries of the keys of one template set, in a vector by slot. A reset looks only at those that were asked for to be
-/// changed since the one before.
+/// changed since the one before, and their neighbours.
 #[derive(Drop)]
 pub struct PacketEntries<'a> {
     set: &'a TemplateSet,
@@ -22,7 +23,9 @@ pub struct PacketEntries<'a> {
     ghost one_each: { vec_len entries ≡ set.now.slots },
     ghost below: { AreBelow set.now },
     ghost own_slots: { HaveOwnSlots set.now },
-    ghost noted: { AreTouched entries.items touched },
+    ghost noted: { AreTouched entries.items touched.groups.items },
+    ghost room: { vec_len entries ≤ 32 * vec_len touched.groups },
+    ghost few: { vec_len touched.groups ≤ 2 ^ 28 },
 }
 
 impl<'a> PacketEntries<'a> {
@@ -67,14 +70,12 @@ impl Entries for PacketEntries<'_> {
 
     #[inline(always)]
     fn entry_mut(&mut self, key: &Key) -> Result<&mut Entry, AllocError> {
-        self.touched
-            .note_undefined(&self.entries[key.slot as usize], key.slot);
+        self.touched.note(key.slot);
         Ok(&mut self.entries[key.slot as usize])
     }
 
     fn reset(&mut self) {
-        undefine(&mut self.entries, &self.touched);
-        self.touched.clear();
+        undefine(&mut self.entries, &mut self.touched.groups);
     }
 
     fn copy(&self, alloc: Global) -> Result<Self, AllocError> {
@@ -88,38 +89,46 @@ impl Entries for PacketEntries<'_> {
     }
 }
 
-// Makes every entry undefined, where those that are not have been noted.
-fn undefine(entries: &mut Vec<Entry>, touched: &Touched)
-    requires { AreTouched entries.now.items touched.now }
-    ensures undefined { AllUndefined entries.new.items }
-    ensures len { vec_len entries.new ≡ vec_len entries.old }
+#[inline(always)]
+fn is_undefined(entry: &Entry) -> bool
+    ensures { result ≡ true → entry.now ≡ Undefined }
 {
-    if touched.all {
-        undefine_all(entries);
-    } else {
-        undefine_listed(entries, &touched.slots);
+    match entry {
+        Entry::Undefined => true,
+        Entry::Empty | Entry::Assigned(_) => false,
     }
 }
 
-// Makes every entry undefined, and looks at each.
-fn undefine_all(entries: &mut Vec<Entry>)
-    ensures undefined { AllUndefined entries.new.items }
+// Makes the entries of a group undefined.
+fn undefine_group(entries: &mut Vec<Entry>, group: usize)
+    requires few { group ≤ 2 ^ 28 }
+    ensures undefined { (n : ℕ) → n / 32 ≡ group → slice_index_or entries.new.items n Undefined ≡ Undefined }
+    ensures others { (n : ℕ) → n / 32 ≢ group
+        → slice_index_or entries.new.items n Undefined ≡ slice_index_or entries.old.items n Undefined }
     ensures len { vec_len entries.new ≡ vec_len entries.old }
 {
-    for slot in 0..entries.len() {
-        entries[slot] = Entry::Undefined;
+    let first = group * GROUP;
+    let end = entries.len().min(first + GROUP);
+    for slot in first..end {
+        // (most are, and to look costs less than to write)
+        if !is_undefined(&entries[slot]) {
+            entries[slot] = Entry::Undefined;
+        }
     }
 }
 
-// Makes every entry undefined, where those that are not are in these slots.
-fn undefine_listed(entries: &mut Vec<Entry>, slots: &[u32])
-    requires { AreListed entries.now.items slots.now }
+// Makes every entry undefined, where those that are not have been noted, and forgets which were.
+fn undefine(entries: &mut Vec<Entry>, groups: &mut Vec<bool>)
+    requires touched { AreTouched entries.now.items groups.now.items }
+    requires few { vec_len groups.now ≤ 2 ^ 28 }
     ensures undefined { AllUndefined entries.new.items }
     ensures len { vec_len entries.new ≡ vec_len entries.old }
+    ensures groups { vec_len groups.new ≡ vec_len groups.old }
 {
-    for slot in slots {
-        if let Some(entry) = entries.get_mut(*slot as usize) {
-            *entry = Entry::Undefined;
+    for group in 0..groups.len() {
+        if groups[group] {
+            undefine_group(entries, group);
+            groups[group] = false;
         }
     }
 }

@@ -1,5 +1,5 @@
-use Rattle.std.proofs.Common.{◌≡◌, ℕ, slice_index_or}
+use Rattle.std.proofs.Common.{◌≡◌, ℕ, false, slice_index_or, vec_len}
 use Rattle.fast_recording.proofs.touched.Touched.new.Given as goal
 
 abbrev pub invariant-loop : goal.invariant-loop
-invariant-loop l = (n : ℕ) → slice_index_or l.rounds.items n 0 ≡ 0
+invariant-loop l = (vec_len l.groups ≡ l.counter) × ((n : ℕ) → slice_index_or l.groups.items n false ≡ false)
