@@ -1,8 +1,8 @@
 -- What the headline rests on: what a call answers of a stream, and the laws of streams.
-use Rattle.std.proofs.Common.{◌≡◌, ◌≢◌, ◌<◌, ℕ, ◌+◌, List, [], ◌∷◌, ◌++◌, length, Some, Result, Ok, Err, IsOk, refl, sym, ap, subst, ◌∙◌, ◌⊎◌, inl, inr, arith}
+use Rattle.std.proofs.Common.{◌≡◌, ◌≢◌, ◌<◌, ℕ, ◌+◌, List, [], ◌∷◌, ◌++◌, length, Some, Result, Ok, Err, IsOk, refl, sym, ap, ap₂, subst, ◌∙◌, ◌⊎◌, inl, inr, arith}
 use Rattle.std.proofs.lemmas.List.{append-nil, append_assoc, append_cancel_left}
 use Rattle.fast_wire.specs.Reader.{IsBytes}
-use Rattle.fast_canon.proofs.Common.{◌↔◌, TemplateList, IsSound, templates_in, Mode, at_start, Content, Carries, Carried, plainly, message_reader, next_reader, fault_stays, not_both, IsCanonical, CanonFault, Summary, Canonicalises}
+use Rattle.fast_canon.proofs.Common.{◌↔◌, TemplateList, IsSound, templates_in, Mode, at_start, Content, Carries, Carried, plainly, message_reader, next_reader, fault_stays, not_both, one_fault, one_list, IsCanonical, CanonFault, Summary, Canonicalises}
 use Rattle.fast_stream.specs.declared.fault.Cause.{Cause}
 use Rattle.fast_stream.specs.declared.fault.Fault.{Fault}
 use Rattle.fast_stream.specs.declared.place.Place.{Place}
@@ -114,3 +114,29 @@ module _ (set : TemplateList) (sound : IsSound set) where
   pub canonical_is_accepted : (a b : Call set) (messages : List Content) → Accepts set a messages → IsBytes a.out → b.mode ≡ plainly b.mode.level → stream_of set b ≡ a.out → IsAboutStream b.result → Accepts set b messages × (b.out ≡ a.out)
   canonical_is_accepted a b messages h fits plain is about =
       accepts_again a b messages h plain is (answered b (subst (λ (s : List ℕ). IsBytes s) (sym is) fits) about)
+
+  -- ---- however a stream is cut
+
+  pub accepted_once : (a b : Call set) (messages others : List Content) → a.mode ≡ b.mode → stream_of set a ≡ stream_of set b → Accepts set a messages → Accepts set b others → (messages ≡ others) × (a.out ≡ b.out)
+  accepted_once a b messages others mode stream h k =
+      let carries = subst (λ (s : List ℕ). Carries b.mode (templates_in set) s messages) stream (subst (λ (m : Mode). Carries m (templates_in set) (stream_of set a) messages) mode h.carries) in
+      let same = one_list b.mode (templates_in set) (reader b.mode) (stream_of set b) messages others carries k.carries in
+      (same, (same_messages a b messages others h k).0 same)
+
+  first_of : (a b : Call set) (f : Fault) → a.mode ≡ b.mode → stream_of set a ≡ stream_of set b → Refuses set a f
+      → (first : FirstFault b.mode (templates_in set) (stream_of set b) f.place f.cause) × IsCanonical (templates_in set) first.messages a.out
+  first_of a b f mode stream h =
+      subst (λ (s : List ℕ). (first : FirstFault b.mode (templates_in set) s f.place f.cause) × IsCanonical (templates_in set) first.messages a.out) stream
+      (subst (λ (m : Mode). (first : FirstFault m (templates_in set) (stream_of set a) f.place f.cause) × IsCanonical (templates_in set) first.messages a.out) mode (h.first, h.canonical))
+
+  pub refused_once : (a b : Call set) (f g : Fault) → a.mode ≡ b.mode → stream_of set a ≡ stream_of set b → Refuses set a f → Refuses set b g → (f ≡ g) × (a.out ≡ b.out)
+  refused_once a b f g mode stream h k =
+      let first = first_of a b f mode stream h in
+      let same = one_fault b.mode (templates_in set) (reader b.mode) (stream_of set b) f.place g.place f.cause g.cause first.0 k.first in
+      let before = one_list_before b.mode (stream_of set b) f.place g.place f.cause g.cause first.0 k.first in
+      (ap₂ (λ p c. record { cause = c; place = p }) same.0 same.1, (same_exactly set sound first.0.messages k.first.messages a.out b.out first.1 k.canonical).0 before)
+
+  pub not_both_ways : (a b : Call set) (messages : List Content) (f : Fault) → a.mode ≡ b.mode → stream_of set a ≡ stream_of set b → Accepts set a messages → Refuses set b f → ⊥
+  not_both_ways a b messages f mode stream h k =
+      let carries = subst (λ (s : List ℕ). Carries b.mode (templates_in set) s messages) stream (subst (λ (m : Mode). Carries m (templates_in set) (stream_of set a) messages) mode h.carries) in
+      not_both b.mode (templates_in set) (reader b.mode) (stream_of set b) messages f.place f.cause carries k.first

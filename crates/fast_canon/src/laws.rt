@@ -26,7 +26,8 @@ use fast_stream::Cause;
 /// A stream is accepted, and what was written are the canonical bytes of its messages; or it is refused at the first field
 /// that has no reading, with its cause, and what was written are those of the messages before. Two accepted streams carry
 /// the same messages exactly if their canonical bytes are the same. And canonical bytes are accepted in plain framing, at
-/// each level and however they are cut, carry the same messages, and are what is written of them.
+/// each level and however they are cut, carry the same messages, and are what is written of them. However a stream is cut,
+/// it has one answer.
 pub fn the_headline()
     ensures answered { (set : TemplateList) (call : Call set) → IsSound set
         → IsBytes (stream_of set call) → IsAboutStream call.result
@@ -37,6 +38,15 @@ pub fn the_headline()
         → Accepts set a messages → IsBytes a.out
         → b.mode ≡ plainly b.mode.level → stream_of set b ≡ a.out → IsAboutStream b.result
         → Accepts set b messages × (b.out ≡ a.out) }
+    ensures accepted_however_cut { (set : TemplateList) (a b : Call set) (messages others : List Content) → IsSound set
+        → a.mode ≡ b.mode → stream_of set a ≡ stream_of set b
+        → Accepts set a messages → Accepts set b others → (messages ≡ others) × (a.out ≡ b.out) }
+    ensures refused_however_cut { (set : TemplateList) (a b : Call set) (f g : Fault) → IsSound set
+        → a.mode ≡ b.mode → stream_of set a ≡ stream_of set b
+        → Refuses set a f → Refuses set b g → (f ≡ g) × (a.out ≡ b.out) }
+    ensures never_both { (set : TemplateList) (a b : Call set) (messages : List Content) (f : Fault) → IsSound set
+        → a.mode ≡ b.mode → stream_of set a ≡ stream_of set b
+        → Accepts set a messages → Refuses set b f → ⊥ }
 {}
 
 /// A stream carries at most one list of messages.
