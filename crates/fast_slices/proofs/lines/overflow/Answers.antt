@@ -1,4 +1,4 @@
-use Rattle.fast_slices.proofs.Lines.{measured}
+use Rattle.fast_slices.proofs.WrittenLines.{measured}
 use Rattle.fast_slices.proofs.lines.overflow.Goals as goal
 
 pub returns : goal.returns

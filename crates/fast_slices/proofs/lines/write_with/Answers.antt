@@ -1,6 +1,6 @@
 use Rattle.std.proofs.Common.{◌<◌, [], Some, length, refl, sym, subst, rules, List, ℕ}
 use Rattle.fast_slices.specs.Lines.{RunsLines}
-use Rattle.fast_slices.proofs.Lines.{overflows, settled}
+use Rattle.fast_slices.proofs.WrittenLines.{overflows, settled}
 use Rattle.fast_slices.proofs.lines.write_with.Goals as goal
 
 pub returns : goal.returns
