@@ -90,7 +90,7 @@ enum fastcat_cause {
   FASTCAT_TOO_MANY = 111,       /* more than 65,535 templates, or instructions behind replaced references */
   /* Of a line: */
   FASTCAT_NOT_JSON = 201,     /* it is no JSON text in UTF-8, or nests more than 128 levels */
-  FASTCAT_LINE = 202,         /* it is no object of a template or an identifier, and fields; or its packet is not as it is to be */
+  FASTCAT_LINE = 202,         /* it is no object of template or id, and fields, or lacks a packet, or has one that is not to be there */
   FASTCAT_MEMBER = 203,       /* a member of its fields is not its template's, or is there once too often */
   FASTCAT_MISMATCH = 204,     /* a value is not of its field's type, or a mandatory one is left out */
   FASTCAT_D3 = 205,           /* a decimal does not have the exponent or the mantissa that its part must have */
