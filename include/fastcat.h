@@ -1,8 +1,8 @@
-/* fastcat: FAST 1.1 streams and recordings in memory are canonicalised, checked and shown.
+/* fastcat: FAST 1.1 streams and recordings in memory are canonicalised, checked and shown, and lines in JSON are written.
  *
- * A template text is JSON in UTF-8, and a stream or a recording of packets is bytes; docs/FORMAT.md tells of them. The functions keep no state:
- * threads may call them side by side, each with a room and an answer of its own. A pointer whose length is 0 is not
- * looked at. Room, answer, templates and stream do not overlap.
+ * A template text is JSON in UTF-8, lines are likewise, and a stream or a recording of packets is bytes; docs/FORMAT.md tells
+ * of them. The functions keep no state: threads may call them side by side, each with a room and an answer of its own. A
+ * pointer whose length is 0 is not looked at. Room, answer, templates and stream or lines do not overlap.
  */
 #ifndef FASTCAT_H
 #define FASTCAT_H
@@ -20,19 +20,23 @@ extern "C" {
 #define FASTCAT_VERSION_NUMBER 200
 uint32_t fastcat_version(void);
 
-/* How a stream is read and shown: the sum of these. A mode with any other bit is refused, and one with blocks and packets. */
+/* How a stream is read and shown, or lines are written: the sum of these. A mode with any other bit is refused, and one with
+ * blocks and packets; of fastcat_write one with strict or blocks. */
 enum {
   /* Refuse entities that are longer than they need to be, and map bits that no instruction asked for (R6 to R9). */
   FASTCAT_STRICT = 1,
   /* Messages stand in blocks: a size, and as many bytes. */
   FASTCAT_BLOCKS = 2,
-  /* fastcat_show writes a JSON text for each message. The other calls do with it what they do without. */
+  /* fastcat_show writes a JSON text for each message. The other calls do with it what they do without: lines that are written
+   * are JSON in any case. */
   FASTCAT_JSON = 4,
-  /* The stream is a recording of packets: of each a size, and as many bytes, which are a stream of their own. */
+  /* The stream is a recording of packets: of each a size, and as many bytes, which are a stream of their own. Lines that are
+   * written say the packets of their messages. */
   FASTCAT_PACKETS = 8
 };
 
-/* How a call ended. The first that fails is answered: the mode, the size of the stream, the templates, the stream. */
+/* How a call ended. The first that fails is answered: the mode, the size of the stream or the lines, the templates, the stream
+ * or the lines. */
 enum fastcat_status {
   FASTCAT_DONE = 0,
   /* The stream is refused: cause, message, offset, template and instruction say why and where, and packet of a recording. */
@@ -45,20 +49,23 @@ enum fastcat_status {
   FASTCAT_NO_MEMORY = 4,
   /* The mode has a bit that says nothing. */
   FASTCAT_UNKNOWN_MODE = 5,
-  /* The stream has 2^40 bytes or more. */
-  FASTCAT_STREAM_TOO_LONG = 6
+  /* The stream has 2^40 bytes or more, or the lines have. */
+  FASTCAT_STREAM_TOO_LONG = 6,
+  /* A line stands for no message, or for one that has no form behind those before: cause, template and instruction say why and
+   * where, and message is the line's number, from 1. written says how many bytes of the lines before are in the room. */
+  FASTCAT_LINE_REFUSED = 7
 };
 
-/* Why a stream or templates are refused; docs/FORMAT.md, "Causes". */
+/* Why a stream, a line or templates are refused; docs/FORMAT.md, "Causes" and "Lines that are written". */
 enum fastcat_cause {
   FASTCAT_NO_CAUSE = 0,
-  /* Of a stream: */
+  /* Of a stream; D2, D4, D6, D9, R1 and LIMIT of a line too: */
   FASTCAT_D2 = 1,         /* an integer is out of its type's bounds */
   FASTCAT_D4 = 2,         /* the previous value is of another type than the field */
   FASTCAT_D5 = 3,         /* a mandatory field is left out, and no earlier value predicts it */
   FASTCAT_D6 = 4,         /* a mandatory field is left out or changed, and its previous value is empty */
   FASTCAT_D7 = 5,         /* a subtraction length is no int32, or takes more than there is */
-  FASTCAT_D9 = 6,         /* no template has the identifier */
+  FASTCAT_D9 = 6,         /* no template has the identifier, or of a line the name */
   FASTCAT_D12 = 7,        /* the size of a block or of a packet is zero */
   FASTCAT_R1 = 8,         /* a decimal's exponent is outside -63..63, or its mantissa outside int64 */
   FASTCAT_R2 = 9,         /* a Unicode string is not UTF-8 */
@@ -80,21 +87,29 @@ enum fastcat_cause {
   FASTCAT_DUPLICATE_ID = 108,   /* an earlier template has the identifier */
   FASTCAT_CYCLE = 109,          /* references lead from the template back to itself */
   FASTCAT_TOO_DEEP = 110,       /* groups and sequences nest in more than 8 levels */
-  FASTCAT_TOO_MANY = 111        /* more than 65,535 templates, or instructions behind replaced references */
+  FASTCAT_TOO_MANY = 111,       /* more than 65,535 templates, or instructions behind replaced references */
+  /* Of a line: */
+  FASTCAT_NOT_JSON = 201,     /* it is no JSON text in UTF-8, or nests more than 128 levels */
+  FASTCAT_LINE = 202,         /* it is JSON and no message; or its packet is missing, not asked for, or below the last one */
+  FASTCAT_MEMBER = 203,       /* a member of its fields is not its template's, or is there once too often */
+  FASTCAT_MISMATCH = 204,     /* a value is not of its field's type, or a mandatory one is left out */
+  FASTCAT_D3 = 205,           /* a decimal does not have the exponent or the mantissa that its part must have */
+  FASTCAT_NOT_CONSTANT = 206, /* a value is not the constant of its field */
+  FASTCAT_TOO_SHORT = 207     /* a value is shorter than the earlier one whose end a tail changes */
 };
 
 /* What a call answers. Each call sets every field, to 0 where it has nothing to say of it. */
 struct fastcat_answer {
-  uint64_t messages;    /* the messages of the stream, or of a refused one, or a refused packet, those before its fault */
-  uint64_t read;        /* the bytes of a stream that was read to its end */
+  uint64_t messages;    /* the messages of the stream or the lines, or of a refused stream or packet those before its fault */
+  uint64_t read;        /* the bytes of a stream or of lines that were read to their end */
   uint64_t written;     /* the bytes that were put into the room's front, or are needed; of fastcat_check the canonical bytes */
-  uint64_t message;     /* the message at which the stream or the packet is refused, from 1 */
+  uint64_t message;     /* the message at which the stream or the packet is refused, or the line that is, from 1 */
   uint64_t offset;      /* how many bytes of the stream stand before the piece that is refused */
   uint32_t status;      /* enum fastcat_status, which the call also returns */
   uint32_t cause;       /* enum fastcat_cause */
-  uint32_t template_id; /* of a refused stream the template's identifier; of templates the place in the list, from 1 */
+  uint32_t template_id; /* of a refused stream or line the template's identifier; of templates the place in the list, from 1 */
   uint32_t instruction; /* the instruction's number, from 1 */
-  uint64_t packets;     /* the packets of a recording, or of a refused one those before the packet that is refused */
+  uint64_t packets;     /* the packets of a recording that is read, or of a refused one those before its refused packet */
   uint64_t packet;      /* the packet that is refused, from 1 */
 };
 
@@ -112,6 +127,12 @@ uint32_t fastcat_check(const uint8_t *templates, size_t templates_length, uint32
  * length is known to be enough: where the room is too short, try again with one of as many bytes as it says. */
 uint32_t fastcat_show(const uint8_t *templates, size_t templates_length, uint32_t mode, const uint8_t *stream,
                       size_t stream_length, uint8_t *room, size_t room_length, struct fastcat_answer *answer);
+
+/* Puts the canonical bytes of the messages that lines stand for into the front of the room, or with FASTCAT_PACKETS their
+ * canonical recording. The lines are those of fastcat_show in JSON, or as a person writes them. Where a line is refused, the
+ * bytes of those before it are put there. No length is known to be enough, as for fastcat_show. */
+uint32_t fastcat_write(const uint8_t *templates, size_t templates_length, uint32_t mode, const uint8_t *lines,
+                       size_t lines_length, uint8_t *room, size_t room_length, struct fastcat_answer *answer);
 
 /* Checks a template text. */
 uint32_t fastcat_templates(const uint8_t *templates, size_t templates_length, struct fastcat_answer *answer);

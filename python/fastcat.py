@@ -1,16 +1,19 @@
-"""FAST 1.1 streams and recordings in memory: canonical bytes, counts and lines, by the proved library (docs/LIBRARY.md).
+"""FAST 1.1 streams and recordings in memory: canonical bytes, counts, lines and back, by the proved library (docs/LIBRARY.md).
 
 The shared library is the one that the environment variable FASTCAT_LIBRARY names, or libfastcat.so beside this file or
 in ../lib, where lib/build puts it.
 """
 
+import collections.abc
 import ctypes
 import dataclasses
+import decimal
 import enum
+import json as _json
 import os
 import pathlib
 
-__all__ = ["Answer", "Cause", "FastcatError", "Status", "canon", "check", "check_templates", "show"]
+__all__ = ["Answer", "Cause", "FastcatError", "Status", "canon", "check", "check_templates", "show", "write"]
 
 
 class Status(enum.IntEnum):
@@ -23,10 +26,11 @@ class Status(enum.IntEnum):
     NO_MEMORY = 4
     UNKNOWN_MODE = 5
     STREAM_TOO_LONG = 6
+    LINE_REFUSED = 7
 
 
 class Cause(enum.IntEnum):
-    """Why a stream or templates are refused; docs/FORMAT.md, "Causes"."""
+    """Why a stream, a line or templates are refused; docs/FORMAT.md, "Causes" and "Lines that are written"."""
 
     NONE = 0
     D2 = 1
@@ -56,6 +60,13 @@ class Cause(enum.IntEnum):
     Cycle = 109
     TooDeep = 110
     TooMany = 111
+    Json = 201
+    Line = 202
+    Member = 203
+    Mismatch = 204
+    D3 = 205
+    NotConstant = 206
+    TooShort = 207
 
 
 @dataclasses.dataclass(frozen=True)
@@ -66,8 +77,9 @@ class Answer:
     before the packet that is refused; `read`, the bytes of a stream that was read to its end;
     `written`, the bytes that were written, of a check the canonical bytes, of a room that is too short those that are
     needed. Where a stream is refused: `packet`, of a recording, from 1, `message`, from 1 (in its packet), `offset`, the
-    bytes before the piece that is refused, `template`, its identifier, and `instruction`. Where templates are: `template`,
-    the place in the list, from 1, and `instruction`.
+    bytes before the piece that is refused, `template`, its identifier, and `instruction`. Where a line is: `message`, the
+    line's number, from 1, `template` and `instruction`. Where templates are: `template`, the place in the list, from 1, and
+    `instruction`.
     """
 
     messages: int
@@ -84,7 +96,7 @@ class Answer:
 
 
 class FastcatError(Exception):
-    """A call that did not end well: its answer, and what was written before a fault of the stream."""
+    """A call that did not end well: its answer, and what was written before a fault of the stream or a refused line."""
 
     def __init__(self, answer: Answer, written: bytes = b""):
         self.answer = answer
@@ -101,6 +113,11 @@ class FastcatError(Exception):
             return (
                 f"refused {answer.cause.name} {packet}message={answer.message} offset={answer.offset} "
                 f"template={answer.template} instruction={answer.instruction}"
+            )
+        if answer.status is Status.LINE_REFUSED:
+            return (
+                f"refused {answer.cause.name} line={answer.message} template={answer.template} "
+                f"instruction={answer.instruction}"
             )
         if answer.status is Status.TEMPLATES_REFUSED:
             return (
@@ -134,6 +151,7 @@ def _load():
         (library.fastcat_canon, slice_in + [ctypes.c_uint32] + slice_in + room + answer),
         (library.fastcat_check, slice_in + [ctypes.c_uint32] + slice_in + answer),
         (library.fastcat_show, slice_in + [ctypes.c_uint32] + slice_in + room + answer),
+        (library.fastcat_write, slice_in + [ctypes.c_uint32] + slice_in + room + answer),
         (library.fastcat_templates, slice_in + answer),
         (library.fastcat_version, []),
     ):
@@ -180,8 +198,8 @@ def _mode(strict: bool, blocks: bool, packets: bool, json: bool = False) -> int:
     return (1 if strict else 0) | (2 if blocks else 0) | (4 if json else 0) | (8 if packets else 0)
 
 
-def _write(function, templates, stream, mode) -> bytes:
-    text, data = _text(templates), _bytes("stream", stream)
+def _write(function, templates, data: bytes, mode) -> bytes:
+    text = _text(templates)
     length = max(len(data), 64)
     while True:
         room = ctypes.create_string_buffer(length)
@@ -198,13 +216,63 @@ def _write(function, templates, stream, mode) -> bytes:
 def canon(templates, stream, strict: bool = False, blocks: bool = False, packets: bool = False) -> bytes:
     """The canonical bytes of a stream, or with `packets` of a recording. `templates` is a JSON text, as `str` or bytes, or a
     file, as `os.PathLike`."""
-    return _write(_library.fastcat_canon, templates, stream, _mode(strict, blocks, packets))
+    return _write(_library.fastcat_canon, templates, _bytes("stream", stream), _mode(strict, blocks, packets))
 
 
 def show(templates, stream, strict: bool = False, blocks: bool = False, packets: bool = False, json: bool = False) -> str:
     """A line for each message of a stream or a recording: of text, in ASCII, or a JSON text, which with `packets` says its
     packet first."""
-    return _write(_library.fastcat_show, templates, stream, _mode(strict, blocks, packets, json)).decode()
+    return _write(_library.fastcat_show, templates, _bytes("stream", stream), _mode(strict, blocks, packets, json)).decode()
+
+
+def _in_json(value):
+    """A value of a message as JSON has it. Decimals and byte vectors stand in strings, so that no digit is lost."""
+    if isinstance(value, float):
+        raise TypeError(f"messages: {value!r} has lost the digits that were sent; decimal.Decimal keeps them")
+    if isinstance(value, decimal.Decimal):
+        return str(value)
+    if isinstance(value, (bytes, bytearray, memoryview)):
+        return bytes(value).hex()
+    if isinstance(value, collections.abc.Mapping):
+        return {name: _in_json(inner) for name, inner in value.items()}
+    if isinstance(value, (list, tuple)):
+        return [_in_json(inner) for inner in value]
+    return value
+
+
+def _line(message) -> bytes:
+    """The line of a message, which is a dict or a line of text."""
+    if isinstance(message, collections.abc.Mapping):
+        return _json.dumps(_in_json(message)).encode() + b"\n"
+    if not isinstance(message, (str, bytes, bytearray, memoryview)):
+        raise TypeError(f"messages: each is a dict or a line of text, not {type(message).__name__}")
+    line = (message.encode() if isinstance(message, str) else bytes(message)).removesuffix(b"\n")
+    if b"\n" in line:
+        raise ValueError("messages: an item is one line, and has no line feed within it")
+    return line + b"\n"
+
+
+def _lines(messages) -> bytes:
+    """The lines of messages, one for each, or those of a text."""
+    if isinstance(messages, str):
+        return messages.encode()
+    if isinstance(messages, (bytes, bytearray, memoryview)):
+        return bytes(messages)
+    # (a dict is one message, and would be taken for a list of its keys)
+    if isinstance(messages, collections.abc.Mapping) or not isinstance(messages, collections.abc.Iterable):
+        raise TypeError(f"messages: messages one after the other or a text of lines are wanted, not {type(messages).__name__}")
+    return b"".join(map(_line, messages))
+
+
+def write(templates, messages, packets: bool = False) -> bytes:
+    """The canonical bytes of messages, or with `packets` their canonical recording.
+
+    A message is a dict of `template` or `id` or both, and `fields`, and with `packets` of `packet`, the number of its packet,
+    as `json.loads` of a line of `show(.., json=True)` gives it with `parse_float=decimal.Decimal`; or such a line, as `str`
+    or bytes. Decimals are `decimal.Decimal` or `int`, and a `float` is a `TypeError`. A byte vector is bytes, or hex text.
+    `messages` may also be a text of lines. Where one is refused, the answer's `message` is its place, from 1, or its line's.
+    """
+    return _write(_library.fastcat_write, templates, _lines(messages), _mode(False, False, packets, True))
 
 
 def check(templates, stream, strict: bool = False, blocks: bool = False, packets: bool = False) -> Answer:

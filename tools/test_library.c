@@ -154,17 +154,94 @@ static void recordings(void) {
              of_packets(&a, 2, 0) && holds(packet_lines, sizeof packet_lines - 1), "show of two packets in JSON");
 }
 
+/* Lines are written into the room, whose length is given. */
+static uint32_t write_lines(const char *lines, size_t length, uint32_t mode, size_t room_length,
+                            struct fastcat_answer *answer) {
+  memset(room, 0xaa, sizeof room);
+  memset(answer, 0xaa, sizeof *answer);
+  return fastcat_write(templates, templates_length, mode, (const uint8_t *)lines, length, room, room_length, answer);
+}
+
+/* What fastcat_show writes of a stream in JSON is written again. */
+static int is_written_again(const uint8_t *stream, size_t length, uint32_t mode, const uint8_t *bytes, size_t count,
+                            uint64_t messages) {
+  static uint8_t shown[1024];
+  struct fastcat_answer a;
+  if (fastcat_show(templates, templates_length, mode | FASTCAT_JSON, stream, length, shown, sizeof shown, &a) != FASTCAT_DONE)
+    return 0;
+  size_t size = (size_t)a.written;
+  for (uint32_t json = 0; json <= FASTCAT_JSON; json += FASTCAT_JSON)
+    if (write_lines((const char *)shown, size, mode | json, count, &a) != FASTCAT_DONE ||
+        !says(&a, 0, messages, size, count, 0, 0, 0, 0, 0) || !of_packets(&a, 0, 0) || !holds(bytes, count))
+      return 0;
+  return 1;
+}
+
+static void lines(void) {
+  struct fastcat_answer a;
+  expect(is_written_again(spelled_out, sizeof spelled_out, 0, canonical, 11, 2), "two messages, shown and written");
+  expect(is_written_again(two_packets, sizeof two_packets, FASTCAT_PACKETS, canonical_packets, 18, 2),
+         "two packets, shown and written");
+  expect(write_lines("", 0, 0, 0, &a) == FASTCAT_DONE && says(&a, 0, 0, 0, 0, 0, 0, 0, 0, 0) && holds("", 0), "no lines");
+  expect(write_lines(json, sizeof json - 1, 0, 7, &a) == FASTCAT_ROOM_TOO_SHORT && says(&a, 3, 0, 0, 8, 0, 0, 0, 0, 0) &&
+             holds("", 0), "a room that is one byte too short for a line");
+  expect(write_lines(json, sizeof json - 1, 0, 8, &a) == FASTCAT_DONE && holds(one, 8), "a room of as many bytes as it says");
+  expect(write_lines(packet_lines, sizeof packet_lines - 1, FASTCAT_PACKETS, 17, &a) == FASTCAT_ROOM_TOO_SHORT &&
+             says(&a, 3, 0, 0, 18, 0, 0, 0, 0, 0) && holds("", 0), "a room that is too short for lines of packets");
+  static const uint32_t unknown[] = {FASTCAT_STRICT, FASTCAT_BLOCKS, FASTCAT_BLOCKS | FASTCAT_PACKETS,
+                                     FASTCAT_STRICT | FASTCAT_PACKETS, 16};
+  for (size_t i = 0; i < sizeof unknown / sizeof *unknown; i++)
+    expect(write_lines(json, sizeof json - 1, unknown[i], sizeof room, &a) == FASTCAT_UNKNOWN_MODE &&
+               says(&a, 5, 0, 0, 0, 0, 0, 0, 0, 0) && holds("", 0), "a mode that lines have not");
+  expect(write_lines("", (size_t)1 << 40, 0, sizeof room, &a) == FASTCAT_STREAM_TOO_LONG && says(&a, 6, 0, 0, 0, 0, 0, 0, 0, 0),
+         "lines that are too long");
+  memset(&a, 0xaa, sizeof a);
+  expect(fastcat_write((const uint8_t *)"{", 1, 0, (const uint8_t *)json, sizeof json - 1, room, sizeof room, &a) ==
+             FASTCAT_TEMPLATES_REFUSED && says(&a, 2, 0, 0, 0, FASTCAT_S1, 0, 0, 0, 0), "lines with templates that are refused");
+
+  /* The blank line is counted, and what stands before the refused one is written. */
+  static const char mismatch[] = "{" FIELDS "\n{\"id\":1,\"fields\":{\"Seq\":2,\"Sym\":5,\"Px\":1}}\n";
+  expect(write_lines(mismatch, sizeof mismatch - 1, 0, sizeof room, &a) == FASTCAT_LINE_REFUSED &&
+             says(&a, 7, 0, 0, 8, FASTCAT_MISMATCH, 3, 0, 1, 2) && of_packets(&a, 0, 0) && holds(one, 8), "a number for a string");
+  expect(write_lines(mismatch, sizeof mismatch - 1, 0, 7, &a) == FASTCAT_ROOM_TOO_SHORT &&
+             says(&a, 3, 0, 0, 8, 0, 0, 0, 0, 0) && holds("", 0), "a line that is refused, and a short room");
+  static const char other[] = "{" FIELDS "{\"template\":\"Const\",\"fields\":{\"K\":8,\"D\":3}}";
+  expect(write_lines(other, sizeof other - 1, 0, sizeof room, &a) == FASTCAT_LINE_REFUSED &&
+             says(&a, 7, 0, 0, 8, FASTCAT_NOT_CONSTANT, 2, 0, 14, 1) && holds(one, 8), "another value than the constant");
+  expect(write_lines(json, sizeof json - 1, FASTCAT_PACKETS, sizeof room, &a) == FASTCAT_LINE_REFUSED &&
+             says(&a, 7, 0, 0, 0, FASTCAT_LINE, 1, 0, 0, 0) && holds("", 0), "a line that says no packet");
+  expect(write_lines(packet_lines, sizeof packet_lines - 1, 0, sizeof room, &a) == FASTCAT_LINE_REFUSED &&
+             says(&a, 7, 0, 0, 0, FASTCAT_LINE, 1, 0, 0, 0) && holds("", 0), "a line that says a packet where none is asked for");
+  static const char back[] = "{\"packet\":2," FIELDS "{\"packet\":1," FIELDS;
+  expect(write_lines(back, sizeof back - 1, FASTCAT_PACKETS, sizeof room, &a) == FASTCAT_LINE_REFUSED &&
+             says(&a, 7, 0, 0, 9, FASTCAT_LINE, 2, 0, 0, 0) && holds(canonical_packets, 9), "a line of a packet before the last");
+
+  /* A string of 65,536 bytes. */
+  static char much[1 << 17];
+  size_t at = (size_t)sprintf(much, "{\"id\":1,\"fields\":{\"Seq\":1,\"Sym\":\"");
+  memset(much + at, 'A', 65536);
+  at += 65536;
+  at += (size_t)sprintf(much + at, "\",\"Px\":1}}");
+  expect(write_lines(much, at, 0, sizeof room, &a) == FASTCAT_LINE_REFUSED && says(&a, 7, 0, 0, 0, FASTCAT_LIMIT, 1, 0, 1, 2) &&
+             holds("", 0), "a string that is too long");
+}
+
 /* The causes by the names of fastcat.h. */
 #define CAUSE(name) {#name, FASTCAT_##name}
 static const struct { const char *name; uint32_t number; } causes[] = {
   CAUSE(NO_CAUSE), CAUSE(D2), CAUSE(D4), CAUSE(D5), CAUSE(D6), CAUSE(D7), CAUSE(D9), CAUSE(D12), CAUSE(R1), CAUSE(R2),
   CAUSE(R6), CAUSE(R7), CAUSE(R8), CAUSE(R9), CAUSE(BLOCK_END), CAUSE(TRUNCATED), CAUSE(LIMIT), CAUSE(S1), CAUSE(S2),
   CAUSE(S3), CAUSE(S4), CAUSE(S5), CAUSE(D8), CAUSE(DUPLICATE_NAME), CAUSE(DUPLICATE_ID), CAUSE(CYCLE),
-  CAUSE(TOO_DEEP), CAUSE(TOO_MANY)};
+  CAUSE(TOO_DEEP), CAUSE(TOO_MANY), CAUSE(NOT_JSON), CAUSE(LINE), CAUSE(MEMBER), CAUSE(MISMATCH), CAUSE(D3),
+  CAUSE(NOT_CONSTANT), CAUSE(TOO_SHORT)};
+static int has_row[sizeof causes / sizeof *causes];
 
 static uint32_t number_of(const char *name) {
   for (size_t i = 0; i < sizeof causes / sizeof *causes; i++)
-    if (strcmp(causes[i].name, name) == 0) return causes[i].number;
+    if (strcmp(causes[i].name, name) == 0) {
+      has_row[i] = 1;
+      return causes[i].number;
+    }
   return UINT32_MAX;
 }
 
@@ -172,11 +249,10 @@ static uint32_t number_of(const char *name) {
 static void table(FILE *file) {
   static char line[8192], over[8192], what[8192];
   char kind[16], name[32];
-  unsigned number, mode, rows = 0;
+  unsigned number, mode;
   struct fastcat_answer a;
   while (fgets(line, sizeof line, file)) {
     if (line[0] == '#' || sscanf(line, "%15s %31s %u %u %8191[^\n]", kind, name, &number, &mode, what) != 5) continue;
-    rows++;
     expect(number_of(name) == number, name);
     if (strcmp(kind, "over") == 0) {
       strcpy(over, what);
@@ -187,11 +263,14 @@ static void table(FILE *file) {
         stream[length] = (uint8_t)byte;
       expect(fastcat_check((const uint8_t *)over, strlen(over), mode, stream, length, &a) == FASTCAT_STREAM_REFUSED &&
                  a.cause == number, name);
+    } else if (strcmp(kind, "line") == 0) {
+      expect(fastcat_write((const uint8_t *)over, strlen(over), mode, (const uint8_t *)what, strlen(what), room, sizeof room,
+                           &a) == FASTCAT_LINE_REFUSED && a.cause == number && a.message == 1, name);
     } else {
       expect(fastcat_templates((const uint8_t *)what, strlen(what), &a) == FASTCAT_TEMPLATES_REFUSED && a.cause == number, name);
     }
   }
-  expect(rows == sizeof causes / sizeof *causes, "a row for each cause");
+  for (size_t i = 0; i < sizeof causes / sizeof *causes; i++) expect(has_row[i], causes[i].name);
 }
 
 int main(int count, char **words) {
@@ -205,6 +284,7 @@ int main(int count, char **words) {
   streams();
   others();
   recordings();
+  lines();
   table(rows);
   fclose(rows);
   printf("C: %u passed, %u failed\n", passed, failed);

@@ -1,6 +1,8 @@
 """Tests of the library as Python calls it, over the examples. Expected values are those of README.md, of docs/FORMAT.md
 and of the files of examples/."""
 
+import decimal
+import json
 import os
 import pathlib
 import pickle
@@ -32,8 +34,8 @@ HEADER = (TOP / "include/fastcat.h").read_text()
 
 
 def name_in_c(name):
-    """`BlockEnd` as BLOCK_END, `D2` as it is."""
-    return re.sub(r"(?<=[a-z])(?=[A-Z])", "_", name).upper()
+    """`BlockEnd` as BLOCK_END, `D2` as it is; JSON is the bit of a mode."""
+    return {"NONE": "NO_CAUSE", "Json": "NOT_JSON"}.get(name) or re.sub(r"(?<=[a-z])(?=[A-Z])", "_", name).upper()
 
 
 class Examples(unittest.TestCase):
@@ -160,6 +162,119 @@ class Refusals(unittest.TestCase):
         self.assertEqual(fastcat.check(WORKED, b"").messages, 0)
 
 
+def messages(lines):
+    """Messages of lines, whose decimals keep all their digits."""
+    return [json.loads(line, parse_float=decimal.Decimal) for line in lines.splitlines()]
+
+
+def quote(price, **others):
+    """A message of the template Quote."""
+    return {"template": "Quote", "fields": {"Seq": 1, "Sym": "AB", "Px": price} | others}
+
+
+class Writing(unittest.TestCase):
+    def test_what_is_shown_is_written(self):
+        for name, packets in (("worked", False), ("book", False), ("trade", False), ("moex", True)):
+            templates, canonical, lines = text(f"{name}.json"), data(f"{name}.canon"), text(f"{name}.jsonl")
+            self.assertEqual(fastcat.show(templates, canonical, packets=packets, json=True), lines)
+            for given in (lines, lines.encode(), bytearray(lines.encode()), lines.splitlines(), lines.splitlines(keepends=True),
+                          iter(lines.encode().splitlines()), messages(lines), tuple(messages(lines))):
+                with self.subTest(name=name, given=type(given)):
+                    self.assertEqual(fastcat.write(templates, given, packets=packets), canonical)
+
+    def test_templates_of_a_file(self):
+        with open(EXAMPLES / "worked.jsonl", encoding="utf-8") as lines:
+            self.assertEqual(fastcat.write(EXAMPLES / "worked.json", lines), data("worked.canon"))
+
+    def test_decimals(self):
+        """Behind the map, 1 and AB: the exponent and the mantissa, in groups of seven bits."""
+        rows = (
+            (decimal.Decimal("4500.250"), "fd0212569a"),
+            (decimal.Decimal("4500.25"), "fe1b3be9"),
+            (decimal.Decimal("4.50025E+3"), "fe1b3be9"),
+            (decimal.Decimal("-1"), "80ff"),
+            (decimal.Decimal("1E+2"), "8281"),
+            (4500, "802394"),
+            ("4500.250", "fd0212569a"),
+        )
+        for price, expected in rows:
+            with self.subTest(price=price):
+                self.assertEqual(fastcat.write(WORKED, [quote(price)]).hex(), "f0818141c2" + expected)
+
+    def test_bytes(self):
+        for raw in (b"\x01\xff", bytearray(b"\x01\xff"), memoryview(b"\x01\xff"), "01ff", "01FF"):
+            with self.subTest(raw=raw):
+                message = {"id": 15, "fields": {"Px": decimal.Decimal("1.00"), "Raw": raw}}
+                self.assertEqual(fastcat.write(WORKED, [message]).hex(), "e08f00e48301ff")
+
+    def test_a_line_feed_in_a_string(self):
+        self.assertEqual(fastcat.write(WORKED, [quote(decimal.Decimal("1.00"), Sym="A\nB")]).hex(), "f08181410ac2fe00e4")
+
+    def test_room_is_grown(self):
+        """A hundred fields that are left out are a byte each."""
+        instructions = [{"kind": "uInt32", "name": f"F{n}", "presence": "optional"} for n in range(100)]
+        templates = json.dumps({"templates": [{"name": "T", "id": 1, "instructions": instructions}]})
+        self.assertEqual(fastcat.write(templates, [{"id": 1, "fields": {}}]), b"\xc0\x81" + b"\x80" * 100)
+
+    def test_nothing(self):
+        for given in ("", b"", [], " \r\n\t\n"):
+            self.assertEqual(fastcat.write(WORKED, given), b"")
+            self.assertEqual(fastcat.write(WORKED, given, packets=True), b"")
+
+    def refusal(self, *arguments, **named):
+        with self.assertRaises(fastcat.FastcatError) as caught:
+            fastcat.write(*arguments, **named)
+        return caught.exception
+
+    def test_refused(self):
+        good = quote(decimal.Decimal("1.00"))
+        error = self.refusal(WORKED, [good, good | {"fields": {"Seq": 2, "Sym": 5, "Px": 1}}, good])
+        self.assertEqual(str(error), "refused Mismatch line=2 template=1 instruction=2")
+        self.assertEqual((error.written, error.answer.written), (ONE, 8))
+        self.assertIs(error.answer.status, fastcat.Status.LINE_REFUSED)
+        self.assertEqual(error.answer.message, 2)
+        copied = pickle.loads(pickle.dumps(error))
+        self.assertEqual((copied.written, copied.answer), (error.written, error.answer))
+        error = self.refusal(WORKED, text("worked.jsonl") + "\n" + '{"id":14,"fields":{"K":8,"D":3}}')
+        self.assertEqual(str(error), "refused NotConstant line=4 template=14 instruction=1")
+        self.assertEqual(error.written, data("worked.canon"))
+        self.assertEqual(str(self.refusal("[]", [good])), "templates refused S1 template=0 instruction=0")
+
+    def test_refused_in_packets(self):
+        good = quote(decimal.Decimal("1.00"))
+        numbered = [good | {"packet": 1}, good | {"packet": 3}]
+        self.assertEqual(fastcat.write(WORKED, numbered, packets=True), (b"\x88" + ONE) * 2)
+        error = self.refusal(WORKED, [good | {"packet": 2}, good | {"packet": 1}], packets=True)
+        self.assertEqual(str(error), "refused Line line=2 template=0 instruction=0")
+        self.assertEqual(error.written, b"\x88" + ONE)
+        self.assertIs(self.refusal(WORKED, [good], packets=True).answer.cause, fastcat.Cause.Line)
+        self.assertIs(self.refusal(WORKED, [good | {"packet": 1}]).answer.cause, fastcat.Cause.Line)
+
+    def test_a_packet_is_full(self):
+        """A packet has at most 65,535 bytes; what stands before the line that is too much is written."""
+        templates = '{"templates":[{"name":"T","id":5,"instructions":[{"kind":"string","charset":"unicode","name":"U"}]}]}'
+        message = {"packet": 1, "id": 5, "fields": {"U": "A" * 40_000}}
+        error = self.refusal(templates, [message, message], packets=True)
+        self.assertEqual(str(error), "refused Limit line=2 template=0 instruction=0")
+        self.assertEqual(error.written, bytes.fromhex("0238c5c0850238c0") + b"A" * 40_000)
+        error = self.refusal(templates, [{"id": 5, "fields": {"U": "A" * 65_536}}])
+        self.assertEqual(str(error), "refused Limit line=1 template=5 instruction=1")
+
+    def test_what_is_no_message(self):
+        for price in (4500.5, float("nan")):
+            with self.assertRaisesRegex(TypeError, "decimal.Decimal"):
+                fastcat.write(WORKED, [quote(price)])
+        with self.assertRaisesRegex(TypeError, "decimal.Decimal"):
+            fastcat.write(WORKED, [{"id": 4, "fields": {"L": [{"P": 1.5}]}}])
+        for given in (5, None, quote(1), [5], [None], [[]]):
+            with self.subTest(given=given), self.assertRaisesRegex(TypeError, "^messages: "):
+                fastcat.write(WORKED, given)
+        line = text("worked.jsonl").splitlines()[0]
+        for item in (line + "\n" + line, line.encode() + b"\n\n"):
+            with self.assertRaisesRegex(ValueError, "one line"):
+                fastcat.write(WORKED, [item])
+
+
 class Causes(unittest.TestCase):
     """Each cause has the number of fastcat.h and of the table, and is what its row is refused for."""
 
@@ -169,9 +284,7 @@ class Causes(unittest.TestCase):
         header = dict(re.findall(r"FASTCAT_(\w+) = (\d+),? */\* [^\n]*", HEADER.split("enum fastcat_cause")[1].split("};")[0]))
         header["NO_CAUSE"] = "0"
         self.assertEqual(header, {name: number for _, name, number, _, _ in self.ROWS})
-        of_python = {name_in_c(it.name): str(it.value) for it in fastcat.Cause}
-        of_python["NO_CAUSE"] = of_python.pop("NONE")
-        self.assertEqual(of_python, header)
+        self.assertEqual({name_in_c(it.name): str(it.value) for it in fastcat.Cause}, header)
         statuses = dict(re.findall(r"FASTCAT_(\w+) = (\d+)", HEADER.split("enum fastcat_status")[1].split("};")[0]))
         self.assertEqual({it.name: str(it.value) for it in fastcat.Status}, statuses)
 
@@ -181,6 +294,8 @@ class Causes(unittest.TestCase):
             with self.subTest(name=name):
                 if kind == "stream":
                     call, given = fastcat.check, (over, bytes.fromhex(what), mode in "13", mode in "23")
+                elif kind == "line":
+                    call, given = fastcat.write, (over, what)
                 elif kind == "templates":
                     call, given = fastcat.check_templates, (what,)
                 else:

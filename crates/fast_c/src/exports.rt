@@ -3,8 +3,11 @@
 ghost use Rattle.std.specs.Prelude.{◌≡◌, ◌≢◌, ◌≤◌, length};
 ghost use Rattle.fast_slices.specs.Answers.{answer_of};
 ghost use Rattle.fast_slices.specs.Calls.{Canons, Checks, ChecksText, Done, Shows};
+ghost use Rattle.fast_slices.specs.Lines.{WritesText};
 
-use fast_slices::{Answer, VERSION_NUMBER, answer_of, canon, check_stream, check_templates, show};
+use fast_slices::{
+    Answer, VERSION_NUMBER, answer_of, canon, check_stream, check_templates, show, write,
+};
 use std::alloc::Global;
 
 /// Writes the canonical bytes of a stream into the front of a room, and answers the status. A room of as many bytes as
@@ -56,6 +59,23 @@ pub extern "C" fn fastcat_show(
         × (answer.new ≡ answer_of done) × (result ≡ answer.new.status) }
 {
     *answer = answer_of(show(alloc, templates, mode, stream, room));
+    answer.status
+}
+
+/// Writes the canonical bytes of the messages of lines into the front of a room, and answers the status.
+#[unsafe(no_mangle)]
+pub extern "C" fn fastcat_write(
+    alloc: Global,
+    templates: &[u8],
+    mode: u32,
+    lines: &[u8],
+    room: &mut [u8],
+    answer: &mut Answer,
+) -> u32
+    ensures { (done : Done) × WritesText templates.now mode lines.now room.old room.new done
+        × (answer.new ≡ answer_of done) × (result ≡ answer.new.status) }
+{
+    *answer = answer_of(write(alloc, templates, mode, lines, room));
     answer.status
 }
 

@@ -34,7 +34,9 @@ use Rattle.fast_slices.specs.Answers.{answer_of}
 use Rattle.fast_recording.specs.Calls.{WritesCanonical}
 use Rattle.fast_slices.proofs.Recordings.{front_no_longer}
 use Rattle.fast_slices.specs.Packets.{WritesPackets}
+use Rattle.fast_slices.specs.Ways.{way_of}
 use Rattle.fast_slices.specs.declared.way.Reading.{Reading}
+use Rattle.fast_slices.specs.declared.way.Way.{Way}
 use Rattle.fast_slices.specs.Calls.{Canons, CountsStream, Done, LooksAs, StreamDone, IsRefused, Measures, Needs, Overflows, RefusesCall, Settles, Writes}
 
 -- ---- why a stream is refused
@@ -253,14 +255,14 @@ counted_all mode set stream old new ran r none h s = absurd s
 -- ---- a room of as many bytes as the stream
 
 -- a call that is refused before its stream is looked at asks for no room
-no_room : (text : List ℕ) (word : ℕ) (stream : List ℕ) (needed : ℕ) → RefusesCall text word stream (Refusal.Room needed) → ⊥
-no_room text word stream needed (inl h) = let e = h.0 in absurd cc
-no_room text word stream needed (inr (inl h)) = let e = h.0 in absurd cc
-no_room text word stream needed (inr (inr (some, few, inl e))) = absurd cc
-no_room text word stream needed (inr (inr (some, few, inr (fault, e, machine, loads)))) = absurd cc
+no_room : (asked : Option Way) (text stream : List ℕ) (needed : ℕ) → RefusesCall asked text stream (Refusal.Room needed) → ⊥
+no_room asked text stream needed (inl h) = let e = h.0 in absurd cc
+no_room asked text stream needed (inr (some, inl h)) = let e = h.0 in absurd cc
+no_room asked text stream needed (inr (some, inr (few, inl e))) = absurd cc
+no_room asked text stream needed (inr (some, inr (few, inr (fault, e, machine, loads)))) = absurd cc
 
 pub room_enough : (text : List ℕ) (word : ℕ) (stream old new : List ℕ) (r : Done) → Canons text word stream old new r → length stream ≤ length old → (answer_of r).status ≢ 3
-room_enough text word stream old new (Err (Refusal.Room needed)) (inl h) enough e = absurd (no_room text word stream needed h.0)
+room_enough text word stream old new (Err (Refusal.Room needed)) (inl h) enough e = absurd (no_room (way_of word) text stream needed h.0)
 room_enough text word stream old new (Err (Refusal.Room needed)) (inr (set, way, given, over)) enough e = by_reading way.reading over
   where
     by_reading : (reading : Reading) → LooksAs (λ mode. Writes IsCanonical mode (templates_in set) stream old new) (λ level. WritesPackets (WritesCanonical set) level set stream old new) reading (Err (Refusal.Room needed)) → ⊥

@@ -1,6 +1,8 @@
 -- What C is answered. The statuses and the numbers of causes are this project's own.
 use Rattle.std.specs.Prelude.{ℕ, ◌-◌, Result, Ok, Err}
 use Rattle.fast_stream.specs.declared.fault.Cause.{Cause}
+use Rattle.fast_spelled.specs.declared.fault.LineCause.{LineCause}
+use Rattle.fast_nodes.specs.declared.fault.EncodeCause.{EncodeCause}
 use Rattle.fast_written.specs.declared.fault.LoadCause.{LoadCause}
 use Rattle.fast_stream.specs.declared.fault.Fault.{Fault}
 use Rattle.fast_slices.specs.declared.answer.Answer.{Answer}
@@ -44,6 +46,32 @@ load_cause_number_of LoadCause.TooDeep = 110
 load_cause_number_of LoadCause.TooMany = 111
 load_cause_number_of LoadCause.Memory = 0
 
+-- The number of a cause for which a line stands for no message: that of a stream's cause of this name, or one from 201.
+abbrev pub line_cause_number_of : LineCause → ℕ
+line_cause_number_of LineCause.D2 = 1
+line_cause_number_of LineCause.D9 = 6
+line_cause_number_of LineCause.R1 = 8
+line_cause_number_of LineCause.Limit = 16
+line_cause_number_of LineCause.Json = 201
+line_cause_number_of LineCause.Line = 202
+line_cause_number_of LineCause.Member = 203
+line_cause_number_of LineCause.Mismatch = 204
+line_cause_number_of LineCause.Memory = 0
+
+-- and of one for which its message has no form
+abbrev pub message_cause_number_of : EncodeCause → ℕ
+message_cause_number_of EncodeCause.D4 = 2
+message_cause_number_of EncodeCause.D6 = 4
+message_cause_number_of EncodeCause.D9 = 6
+message_cause_number_of EncodeCause.R1 = 8
+message_cause_number_of EncodeCause.Limit = 16
+message_cause_number_of EncodeCause.Mismatch = 204
+message_cause_number_of EncodeCause.D3 = 205
+message_cause_number_of EncodeCause.NotConstant = 206
+message_cause_number_of EncodeCause.TooShort = 207
+message_cause_number_of EncodeCause.Memory = 0
+message_cause_number_of EncodeCause.Write = 0
+
 -- an answer that tells of its status alone
 abbrev pub bare_of : ℕ → Answer
 bare_of status = record { messages = 0; read = 0; written = 0; message = 0; offset = 0; status = status; cause = 0; template = 0; instruction = 0; packets = 0; packet = 0 }
@@ -60,12 +88,18 @@ of_fault f written = record (bare_of 1) {
   instruction = f.place.instruction;
 }
 
+-- what is answered of a line that is refused
+abbrev pub of_line : ℕ → ℕ → ℕ → ℕ → ℕ → Answer
+of_line line cause template instruction written = record (bare_of 7) { written = written; message = line; cause = cause; template = template; instruction = instruction }
+
 -- what C is answered: 0 done, 1 the stream or a packet is refused, 2 the templates are, 3 the room is too short for so many bytes, 4
--- memory was refused, 5 the mode is unknown, 6 the stream is too long
+-- memory was refused, 5 the mode is unknown, 6 the stream is too long, 7 a line is refused
 abbrev pub answer_of : Result Counts Refusal → Answer
 answer_of (Ok s) = record (bare_of 0) { messages = s.messages; read = s.read; written = s.written; packets = s.packets }
 answer_of (Err (Refusal.Stream f written)) = of_fault f written
 answer_of (Err (Refusal.Packet f written)) = record (of_fault f.fault written) { packets = f.packet - 1; packet = f.packet }
+answer_of (Err (Refusal.Line number f written)) = of_line number (line_cause_number_of f.cause) f.template f.instruction written
+answer_of (Err (Refusal.Message number template f written)) = of_line number (message_cause_number_of f.cause) template f.instruction written
 answer_of (Err (Refusal.Templates f)) = record (bare_of 2) { cause = load_cause_number_of f.cause; template = f.template; instruction = f.instruction }
 answer_of (Err (Refusal.Room needed)) = record (bare_of 3) { written = needed }
 answer_of (Err Refusal.Memory) = bare_of 4

@@ -1,5 +1,5 @@
 -- What a call did with a template text, a stream and the room that C lent it.
-use Rattle.std.specs.Prelude.{◌≡◌, ◌≢◌, ◌⊎◌, ◌<◌, ◌≤◌, ◌^◌, ℕ, List, length, None, Some, ◌+◌, Result, Ok, Err, IsErrAnd, IsSome, IsUtf8}
+use Rattle.std.specs.Prelude.{◌≡◌, ◌≢◌, ◌⊎◌, ◌<◌, ◌≤◌, ◌^◌, ℕ, List, length, Option, None, Some, ◌+◌, Result, Ok, Err, IsErrAnd, IsSome, IsUtf8}
 use Rattle.serde_json.specs.Data.{Data}
 use Rattle.serde_json.specs.Read.{read}
 use Rattle.fast_wire.specs.declared.level.Level.{Level}
@@ -144,25 +144,26 @@ CountsStream mode set stream r = ⊥
 
 -- ---- a call
 
--- what a call is given has these templates and this way
-pub record Prepares (text : List ℕ) (word : ℕ) (stream : List ℕ) (set : TemplateList) (way : Way) : Type 0 where
-  pub way_is : way_of word ≡ Some way
+-- what a call is given has these templates and this way, that its word stands for
+pub record Prepares {A : Type 0} (asked : Option A) (text stream : List ℕ) (set : TemplateList) (way : A) : Type 0 where
+  pub way_is : asked ≡ Some way
   pub few : length stream < 2 ^ 40
   pub loads : LoadsText text (Ok set)
   pub sound : IsSound set
 
+-- a stream of this size, or a template text, is refused
+abbrev pub RefusesGiven : List ℕ → List ℕ → Refusal → Type 0
+RefusesGiven text stream r = ((r ≡ Refusal.TooLong) × (2 ^ 40 ≤ length stream)) ⊎ ((length stream < 2 ^ 40) × RefusesText text r)
+
 -- The first that is not right is answered: the mode, the size of the stream, the templates.
-abbrev pub RefusesCall : List ℕ → ℕ → List ℕ → Refusal → Type 0
-RefusesCall text word stream r =
-    ((r ≡ Refusal.Mode) × (way_of word ≡ None))
-    ⊎ ((r ≡ Refusal.TooLong) × IsSome (way_of word) × (2 ^ 40 ≤ length stream))
-    ⊎ (IsSome (way_of word) × (length stream < 2 ^ 40) × RefusesText text r)
+abbrev pub RefusesCall : {A : Type 0} → Option A → List ℕ → List ℕ → Refusal → Type 0
+RefusesCall asked text stream r = ((r ≡ Refusal.Mode) × (asked ≡ None)) ⊎ (IsSome asked × RefusesGiven text stream r)
 
 -- The call is refused before the stream is looked at; or it was looked at with the templates of the text.
-abbrev pub Calls : (Way → TemplateList → Done → Type 0) → Type 0 → List ℕ → ℕ → List ℕ → Done → Type 0
-Calls Looks Stays text word stream r =
-    (IsErrAnd r (RefusesCall text word stream) × Stays)
-    ⊎ ((set : TemplateList) × (way : Way) × Prepares text word stream set way × Looks way set r)
+abbrev pub Calls : {A : Type 0} → Option A → (A → TemplateList → Done → Type 0) → Type 0 → List ℕ → List ℕ → Done → Type 0
+Calls {A = A} asked Looks Stays text stream r =
+    (IsErrAnd r (RefusesCall asked text stream) × Stays)
+    ⊎ ((set : TemplateList) × (way : A) × Prepares asked text stream set way × Looks way set r)
 
 -- of a stream this was done, or of a recording
 abbrev pub LooksAs : (Mode → StreamDone → Type 0) → (Level → Done → Type 0) → Reading → Done → Type 0
@@ -171,14 +172,14 @@ LooksAs OfStream OfRecording (Reading.Recording level) r = OfRecording level r
 
 abbrev pub Canons : List ℕ → ℕ → List ℕ → List ℕ → List ℕ → Done → Type 0
 Canons text word stream old new r =
-    Calls (λ way set. LooksAs (λ mode. Writes IsCanonical mode (templates_in set) stream old new) (λ level. WritesPackets (WritesCanonical set) level set stream old new) way.reading) (new ≡ old) text word stream r
+    Calls (way_of word) (λ way set. LooksAs (λ mode. Writes IsCanonical mode (templates_in set) stream old new) (λ level. WritesPackets (WritesCanonical set) level set stream old new) way.reading) (new ≡ old) text stream r
 
 abbrev pub Shows : List ℕ → ℕ → List ℕ → List ℕ → List ℕ → Done → Type 0
 Shows text word stream old new r =
-    Calls (λ way set. LooksAs (λ mode. Writes (LinesOf way.form set) mode (templates_in set) stream old new) (λ level. WritesPackets (WritesLines way.form set) level set stream old new) way.reading) (new ≡ old) text word stream r
+    Calls (way_of word) (λ way set. LooksAs (λ mode. Writes (LinesOf way.form set) mode (templates_in set) stream old new) (λ level. WritesPackets (WritesLines way.form set) level set stream old new) way.reading) (new ≡ old) text stream r
 
 abbrev pub Checks : List ℕ → ℕ → List ℕ → Done → Type 0
-Checks text word stream r = Calls (λ way set. LooksAs (λ mode. CountsStream mode (templates_in set) stream) (λ level. CountsPackets level set stream) way.reading) (Unit {0}) text word stream r
+Checks text word stream r = Calls (way_of word) (λ way set. LooksAs (λ mode. CountsStream mode (templates_in set) stream) (λ level. CountsPackets level set stream) way.reading) (Unit {0}) text stream r
 
 -- the text has templates, or is refused
 abbrev pub ChecksText : List ℕ → Done → Type 0

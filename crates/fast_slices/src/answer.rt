@@ -1,16 +1,17 @@
 //! What a call answers.
 
 ghost use Rattle.std.specs.Prelude.{◌≡◌};
-ghost use Rattle.fast_slices.specs.Answers.{answer_of as answer_of_lem, bare_of, cause_number_of, load_cause_number_of, of_fault as of_fault_lem};
+ghost use Rattle.fast_slices.specs.Answers.{answer_of as answer_of_lem, bare_of, cause_number_of, line_cause_number_of, load_cause_number_of, message_cause_number_of, of_fault as of_fault_lem, of_line as of_line_lem};
 
 use fast_recording::PacketFault;
 use fast_stream::{Cause, Fault};
+use fast_write::{EncodeCause, EncodeFault, LineCause, LineFault};
 use fast_written::{LoadCause, LoadFault};
 
 /// What a call counted.
 #[derive(Clone, Copy)]
 pub struct Counts {
-    /// The packets of a recording; 0 of a stream.
+    /// The packets of a recording that was read; 0 of a stream, and of lines that are written.
     pub packets: u64,
     pub messages: u64,
     /// The bytes that were read.
@@ -26,6 +27,10 @@ pub enum Refusal {
     Stream(Fault, u64),
     /// A packet of the recording is, likewise.
     Packet(PacketFault, u64),
+    /// A line, counted from 1, stands for no message; behind the fault how many bytes were put into the room.
+    Line(u64, LineFault, u64),
+    /// The message of a line, of a template of this identifier, has no form; likewise.
+    Message(u64, u32, EncodeFault, u64),
     /// The templates are refused.
     Templates(LoadFault),
     /// What is to be written is more than the room; how many bytes it is.
@@ -49,15 +54,15 @@ pub struct Answer {
     /// The bytes that were put into the room, or of a check those that would be; of a room that is too short those that
     /// are needed.
     pub written: u64,
-    /// The message at which the stream or the packet is refused, from 1.
+    /// The message at which the stream or the packet is refused, or the line, from 1.
     pub message: u64,
     /// How many bytes stand before the piece that is refused.
     pub offset: u64,
     /// How the call ended: 0 for done.
     pub status: u32,
-    /// Why the stream or the templates are refused.
+    /// Why the stream, the line or the templates are refused.
     pub cause: u32,
-    /// Of a refused stream the template's identifier, of refused templates the template's place, from 1.
+    /// Of a refused stream or line the template's identifier, of refused templates the template's place, from 1.
     pub template: u32,
     /// The instruction's number, from 1.
     pub instruction: u32,
@@ -112,6 +117,41 @@ fn load_cause_number(cause: LoadCause) -> u32
     }
 }
 
+/// The number of a cause for which a line stands for no message.
+fn line_cause_number(cause: LineCause) -> u32
+    ensures { result ≡ line_cause_number_of cause }
+{
+    match cause {
+        LineCause::D2 => 1,
+        LineCause::D9 => 6,
+        LineCause::R1 => 8,
+        LineCause::Limit => 16,
+        LineCause::Json => 201,
+        LineCause::Line => 202,
+        LineCause::Member => 203,
+        LineCause::Mismatch => 204,
+        LineCause::Memory => 0,
+    }
+}
+
+/// The number of a cause for which the message of a line has no form.
+fn message_cause_number(cause: EncodeCause) -> u32
+    ensures { result ≡ message_cause_number_of cause }
+{
+    match cause {
+        EncodeCause::D4 => 2,
+        EncodeCause::D6 => 4,
+        EncodeCause::D9 => 6,
+        EncodeCause::R1 => 8,
+        EncodeCause::Limit => 16,
+        EncodeCause::Mismatch => 204,
+        EncodeCause::D3 => 205,
+        EncodeCause::NotConstant => 206,
+        EncodeCause::TooShort => 207,
+        EncodeCause::Memory | EncodeCause::Write => 0,
+    }
+}
+
 /// An answer that tells of its status alone.
 fn bare(status: u32) -> Answer
     ensures { result ≡ bare_of status }
@@ -147,6 +187,20 @@ fn of_fault(fault: Fault, written: u64) -> Answer
     }
 }
 
+/// What is answered of a line that is refused.
+fn of_line(line: u64, cause: u32, template: u32, instruction: u32, written: u64) -> Answer
+    ensures { result ≡ of_line_lem line cause template instruction written }
+{
+    Answer {
+        written,
+        message: line,
+        cause,
+        template,
+        instruction,
+        ..bare(7)
+    }
+}
+
 /// What C is answered.
 pub fn answer_of(done: Result<Counts, Refusal>) -> Answer
     ensures { result ≡ answer_of_lem done }
@@ -165,6 +219,20 @@ pub fn answer_of(done: Result<Counts, Refusal>) -> Answer
             packet: refused.packet,
             ..of_fault(refused.fault, written)
         },
+        Err(Refusal::Line(number, fault, written)) => of_line(
+            number,
+            line_cause_number(fault.cause),
+            fault.template,
+            fault.instruction,
+            written,
+        ),
+        Err(Refusal::Message(number, template, fault, written)) => of_line(
+            number,
+            message_cause_number(fault.cause),
+            template,
+            fault.instruction,
+            written,
+        ),
         Err(Refusal::Templates(fault)) => Answer {
             cause: load_cause_number(fault.cause),
             template: fault.template,

@@ -4,7 +4,8 @@ ghost use Rattle.std.specs.Prelude.{◌<◌, ◌≡◌, ◌≤◌, ◌^◌, leng
 ghost use Rattle.fast_template.specs.TemplateSets.{IsSound, templates_in};
 ghost use Rattle.fast_writer.specs.Canonical.{IsCanonical};
 ghost use Rattle.fast_command.specs.Run.{LinesOf};
-ghost use Rattle.fast_slices.specs.Calls.{Canons, Checks, ChecksText, CountsStream, LoadsText, Measures, Prepares, RefusesCall, RefusesText, Settles, Shows, Writes, of_stream as of_stream_lem};
+ghost use Rattle.fast_slices.specs.Calls.{Canons, Checks, ChecksText, CountsStream, LoadsText, Measures, Prepares, RefusesCall, RefusesGiven, RefusesText, Settles, Shows, Writes, of_stream as of_stream_lem};
+ghost use Rattle.fast_slices.specs.Ways.{way_of as way_of_lem};
 
 use crate::answer::{Counts, Refusal};
 use crate::input::SliceInput;
@@ -166,6 +167,23 @@ fn check_with(
     settle(ran, &[], &mut [])
 }
 
+/// The templates of a text, once the size of what a call is to read was looked at.
+pub(crate) fn templates_for(
+    alloc: Global,
+    templates: &[u8],
+    stream: &[u8],
+) -> Result<TemplateSet, Refusal>
+    ensures few { IfOk result (λ _. length stream.now < 2 ^ 40) }
+    ensures loads { IfOk result (λ set. LoadsText templates.now (Ok set)) }
+    ensures sound { IfOk result IsSound }
+    ensures refused { IfErr result (RefusesGiven templates.now stream.now) }
+{
+    if stream.len() as u64 >= TURNS {
+        return Err(Refusal::TooLong);
+    }
+    load(alloc, templates)
+}
+
 /// Looks at what a call was given, in this order: the mode, the size of the stream, the templates.
 fn prepare(
     alloc: Global,
@@ -173,16 +191,13 @@ fn prepare(
     word: u32,
     stream: &[u8],
 ) -> Result<(TemplateSet, Way), Refusal>
-    ensures ok { IfOk result (λ p. Prepares templates.now word stream.now p.0 p.1) }
-    ensures refused { IfErr result (RefusesCall templates.now word stream.now) }
+    ensures ok { IfOk result (λ p. Prepares (way_of_lem word) templates.now stream.now p.0 p.1) }
+    ensures refused { IfErr result (RefusesCall (way_of_lem word) templates.now stream.now) }
 {
     let Some(way) = way_of(word) else {
         return Err(Refusal::Mode);
     };
-    if stream.len() as u64 >= TURNS {
-        return Err(Refusal::TooLong);
-    }
-    let set = load(alloc, templates)?;
+    let set = templates_for(alloc, templates, stream)?;
     Ok((set, way))
 }
 

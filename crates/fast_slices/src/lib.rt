@@ -1,4 +1,5 @@
-//! Commands over a stream or a recording in memory: it is canonicalised, checked or shown into a room, and a template text is checked.
+//! Commands over a stream or a recording in memory: it is canonicalised, checked or shown into a room. Lines are written, and a
+//! template text is checked.
 //! What is answered has the shape that C reads (`fast_c`).
 #![tactic(auto)]
 
@@ -6,6 +7,7 @@ mod answer;
 mod call;
 mod input;
 mod kept;
+mod lines;
 mod recording;
 mod tally;
 mod way;
@@ -13,3 +15,4 @@ mod way;
 pub use answer::{Answer, Counts, Refusal, answer_of};
 pub use call::{canon, check_stream, check_templates, show};
 pub use fast_command::VERSION_NUMBER;
+pub use lines::write;
