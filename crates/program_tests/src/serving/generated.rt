@@ -7,7 +7,7 @@ use crate::serving::programs::{CASE, Case, Templates};
 use std::alloc::{AllocError, Global};
 use std::process::Abort;
 
-/// Messages of the worked templates that can be read from any entries.
+/// Messages of the worked templates that can be read from any entries that these leave.
 const MESSAGES: &[&[u8]] = &[
     b"\xf0\x81\x81\x41\xc2\x80\x00\xe4",
     b"\xf8\x81\x81\x41\xc2\x80\xff\x88",
@@ -19,11 +19,9 @@ const MESSAGES: &[&[u8]] = &[
     b"\xc0\x85\x82\xc0\x87\x80",
     b"\xc0\x86\x83",
     b"\xe0\x88\x61\xe2",
-    b"\xe0\x89\x80",
     b"\xc0\x8a\x80\x47\x45\x48\xb6",
     b"\xf0\x8b\xc0\x85\x86",
     b"\xd0\x8b\x86",
-    b"\xe0\x8c\x82\xc3\xa9",
     b"\xc0\x8e",
     b"\xf0\x8e\x84",
     b"\xe0\x8f\x00\xe4\x83\x0a\xff",
@@ -46,7 +44,7 @@ fn next_of(number: u64) -> u64 {
 
 /// The message that a number draws.
 fn drawn(number: u64) -> &'static [u8] {
-    let place = (number >> 40) % 19;
+    let place = (number >> 40) % 17;
     MESSAGES.get(place as usize).copied().unwrap_or(b"")
 }
 
