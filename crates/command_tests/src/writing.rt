@@ -52,11 +52,30 @@ fn answered(
     }
 }
 
+/// Writes a text, whose lines say their packets or do not.
+fn play(
+    alloc: Global,
+    set: &TemplateSet,
+    packets: bool,
+    form: OutputForm,
+    input: ScriptInput<'_>,
+    out: &mut ScriptOutput,
+) -> Result<WrittenSummary, WriteFault> {
+    let mut reader = Counted::new(input);
+    let mut writer = Counted::new(out);
+    if packets {
+        write_packets(alloc, set, form, &mut reader, &mut writer, 100_000)
+    } else {
+        write_lines(alloc, set, form, &mut reader, &mut writer, 100_000)
+    }
+}
+
 /// What is written of a text in steps of one size, and what is answered.
 fn written(
     rt: &impl Abort,
     alloc: Global,
     set: &TemplateSet,
+    packets: bool,
     form: OutputForm,
     text: &[u8],
     step: usize,
@@ -64,9 +83,8 @@ fn written(
     requires { 1 ≤ step }
 {
     let mut out = ScriptOutput::new(alloc, 1_000_000, false, false);
-    let mut reader = Counted::new(ScriptInput::new(text, step, 0));
-    let mut writer = Counted::new(&mut out);
-    let answer = write_lines(alloc, set, form, &mut reader, &mut writer, 100_000);
+    let input = ScriptInput::new(text, step, 0);
+    let answer = play(alloc, set, packets, form, input, &mut out);
     let answer = answered(rt, alloc, answer)?;
     let mut bytes = Vec::new(alloc);
     bytes.extend_from_slice(out.bytes())?;
@@ -85,6 +103,7 @@ fn is_written_back(
             rt,
             alloc,
             set,
+            false,
             OutputForm::Bytes,
             row.line.as_bytes(),
             step,
@@ -117,7 +136,15 @@ fn is_answered(
     row: &str,
 ) -> Result<(), AllocError> {
     let row = row_of(row);
-    let (answer, bytes) = written(rt, alloc, set, OutputForm::Hex, row.line.as_bytes(), 4096)?;
+    let (answer, bytes) = written(
+        rt,
+        alloc,
+        set,
+        false,
+        OutputForm::Hex,
+        row.line.as_bytes(),
+        4096,
+    )?;
     same(rt, answer.said.as_str(), row.said);
     same(rt, bytes.as_slice(), row.out.as_bytes());
     Ok(())
@@ -170,36 +197,16 @@ const PACKETS: &[(&str, u64, &str, &str)] = &[
     ),
 ];
 
-/// What is written of lines that say their packets, in steps of one size, and what is answered.
-fn written_in_packets(
-    rt: &impl Abort,
-    alloc: Global,
-    set: &TemplateSet,
-    form: OutputForm,
-    text: &[u8],
-    step: usize,
-) -> Result<(Answer, Vec<u8>), AllocError>
-    requires { 1 ≤ step }
-{
-    let mut out = ScriptOutput::new(alloc, 1_000_000, false, false);
-    let mut reader = Counted::new(ScriptInput::new(text, step, 0));
-    let mut writer = Counted::new(&mut out);
-    let answer = write_packets(alloc, set, form, &mut reader, &mut writer, 100_000);
-    let answer = answered(rt, alloc, answer)?;
-    let mut bytes = Vec::new(alloc);
-    bytes.extend_from_slice(out.bytes())?;
-    Ok((answer, bytes))
-}
-
 #[test]
 fn lines_that_say_their_packets(rt: HostRuntime) -> Result<(), AllocError> {
     let alloc = rt.alloc();
     let set = loaded(&rt, alloc, TEMPLATES)?;
     for (text, line, said, digits) in PACKETS {
-        let (answer, bytes) = written_in_packets(
+        let (answer, bytes) = written(
             &rt,
             alloc,
             &set,
+            true,
             OutputForm::Hex,
             text.as_bytes(),
             4096,
@@ -235,7 +242,13 @@ const CUT_IN_PACKETS: &Cut = &Cut {
 
 /// How many line feeds there are.
 fn line_feeds(text: &[u8]) -> usize {
-    text.iter().filter(|byte| **byte == b'\n').count()
+    let mut count: usize = 0;
+    for byte in text {
+        if *byte == b'\n' {
+            count = count.saturating_add(1);
+        }
+    }
+    count
 }
 
 /// The lines before a cut are written. The one that is cut is too where nothing but its line feed is cut off, and else it is
@@ -268,12 +281,12 @@ fn lines_that_are_cut(rt: HostRuntime) -> Result<(), AllocError> {
     let set = loaded(&rt, alloc, TEMPLATES)?;
     for end in 0..=CUT.text.len() {
         let front = CUT.text.get(..end).unwrap_or(b"");
-        let written = written(&rt, alloc, &set, OutputForm::Bytes, front, 7)?;
+        let written = written(&rt, alloc, &set, false, OutputForm::Bytes, front, 7)?;
         is_cut(&rt, alloc, CUT, front, written)?;
     }
     for end in 0..=CUT_IN_PACKETS.text.len() {
         let front = CUT_IN_PACKETS.text.get(..end).unwrap_or(b"");
-        let written = written_in_packets(&rt, alloc, &set, OutputForm::Bytes, front, 7)?;
+        let written = written(&rt, alloc, &set, true, OutputForm::Bytes, front, 7)?;
         is_cut(&rt, alloc, CUT_IN_PACKETS, front, written)?;
     }
     Ok(())
