@@ -5,268 +5,45 @@ ghost use Rattle.std.specs.Prelude.{◌≤◌};
 use crate::json::{KIND_ROWS, KINDS, Row as Shown, WORKED_ROWS};
 use crate::same::same;
 use crate::worked::{loaded, worked};
-use fast_encoder::EncodeCause;
 use fast_io::{Counted, ScriptInput, ScriptOutput};
-use fast_spelled::LineCause;
 use fast_template::TemplateSet;
 use fast_write::{OutputForm, WriteFault, WrittenSummary, write_lines, write_packets};
+use line_rows::{ROWS, TEMPLATES, row_of};
 use std::alloc::{AllocError, Global};
 use std::process::Abort;
 
-/// The templates of the lines that are refused.
-const TEMPLATES: &str = r#"{"templates":[
-{"name":"Quote","id":1,"instructions":[
- {"kind":"uInt32","name":"Seq","operator":"increment"},
- {"kind":"string","name":"Sym","operator":"copy"},
- {"kind":"decimal","name":"Px","operator":"delta"},
- {"kind":"uInt32","name":"Qty","presence":"optional","operator":"copy"},
- {"kind":"byteVector","name":"B","presence":"optional"},
- {"kind":"string","charset":"unicode","name":"U","presence":"optional"},
- {"kind":"int64","name":"I","presence":"optional"}]},
-{"name":"Legs","id":4,"instructions":[
- {"kind":"sequence","name":"L","instructions":[
-  {"kind":"uInt32","name":"P"},
-  {"kind":"uInt32","name":"P","presence":"optional"}]},
- {"kind":"string","name":"K","operator":"constant","value":"x"}]},
-{"name":"NoId","instructions":[]},
-{"name":"Empty","id":9,"instructions":[]}]}"#;
-
-/// What is answered of a line.
-#[derive(Clone, Copy, Debug, PartialEq, Eq)]
-enum Answer {
-    Taken,
-    /// It stands for no message, and at this instruction.
-    Line(LineCause, u32),
-    /// Its message has no form.
-    Form(EncodeCause, u32),
+/// What is answered of lines: how many there are or which one is refused, and what is said of that.
+#[derive(Drop)]
+struct Answer {
+    line: u64,
+    said: String,
 }
 
-use Answer::{Form, Line, Taken};
-
-/// Lines, and what is answered of each.
-const LINES: &[(&str, Answer)] = &[
-    // lines
-    ("", Taken),
-    (" \t\r", Taken),
-    ("{", Line(LineCause::Json, 0)),
-    ("[]", Line(LineCause::Line, 0)),
-    ("1", Line(LineCause::Line, 0)),
-    ("{}", Line(LineCause::Line, 0)),
-    ("{\"fields\":{}}", Line(LineCause::Line, 0)),
-    ("{\"id\":9}", Line(LineCause::Line, 0)),
-    ("{\"id\":9,\"fields\":{}}", Taken),
-    ("{\"template\":\"Empty\",\"fields\":{}}", Taken),
-    ("{\"template\":\"Empty\",\"id\":9,\"fields\":{}}", Taken),
-    ("{\"template\":null,\"id\":9,\"fields\":{}}", Taken),
-    ("{\"fields\":{},\"id\":9}", Taken),
-    (" {\"id\": 9 , \"fields\" : { } } ", Taken),
-    ("{\"id\":9,\"fields\":{}}\r", Taken),
-    ("{\"id\":9,\"fields\":{},\"x\":1}", Line(LineCause::Line, 0)),
-    (
-        "{\"id\":9,\"id\":9,\"fields\":{}}",
-        Line(LineCause::Line, 0),
-    ),
-    (
-        "{\"id\":9,\"fields\":{},\"fields\":{}}",
-        Line(LineCause::Line, 0),
-    ),
-    ("{\"id\":\"9\",\"fields\":{}}", Line(LineCause::Line, 0)),
-    ("{\"template\":9,\"fields\":{}}", Line(LineCause::Line, 0)),
-    ("{\"id\":9,\"fields\":null}", Line(LineCause::Line, 0)),
-    ("{\"id\":9,\"fields\":[]}", Line(LineCause::Line, 0)),
-    ("{\"id\":9,\"fields\":{}} x", Line(LineCause::Json, 0)),
-    (
-        "{\"id\":9,\"fields\":{}}{\"id\":9,\"fields\":{}}",
-        Line(LineCause::Json, 0),
-    ),
-    ("\u{feff}{\"id\":9,\"fields\":{}}", Line(LineCause::Json, 0)),
-    // templates
-    (
-        "{\"id\":9,\"template\":\"Quote\",\"fields\":{}}",
-        Line(LineCause::D9, 0),
-    ),
-    (
-        "{\"template\":\"NoId\",\"fields\":{}}",
-        Line(LineCause::D9, 0),
-    ),
-    (
-        "{\"template\":\"Nope\",\"fields\":{}}",
-        Line(LineCause::D9, 0),
-    ),
-    ("{\"id\":5,\"fields\":{}}", Line(LineCause::D9, 0)),
-    ("{\"id\":9.0,\"fields\":{}}", Line(LineCause::D9, 0)),
-    ("{\"id\":4294967296,\"fields\":{}}", Line(LineCause::D9, 0)),
-    // members
-    (
-        "{\"id\":9,\"fields\":{\"A\":1}}",
-        Line(LineCause::Member, 0),
-    ),
-    (
-        "{\"id\":1,\"fields\":{\"Seq\":1,\"Px\":1}}",
-        Line(LineCause::Mismatch, 2),
-    ),
-    (
-        "{\"id\":1,\"fields\":{\"Seq\":null,\"Sym\":\"\",\"Px\":1}}",
-        Line(LineCause::Mismatch, 1),
-    ),
-    (
-        "{\"id\":4,\"fields\":{\"K\":\"x\",\"L\":[{\"P\":5},{\"P\":5,\"P\":6},{\"P\":5,\"P\":null}]}}",
-        Taken,
-    ),
-    (
-        "{\"id\":4,\"fields\":{\"L\":[{\"P\":5,\"P\":6,\"P\":7}],\"K\":\"x\"}}",
-        Line(LineCause::Member, 1),
-    ),
-    (
-        "{\"id\":4,\"fields\":{\"L\":[{}],\"K\":\"x\"}}",
-        Line(LineCause::Mismatch, 2),
-    ),
-    (
-        "{\"id\":4,\"fields\":{\"L\":[5],\"K\":\"x\"}}",
-        Line(LineCause::Mismatch, 1),
-    ),
-    (
-        "{\"id\":4,\"fields\":{\"L\":[null],\"K\":\"x\"}}",
-        Line(LineCause::Mismatch, 1),
-    ),
-    (
-        "{\"id\":4,\"fields\":{\"L\":[]}}",
-        Line(LineCause::Mismatch, 4),
-    ),
-    (
-        "{\"id\":4,\"fields\":{\"L\":[],\"K\":\"y\"}}",
-        Form(EncodeCause::NotConstant, 4),
-    ),
-    // numbers
-    (
-        "{\"id\":1,\"fields\":{\"Seq\":1,\"Sym\":\"AB\",\"Px\":1,\"Qty\":\"7\"}}",
-        Taken,
-    ),
-    (
-        "{\"id\":1,\"fields\":{\"Seq\":1,\"Sym\":\"AB\",\"Px\":\"1.50e3\"}}",
-        Taken,
-    ),
-    (
-        "{\"id\":1,\"fields\":{\"Seq\":1,\"Sym\":\"AB\",\"Px\":1,\"Qty\":\"x\"}}",
-        Line(LineCause::Mismatch, 4),
-    ),
-    (
-        "{\"id\":1,\"fields\":{\"Seq\":1,\"Sym\":\"AB\",\"Px\":1,\"Qty\":5.0}}",
-        Line(LineCause::Mismatch, 4),
-    ),
-    (
-        "{\"id\":1,\"fields\":{\"Seq\":1,\"Sym\":\"AB\",\"Px\":1,\"Qty\":5e0}}",
-        Line(LineCause::Mismatch, 4),
-    ),
-    (
-        "{\"id\":1,\"fields\":{\"Seq\":1,\"Sym\":\"AB\",\"Px\":1,\"Qty\":-1}}",
-        Line(LineCause::D2, 4),
-    ),
-    (
-        "{\"id\":1,\"fields\":{\"Seq\":1,\"Sym\":\"AB\",\"Px\":1,\"Qty\":4294967296}}",
-        Line(LineCause::D2, 4),
-    ),
-    (
-        "{\"id\":1,\"fields\":{\"Seq\":1,\"Sym\":\"AB\",\"Px\":1,\"Qty\":true}}",
-        Line(LineCause::Mismatch, 4),
-    ),
-    (
-        "{\"id\":1,\"fields\":{\"Seq\":1,\"Sym\":\"AB\",\"Px\":1,\"Qty\":01}}",
-        Line(LineCause::Json, 0),
-    ),
-    (
-        "{\"id\":1,\"fields\":{\"Seq\":1,\"Sym\":\"AB\",\"Px\":1,\"I\":9223372036854775808}}",
-        Line(LineCause::D2, 7),
-    ),
-    (
-        "{\"id\":1,\"fields\":{\"Seq\":1,\"Sym\":\"AB\",\"Px\":1,\"I\":-9223372036854775808}}",
-        Taken,
-    ),
-    (
-        "{\"id\":1,\"fields\":{\"Seq\":1,\"Sym\":\"AB\",\"Px\":1e63}}",
-        Taken,
-    ),
-    (
-        "{\"id\":1,\"fields\":{\"Seq\":1,\"Sym\":\"AB\",\"Px\":1e64}}",
-        Line(LineCause::R1, 3),
-    ),
-    (
-        "{\"id\":1,\"fields\":{\"Seq\":1,\"Sym\":\"AB\",\"Px\":0e-63}}",
-        Taken,
-    ),
-    (
-        "{\"id\":1,\"fields\":{\"Seq\":1,\"Sym\":\"AB\",\"Px\":0.1e-63}}",
-        Line(LineCause::R1, 3),
-    ),
-    (
-        "{\"id\":1,\"fields\":{\"Seq\":1,\"Sym\":\"AB\",\"Px\":9223372036854775808}}",
-        Line(LineCause::R1, 3),
-    ),
-    (
-        "{\"id\":1,\"fields\":{\"Seq\":1,\"Sym\":\"AB\",\"Px\":-9223372036854775808e0}}",
-        Taken,
-    ),
-    (
-        "{\"id\":1,\"fields\":{\"Seq\":1,\"Sym\":\"AB\",\"Px\":1e99999999999999999999999999}}",
-        Line(LineCause::R1, 3),
-    ),
-    (
-        "{\"id\":1,\"fields\":{\"Seq\":1,\"Sym\":\"AB\",\"Px\":1.}}",
-        Line(LineCause::Json, 0),
-    ),
-    // strings and vectors
-    (
-        "{\"id\":1,\"fields\":{\"Seq\":1,\"Sym\":\"A\\u007f\\u0000\\/\\n\",\"Px\":1}}",
-        Taken,
-    ),
-    (
-        "{\"id\":1,\"fields\":{\"Seq\":1,\"Sym\":\"A\\u00e9\",\"Px\":1}}",
-        Line(LineCause::Mismatch, 2),
-    ),
-    (
-        "{\"id\":1,\"fields\":{\"Seq\":1,\"Sym\":5,\"Px\":1}}",
-        Line(LineCause::Mismatch, 2),
-    ),
-    (
-        "{\"id\":1,\"fields\":{\"Seq\":1,\"Sym\":\"AB\",\"Px\":1,\"B\":\"0aFF\"}}",
-        Taken,
-    ),
-    (
-        "{\"id\":1,\"fields\":{\"Seq\":1,\"Sym\":\"AB\",\"Px\":1,\"B\":\"0aF\"}}",
-        Line(LineCause::Mismatch, 5),
-    ),
-    (
-        "{\"id\":1,\"fields\":{\"Seq\":1,\"Sym\":\"AB\",\"Px\":1,\"B\":\"0x\"}}",
-        Line(LineCause::Mismatch, 5),
-    ),
-    (
-        "{\"id\":1,\"fields\":{\"Seq\":1,\"Sym\":\"AB\",\"Px\":1,\"B\":5}}",
-        Line(LineCause::Mismatch, 5),
-    ),
-    (
-        "{\"id\":1,\"fields\":{\"Seq\":1,\"Sym\":\"AB\",\"Px\":1,\"U\":\"\\u00e9\\ud834\\udd1e\"}}",
-        Taken,
-    ),
-    (
-        "{\"id\":1,\"fields\":{\"Seq\":1,\"Sym\":\"AB\",\"Px\":1,\"U\":\"\\ud834\"}}",
-        Line(LineCause::Json, 0),
-    ),
-];
-
-/// The number of the line, and what is answered.
+/// What is answered. (An output keeps what is written, and fails where memory for it is refused.)
 fn answered(
     rt: &impl Abort,
+    alloc: Global,
     answer: Result<WrittenSummary, WriteFault>,
-) -> Result<(u64, Answer), AllocError> {
+) -> Result<Answer, AllocError> {
     match answer {
-        Ok(counts) => Ok((counts.lines, Answer::Taken)),
-        Err(WriteFault::Line(line, fault)) => {
-            Ok((line, Answer::Line(fault.cause, fault.instruction)))
-        }
-        Err(WriteFault::Message(line, _, fault)) => {
-            Ok((line, Answer::Form(fault.cause, fault.instruction)))
-        }
-        // (the output keeps what is written, and fails where memory for it is refused)
+        Ok(counts) => Ok(Answer {
+            line: counts.lines,
+            said: String::new(alloc),
+        }),
+        Err(WriteFault::Line(line, fault)) => Ok(Answer {
+            line,
+            said: format!(in alloc;
+                "refused {} line={line} template={} instruction={}\n",
+                fault.cause, fault.template, fault.instruction
+            )?,
+        }),
+        Err(WriteFault::Message(line, template, fault)) => Ok(Answer {
+            line,
+            said: format!(in alloc;
+                "refused {} line={line} template={template} instruction={}\n",
+                fault.cause, fault.instruction
+            )?,
+        }),
         Err(WriteFault::Memory | WriteFault::Write) => Err(AllocError),
         Err(fault) => {
             same(rt, fault, WriteFault::Memory);
@@ -275,31 +52,43 @@ fn answered(
     }
 }
 
-/// What was written of a text in steps of one size, and what is answered, with the number of the line.
+/// Writes a text, whose lines say their packets or do not.
+fn play(
+    alloc: Global,
+    set: &TemplateSet,
+    packets: bool,
+    form: OutputForm,
+    input: ScriptInput<'_>,
+    out: &mut ScriptOutput,
+) -> Result<WrittenSummary, WriteFault> {
+    let mut reader = Counted::new(input);
+    let mut writer = Counted::new(out);
+    if packets {
+        write_packets(alloc, set, form, &mut reader, &mut writer, 100_000)
+    } else {
+        write_lines(alloc, set, form, &mut reader, &mut writer, 100_000)
+    }
+}
+
+/// What is written of a text in steps of one size, and what is answered.
 fn written(
     rt: &impl Abort,
     alloc: Global,
     set: &TemplateSet,
+    packets: bool,
+    form: OutputForm,
     text: &[u8],
     step: usize,
-) -> Result<(u64, Answer, Vec<u8>), AllocError>
+) -> Result<(Answer, Vec<u8>), AllocError>
     requires { 1 ≤ step }
 {
     let mut out = ScriptOutput::new(alloc, 1_000_000, false, false);
-    let mut reader = Counted::new(ScriptInput::new(text, step, 0));
-    let mut writer = Counted::new(&mut out);
-    let answer = write_lines(
-        alloc,
-        set,
-        OutputForm::Bytes,
-        &mut reader,
-        &mut writer,
-        100_000,
-    );
-    let (line, answer) = answered(rt, answer)?;
+    let input = ScriptInput::new(text, step, 0);
+    let answer = play(alloc, set, packets, form, input, &mut out);
+    let answer = answered(rt, alloc, answer)?;
     let mut bytes = Vec::new(alloc);
     bytes.extend_from_slice(out.bytes())?;
-    Ok((line, answer, bytes))
+    Ok((answer, bytes))
 }
 
 /// The line that `show` writes of a message is written as that message, whatever a read gives.
@@ -310,8 +99,16 @@ fn is_written_back(
     row: &Shown,
 ) -> Result<(), AllocError> {
     for step in 1..row.line.len() {
-        let (_, answer, bytes) = written(rt, alloc, set, row.line.as_bytes(), step)?;
-        same(rt, answer, Answer::Taken);
+        let (answer, bytes) = written(
+            rt,
+            alloc,
+            set,
+            false,
+            OutputForm::Bytes,
+            row.line.as_bytes(),
+            step,
+        )?;
+        same(rt, answer.said.as_str(), "");
         same(rt, bytes.as_slice(), row.stream);
     }
     Ok(())
@@ -331,54 +128,71 @@ fn lines_that_show_writes(rt: HostRuntime) -> Result<(), AllocError> {
     Ok(())
 }
 
+/// A row's line is answered as it says.
+fn is_answered(
+    rt: &impl Abort,
+    alloc: Global,
+    set: &TemplateSet,
+    row: &str,
+) -> Result<(), AllocError> {
+    let row = row_of(row);
+    let (answer, bytes) = written(
+        rt,
+        alloc,
+        set,
+        false,
+        OutputForm::Hex,
+        row.line.as_bytes(),
+        4096,
+    )?;
+    same(rt, answer.said.as_str(), row.said);
+    same(rt, bytes.as_slice(), row.out.as_bytes());
+    Ok(())
+}
+
 #[test]
 fn lines_and_what_is_answered(rt: HostRuntime) -> Result<(), AllocError> {
     let alloc = rt.alloc();
     let set = loaded(&rt, alloc, TEMPLATES)?;
-    for (line, wanted) in LINES {
-        let (_, answer, _) = written(&rt, alloc, &set, line.as_bytes(), 4096)?;
-        same(&rt, answer, *wanted);
+    for row in ROWS.split_inclusive('\n') {
+        is_answered(&rt, alloc, &set, row)?;
     }
     Ok(())
 }
 
-/// Lines that say their packets, what is answered, with the number of the line, and the digits of what is written.
-const PACKETS: &[(&str, u64, Answer, &str)] = &[
-    ("", 0, Taken, "\n"),
-    (
-        "{\"packet\":1,\"id\":9,\"fields\":{}}",
-        1,
-        Taken,
-        "82c089\n",
-    ),
+/// Lines that say their packets, how many there are or which one is refused, what is said of that, and the digits of what is
+/// written.
+const PACKETS: &[(&str, u64, &str, &str)] = &[
+    ("", 0, "", "\n"),
+    ("{\"packet\":1,\"id\":9,\"fields\":{}}", 1, "", "82c089\n"),
     (
         "{\"packet\":1,\"id\":9,\"fields\":{}}\n{\"id\":9,\"packet\":1,\"fields\":{}}\n\n{\"packet\":3,\"id\":9,\"fields\":{}}\n",
         4,
-        Taken,
+        "",
         "83c0898082c089\n",
     ),
     (
         "{\"packet\":2,\"id\":9,\"fields\":{}}\n{\"packet\":1,\"id\":9,\"fields\":{}}\n",
         2,
-        Line(LineCause::Line, 0),
+        "refused Line line=2 template=0 instruction=0\n",
         "82c089\n",
     ),
     (
         "{\"packet\":2,\"id\":9,\"fields\":{}}\n{\"id\":9,\"fields\":{}}\n",
         2,
-        Line(LineCause::Line, 0),
+        "refused Line line=2 template=0 instruction=0\n",
         "82c089\n",
     ),
     (
         "{\"packet\":0,\"id\":9,\"fields\":{}}\n",
         1,
-        Line(LineCause::Line, 0),
+        "refused Line line=1 template=0 instruction=0\n",
         "\n",
     ),
     (
         "{\"packet\":\"1\",\"id\":9,\"fields\":{}}\n",
         1,
-        Line(LineCause::Line, 0),
+        "refused Line line=1 template=0 instruction=0\n",
         "\n",
     ),
 ];
@@ -387,15 +201,93 @@ const PACKETS: &[(&str, u64, Answer, &str)] = &[
 fn lines_that_say_their_packets(rt: HostRuntime) -> Result<(), AllocError> {
     let alloc = rt.alloc();
     let set = loaded(&rt, alloc, TEMPLATES)?;
-    for (text, line, wanted, digits) in PACKETS {
-        let mut out = ScriptOutput::new(alloc, 1_000_000, false, false);
-        let mut reader = Counted::new(ScriptInput::new(text.as_bytes(), 4096, 0));
-        let mut writer = Counted::new(&mut out);
-        let answer = write_packets(alloc, &set, OutputForm::Hex, &mut reader, &mut writer, 100);
-        let (at, answer) = answered(&rt, answer)?;
-        same(&rt, at, *line);
-        same(&rt, answer, *wanted);
-        same(&rt, out.bytes(), digits.as_bytes());
+    for (text, line, said, digits) in PACKETS {
+        let (answer, bytes) = written(
+            &rt,
+            alloc,
+            &set,
+            true,
+            OutputForm::Hex,
+            text.as_bytes(),
+            4096,
+        )?;
+        same(&rt, answer.line, *line);
+        same(&rt, answer.said.as_str(), said);
+        same(&rt, bytes.as_slice(), digits.as_bytes());
+    }
+    Ok(())
+}
+
+/// A text of three lines, and what is written of none of them, of the first, of two and of all.
+struct Cut {
+    text: &'static [u8],
+    fronts: &'static [&'static [u8]],
+}
+
+const CUT: &Cut = &Cut {
+    text: b"{\"id\":9,\"fields\":{}}\n{\"id\":9,\"fields\":{}}\n{\"id\":9,\"fields\":{}}",
+    fronts: &[b"", b"\xc0\x89", b"\xc0\x89\x80", b"\xc0\x89\x80\x80"],
+};
+
+const CUT_IN_PACKETS: &Cut = &Cut {
+    text: b"{\"packet\":1,\"id\":9,\"fields\":{}}\n{\"packet\":1,\"id\":9,\"fields\":{}}\n\
+        {\"packet\":2,\"id\":9,\"fields\":{}}",
+    fronts: &[
+        b"",
+        b"\x82\xc0\x89",
+        b"\x83\xc0\x89\x80",
+        b"\x83\xc0\x89\x80\x82\xc0\x89",
+    ],
+};
+
+/// How many line feeds there are.
+fn line_feeds(text: &[u8]) -> usize {
+    let mut count: usize = 0;
+    for byte in text {
+        if *byte == b'\n' {
+            count = count.saturating_add(1);
+        }
+    }
+    count
+}
+
+/// The lines before a cut are written. The one that is cut is too where nothing but its line feed is cut off, and else it is
+/// refused.
+fn is_cut(
+    rt: &impl Abort,
+    alloc: Global,
+    cut: &Cut,
+    front: &[u8],
+    (answer, bytes): (Answer, Vec<u8>),
+) -> Result<(), AllocError> {
+    let ended = line_feeds(front);
+    let (count, said) = if front.is_empty() || front.ends_with(b"\n") {
+        (ended, String::new(alloc))
+    } else if front.ends_with(b"}}") {
+        (ended.saturating_add(1), String::new(alloc))
+    } else {
+        let line = ended.saturating_add(1);
+        let said = format!(in alloc; "refused Json line={line} template=0 instruction=0\n")?;
+        (ended, said)
+    };
+    same(rt, answer.said.as_str(), said.as_str());
+    same(rt, Some(&bytes.as_slice()), cut.fronts.get(count));
+    Ok(())
+}
+
+#[test]
+fn lines_that_are_cut(rt: HostRuntime) -> Result<(), AllocError> {
+    let alloc = rt.alloc();
+    let set = loaded(&rt, alloc, TEMPLATES)?;
+    for end in 0..=CUT.text.len() {
+        let front = CUT.text.get(..end).unwrap_or(b"");
+        let written = written(&rt, alloc, &set, false, OutputForm::Bytes, front, 7)?;
+        is_cut(&rt, alloc, CUT, front, written)?;
+    }
+    for end in 0..=CUT_IN_PACKETS.text.len() {
+        let front = CUT_IN_PACKETS.text.get(..end).unwrap_or(b"");
+        let written = written(&rt, alloc, &set, true, OutputForm::Bytes, front, 7)?;
+        is_cut(&rt, alloc, CUT_IN_PACKETS, front, written)?;
     }
     Ok(())
 }

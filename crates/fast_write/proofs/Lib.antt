@@ -9,3 +9,4 @@ pub mod Finishing
 pub mod Withins
 pub mod Shown
 pub mod PacketsShown
+pub mod RecordingsShown

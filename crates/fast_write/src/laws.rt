@@ -1,9 +1,10 @@
 //! Laws of lines that are written.
 
 ghost use Rattle.fast_write.specs.Laws.{WritesWhatIsShown};
-ghost use Rattle.fast_write.specs.PacketLaws.{WritesShownPackets};
+ghost use Rattle.fast_write.specs.PacketLaws.{WritesShownPackets, WritesShownRecording};
 
 use fast_canon::laws::one_reading;
+use fast_packets::laws as recordings;
 use fast_spelled::{
     lines_are_text, lines_spell_messages, names_are_text, numbered_lines_spell_messages,
     numbered_lines_spell_their_messages,
@@ -36,4 +37,17 @@ pub fn shown_packets_are_written(set: &TemplateSet)
     lines_are_text();
     numbered_lines_spell_messages();
     numbered_lines_spell_their_messages();
+}
+
+/// What `show` writes in JSON of a recording, written, is what `canon` writes of that recording, where no packet is refused and
+/// no line has more than 16,777,216 bytes. None of the lines is refused.
+///
+/// It looks at the names of the set, and does nothing else.
+pub fn shown_recording_is_written(set: &TemplateSet)
+    ensures { WritesShownRecording set.now }
+{
+    shown_packets_are_written(set);
+    set.slots();
+    recordings::one_reading();
+    recordings::outcomes_are_one();
 }

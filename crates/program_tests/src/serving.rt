@@ -1,10 +1,13 @@
 //! What no clause says: worked streams, the program's answers, and devices that fail in mid-stream.
 
+mod back;
 mod blocks;
 mod devices;
 mod examples;
 mod explaining;
+mod generated;
 mod granted;
+mod lines;
 mod packets;
 mod programs;
 mod strict;

@@ -1,6 +1,7 @@
 //! The program: its exit status, what it writes, and what it says.
 
 use crate::same::same_of;
+use crate::serving::back::is_written_back;
 use crate::serving::devices::{After, Feed, Full, STREAM, Shelf, TEMPLATES, whole, with_room};
 use crate::serving::examples::{BOOK, TRADE};
 use crate::serving::explaining::MANY;
@@ -62,6 +63,7 @@ pub enum Templates<'a> {
     Many,
     Bare,
     Worked,
+    Lines,
     Text(&'a str),
 }
 
@@ -75,6 +77,7 @@ impl<'a> Templates<'a> {
             Templates::Many => MANY,
             Templates::Bare => BARE,
             Templates::Worked => WORKED,
+            Templates::Lines => line_rows::TEMPLATES,
             Templates::Text(text) => text,
         }
     }
@@ -149,7 +152,7 @@ pub struct Ended {
 }
 
 /// Nothing yet, with room for all that a case writes or says, so that no writer of a test has to grow.
-fn nothing(alloc: Global) -> Result<Ended, AllocError> {
+pub fn nothing(alloc: Global) -> Result<Ended, AllocError> {
     Ok(Ended {
         status: 0,
         out: Vec::with_capacity(alloc, 4096)?,
@@ -159,7 +162,7 @@ fn nothing(alloc: Global) -> Result<Ended, AllocError> {
 }
 
 /// Serves a case. (Its callers are proved in less time than with the clauses of `serve`.)
-fn serve_case(alloc: Global, case: &Case, ended: &mut Ended) {
+pub fn serve_case(alloc: Global, case: &Case, ended: &mut Ended) {
     let mut said = 0;
     let out = with_room(&mut ended.out, &mut ended.flushes, case.room);
     let err = with_room(&mut ended.err, &mut said, case.err_room);
@@ -185,11 +188,12 @@ fn is_answered(rt: &impl Abort, case: &Case, ended: &Ended) -> Result<(), AllocE
     Ok(())
 }
 
-/// Serves a case, which is answered as it is to be.
+/// Serves a case, which is answered as it is to be; and what is canonicalised is written back.
 pub fn served(rt: &impl Abort, alloc: Global, case: &Case) -> Result<(), AllocError> {
     let mut ended = nothing(alloc)?;
     serve_case(alloc, case, &mut ended);
-    is_answered(rt, case, &ended)
+    is_answered(rt, case, &ended)?;
+    is_written_back(rt, alloc, case)
 }
 
 /// Serves cases.

@@ -1,0 +1,304 @@
+//! The program over lines that are written: what is written and said of each row, of cuts, and of what is large.
+
+use crate::serving::devices::TEMPLATES;
+use crate::serving::programs::{CASE, Case, Templates, rows_are_served, served};
+use line_rows::{LineRow, ROWS, row_of};
+use std::alloc::{AllocError, Global};
+use std::process::Abort;
+
+const WRITE_HEX: &[&str] = &["fastcat", "write", "--templates", TEMPLATES, "--hex"];
+
+const WRITE_PACKETS: &[&str] = &["fastcat", "write", "--packets", "--templates", TEMPLATES];
+
+const OVER_LINES: Case = Case {
+    words: WRITE_HEX,
+    templates: Templates::Lines,
+    ..CASE
+};
+
+/// A row's line is answered as it says, in one read and in reads of one byte.
+fn is_answered(rt: &impl Abort, alloc: Global, row: &LineRow<'_>) -> Result<(), AllocError> {
+    let case = Case {
+        input: row.line.as_bytes(),
+        status: if row.said.is_empty() { 0 } else { 1 },
+        out: row.out.as_bytes(),
+        err: row.said,
+        ..OVER_LINES
+    };
+    served(rt, alloc, &case)?;
+    served(rt, alloc, &Case { width: 1, ..case })
+}
+
+#[test]
+fn each_line_is_answered(rt: HostRuntime) -> Result<(), AllocError> {
+    for row in ROWS.split_inclusive('\n') {
+        is_answered(&rt, rt.alloc(), &row_of(row))?;
+    }
+    Ok(())
+}
+
+#[test]
+fn lines_in_a_text(rt: HostRuntime) -> Result<(), AllocError> {
+    const ROWS: &[Case] = &[
+        Case {
+            out: b"\n",
+            ..OVER_LINES
+        },
+        Case {
+            input: b"\n \t\r\n",
+            out: b"\n",
+            ..OVER_LINES
+        },
+        Case {
+            input: b"{\"id\":9,\"fields\":{}}\r",
+            out: b"c089\n",
+            ..OVER_LINES
+        },
+        Case {
+            input: b"{\"id\":9,\"fields\":{}}\n{\"id\":9,\"fields\":{}}\n{\"id\":9,\"fields\":{\"a\":1}}\n{\"id\":9,\"fields\":{}}",
+            status: 1,
+            out: b"c08980\n",
+            err: "refused Member line=3 template=9 instruction=0\n",
+            ..OVER_LINES
+        },
+        Case {
+            input: b"\n{\"id\":4,\"fields\":{\"L\":[],\"K\":\"x\"}}\n{\"id\":4,\"fields\":{\"L\":[],\"K\":\"\"}}",
+            status: 1,
+            out: b"c08480\n",
+            err: "refused NotConstant line=3 template=4 instruction=4\n",
+            ..OVER_LINES
+        },
+        Case {
+            input: b"\xef\xbb\xbf{\"id\":9,\"fields\":{}}",
+            status: 1,
+            out: b"\n",
+            err: "refused Json line=1 template=0 instruction=0\n",
+            ..OVER_LINES
+        },
+        // no UTF-8, and a sign that is to be escaped
+        Case {
+            input: b"{\"id\":1,\"fields\":{\"Seq\":1,\"Sym\":\"AB\",\"Px\":1,\"U\":\"\xff\"}}",
+            status: 1,
+            out: b"\n",
+            err: "refused Json line=1 template=0 instruction=0\n",
+            ..OVER_LINES
+        },
+        Case {
+            input: b"{\"id\":1,\"fields\":{\"Seq\":1,\"Sym\":\"AB\",\"Px\":1,\"U\":\"a\x01\"}}",
+            status: 1,
+            out: b"\n",
+            err: "refused Json line=1 template=0 instruction=0\n",
+            ..OVER_LINES
+        },
+    ];
+    rows_are_served(&rt, rt.alloc(), ROWS)
+}
+
+/// Texts, each so many times one behind the other.
+type Runs = &'static [(usize, &'static [u8])];
+
+fn joined(alloc: Global, runs: &[(usize, &[u8])]) -> Result<Vec<u8>, AllocError> {
+    let mut joined = Vec::new(alloc);
+    for (count, text) in runs {
+        for _ in 0..*count {
+            joined.extend_from_slice(text)?;
+        }
+    }
+    Ok(joined)
+}
+
+/// What is large: the lines, and what is written and said of them.
+#[derive(Clone, Copy)]
+struct Large {
+    words: &'static [&'static str],
+    input: Runs,
+    out: Runs,
+    said: &'static str,
+}
+
+fn large_is_served(rt: &impl Abort, alloc: Global, row: &Large) -> Result<(), AllocError> {
+    let input = joined(alloc, row.input)?;
+    let out = joined(alloc, row.out)?;
+    let case = Case {
+        words: row.words,
+        input: &input,
+        turns: 1 << 20,
+        status: if row.said.is_empty() { 0 } else { 1 },
+        out: &out,
+        err: row.said,
+        ..OVER_LINES
+    };
+    served(rt, alloc, &case)
+}
+
+/// Lines of 16,777,216 bytes, and of one more; and one of blanks.
+const LONG_LINES: &[Large] = &[
+    Large {
+        words: WRITE_HEX,
+        input: &[
+            (1, b"{\"id\":9,\"fields\":{}}\n{\"id\":9,"),
+            (16_777_196, b" "),
+            (1, b"\"fields\":{}}"),
+        ],
+        out: &[(1, b"c08980\n")],
+        said: "",
+    },
+    Large {
+        words: WRITE_HEX,
+        input: &[
+            (1, b"{\"id\":9,"),
+            (16_777_196, b" "),
+            (1, b"\"fields\":{}}\n{\"id\":9,"),
+            (16_777_197, b" "),
+            (1, b"\"fields\":{}}\n"),
+        ],
+        out: &[(1, b"c089\n")],
+        said: "refused Limit line=2 template=0 instruction=0\n",
+    },
+    Large {
+        words: WRITE_HEX,
+        input: &[(16_777_216, b" "), (1, b"\n"), (16_777_217, b" ")],
+        out: &[(1, b"\n")],
+        said: "refused Limit line=2 template=0 instruction=0\n",
+    },
+];
+
+#[test]
+fn long_texts_of_lines(rt: HostRuntime) -> Result<(), AllocError> {
+    for row in LONG_LINES {
+        large_is_served(&rt, rt.alloc(), row)?;
+    }
+    Ok(())
+}
+
+/// Levels of JSON, strings, nodes, lines and packets, each as large as may be, and one more.
+const LARGE: &[Large] = &[
+    Large {
+        words: WRITE_HEX,
+        input: &[
+            (1, b"{\"id\":9,\"fields\":"),
+            (127, b"["),
+            (127, b"]"),
+            (1, b"}"),
+        ],
+        out: &[(1, b"\n")],
+        said: "refused Line line=1 template=0 instruction=0\n",
+    },
+    Large {
+        words: WRITE_HEX,
+        input: &[
+            (1, b"{\"id\":9,\"fields\":"),
+            (128, b"["),
+            (128, b"]"),
+            (1, b"}"),
+        ],
+        out: &[(1, b"\n")],
+        said: "refused Json line=1 template=0 instruction=0\n",
+    },
+    Large {
+        words: WRITE_HEX,
+        input: &[
+            (1, b"{\"id\":1,\"fields\":{\"Seq\":1,\"Px\":1,\"Sym\":\""),
+            (65_535, b"a"),
+            (1, b"\"}}\n"),
+        ],
+        out: &[(1, b"f08181"), (65_534, b"61"), (1, b"e18081808080\n")],
+        said: "",
+    },
+    Large {
+        words: WRITE_HEX,
+        input: &[
+            (1, b"{\"id\":1,\"fields\":{\"Seq\":1,\"Px\":1,\"Sym\":\""),
+            (65_536, b"a"),
+            (1, b"\"}}\n"),
+        ],
+        out: &[(1, b"\n")],
+        said: "refused Limit line=1 template=1 instruction=2\n",
+    },
+    // three nodes of each element, and two besides
+    Large {
+        words: WRITE_HEX,
+        input: &[
+            (1, b"{\"id\":4,\"fields\":{\"K\":\"x\",\"L\":[{\"P\":5}"),
+            (21_843, b",{\"P\":5}"),
+            (1, b"]}}"),
+        ],
+        out: &[(1, b"c084012ad4"), (21_844, b"8580"), (1, b"\n")],
+        said: "",
+    },
+    Large {
+        words: WRITE_HEX,
+        input: &[
+            (1, b"{\"id\":4,\"fields\":{\"K\":\"x\",\"L\":[{\"P\":5}"),
+            (21_844, b",{\"P\":5}"),
+            (1, b"]}}"),
+        ],
+        out: &[(1, b"\n")],
+        said: "refused Limit line=1 template=4 instruction=1\n",
+    },
+    Large {
+        words: WRITE_HEX,
+        input: &[(50_000, b"{\"id\":9,\"fields\":{}}\n")],
+        out: &[(1, b"c089"), (49_999, b"80"), (1, b"\n")],
+        said: "",
+    },
+    // eight bytes of the first message besides its string, and two of the second
+    Large {
+        words: WRITE_PACKETS,
+        input: &[
+            (
+                1,
+                b"{\"packet\":1,\"id\":1,\"fields\":{\"Seq\":1,\"Px\":1,\"Sym\":\"",
+            ),
+            (65_525, b"a"),
+            (1, b"\"}}\n{\"packet\":1,\"id\":9,\"fields\":{}}\n"),
+        ],
+        out: &[
+            (1, b"\x03\x7f\xff\xf0\x81\x81"),
+            (65_524, b"a"),
+            (1, b"\xe1\x80\x81\x80\x80\x80\xc0\x89"),
+        ],
+        said: "",
+    },
+    Large {
+        words: WRITE_PACKETS,
+        input: &[
+            (
+                1,
+                b"{\"packet\":1,\"id\":1,\"fields\":{\"Seq\":1,\"Px\":1,\"Sym\":\"",
+            ),
+            (65_525, b"a"),
+            (
+                1,
+                b"\"}}\n{\"packet\":1,\"id\":9,\"fields\":{}}\n{\"packet\":1,\"id\":9,\"fields\":{}}\n",
+            ),
+        ],
+        out: &[
+            (1, b"\x03\x7f\xff\xf0\x81\x81"),
+            (65_524, b"a"),
+            (1, b"\xe1\x80\x81\x80\x80\x80\xc0\x89"),
+        ],
+        said: "refused Limit line=3 template=0 instruction=0\n",
+    },
+    Large {
+        words: WRITE_PACKETS,
+        input: &[
+            (
+                1,
+                b"{\"packet\":1,\"id\":1,\"fields\":{\"Seq\":1,\"Px\":1,\"Sym\":\"",
+            ),
+            (65_528, b"a"),
+            (1, b"\"}}"),
+        ],
+        out: &[],
+        said: "refused Limit line=1 template=0 instruction=0\n",
+    },
+];
+
+#[test]
+fn long_texts_at_each_limit(rt: HostRuntime) -> Result<(), AllocError> {
+    for row in LARGE {
+        large_is_served(&rt, rt.alloc(), row)?;
+    }
+    Ok(())
+}
