@@ -12,12 +12,13 @@ returns-in-Err g c =
       answer = (k.0, k.1, k.2, k.3, says_nothing _ _ _ _ _ _ (Appends-kept _ _ _ [] (Appends-nil _) c.in-Err.ensures.bytes), tt);
       write = c.in-Err.ensures.error;
       flush = tt;
+      sound = λ other. c.in-Err-Stream.ensures.sound (λ e. cc);
     }
 
 pub returns-in-Err-Write : goal.returns-in-Err-Write
 returns-in-Err-Write g c =
     let k = c.in-Err-Write.ensures.answer in
-    record { answer = (k.0, k.1, k.2, k.3, says_nothing _ _ _ _ _ _ (Appends-nil _), tt); write = refl; flush = tt }
+    record { answer = (k.0, k.1, k.2, k.3, says_nothing _ _ _ _ _ _ (Appends-nil _), tt); write = refl; flush = tt; sound = λ other. absurd (other refl) }
 
 pub returns-clause-answer : goal.returns-clause-answer
 returns-clause-answer g c =
