@@ -16,3 +16,5 @@ pub mod Capped
 pub mod Heads
 pub mod Looked
 pub mod InPackets
+pub mod Fronts
+pub mod Showing

@@ -10,6 +10,8 @@ mod line;
 mod members;
 mod names;
 mod number;
+mod pieces;
+mod shown;
 mod value;
 
 ghost use Rattle.std.specs.Prelude.{◌≡◌, ℕ, List, Some, IsUtf8};

@@ -14,6 +14,7 @@ ghost use Rattle.fast_spelled.specs.Tokens.{Refuses};
 use crate::fault::{LineCause, LineFault};
 use crate::head::{fault, number_of, open_object, pass, read_head, template_for};
 use crate::members::{Reading, read_members};
+use crate::shown::read_shown;
 use fast_stream::Message;
 use fast_template::{FlatTemplate, TemplateSet};
 use json::{MAX_DEPTH, Reader, Scratch, is_valid};
@@ -122,6 +123,9 @@ pub fn message_of(
         ⊎ ((f.cause ≡ LineCause.Limit)
         × ((m : Content) → Spells set.now line.now m → node_limit < nodes_in m.items))) }
 {
+    if let Some(message) = read_shown(alloc, set, line) {
+        return Ok(message);
+    }
     match check(line, scratch) {
         Ok(()) => {}
         Err(fault) => return Err(fault),

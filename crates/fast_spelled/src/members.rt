@@ -69,7 +69,7 @@ impl<'a> Reading<'a> {
 }
 
 /// Whether an instruction can be left out.
-fn presence_of(flat: &Flat) -> Presence
+pub(crate) fn presence_of(flat: &Flat) -> Presence
     ensures { result ≡ presence_in (instruction_of flat.now) }
 {
     match flat {
@@ -81,7 +81,7 @@ fn presence_of(flat: &Flat) -> Presence
 }
 
 /// The name of an instruction.
-fn name_of(flat: &Flat) -> &str
+pub(crate) fn name_of(flat: &Flat) -> &str
     ensures { result.now ≡ name_in (instruction_of flat.now) }
 {
     match flat {

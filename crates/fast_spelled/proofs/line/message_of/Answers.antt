@@ -1,10 +1,17 @@
 use Rattle.std.proofs.Common.{ap, ◌∙◌, Some, inl, inr, codes}
 use Rattle.json.specs.Json.{document}
 use Rattle.json.proofs.Unique.Spelling.{tokens-document}
+use Rattle.fast_stream.specs.Nodes.{content_of}
 use Rattle.fast_spelled.specs.Members.{first_named}
 use Rattle.fast_spelled.specs.Spelled.{fields_of}
 use Rattle.fast_spelled.proofs.Heads.{answered, document_depth, found_reads, message_is, no_spelling, only_fault, only_first, only_second, refused_or, some_of}
+use Rattle.fast_spelled.proofs.Whole.{line_spells}
 use Rattle.fast_spelled.proofs.line.message_of.Goals as goal
+
+pub returns-in-Some-clause-spelled : goal.returns-in-Some-clause-spelled
+returns-in-Some-clause-spelled c =
+    let x = c.in-Some.ensures in
+    line_spells c.args.set.now (content_of c.in-Some.message) c.args.line.now x.sound x.within c.utf8.line x.shown
 
 pub returns-in-Err-read_head-clause-refused : goal.returns-in-Err-read_head-clause-refused
 returns-in-Err-read_head-clause-refused c =
