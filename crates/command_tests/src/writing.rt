@@ -137,6 +137,39 @@ const LINES: &[(&str, Answer)] = &[
         "{\"id\":4,\"fields\":{\"L\":[],\"K\":\"y\"}}",
         Form(EncodeCause::NotConstant, 4),
     ),
+    // as `show` writes them, but for one thing
+    (
+        "{\"template\":\"Quote\",\"id\":1,\"fields\":{\"Seq\":1,\"Sym\":\"AB\",\"Px\":1e0,\"Qty\":null,\"B\":\"0aff\",\"U\":\"\",\"I\":-0}}",
+        Taken,
+    ),
+    (
+        "{\"template\":\"Quote\",\"id\":1,\"fields\":{\"Seq\":1,\"Sym\":\"AB\",\"Px\":1e0,\"Qty\":null,\"B\":null,\"U\":null}}",
+        Taken,
+    ),
+    (
+        "{\"template\":\"Quote\",\"id\":1,\"fields\":{\"Seq\":1,\"Sym\":\"AB\",\"Px\":1e0,\"Qty\":null,\"B\":null,\"U\":null,\"I\":01}}",
+        Line(LineCause::Json, 0),
+    ),
+    (
+        "{\"template\":\"Quote\",\"id\":1,\"fields\":{\"Seq\":1,\"Sym\":\"AB\",\"Px\":1e0,\"Qty\":null,\"B\":null,\"U\":null,\"I\":1,}}",
+        Line(LineCause::Json, 0),
+    ),
+    (
+        "{\"template\":\"Quote\",\"id\":1,\"fields\":{\"Seq\":1,\"Sym\":null,\"Px\":1e0,\"Qty\":null,\"B\":null,\"U\":null,\"I\":1}}",
+        Line(LineCause::Mismatch, 2),
+    ),
+    (
+        "{\"template\":\"Empty\",\"id\":1,\"fields\":{}}",
+        Line(LineCause::D9, 0),
+    ),
+    (
+        "{\"template\":\"Legs\",\"id\":4,\"fields\":{\"L\":[{\"P\":5,\"P\":null},{\"P\":6,\"P\":7}],\"K\":\"x\"}}",
+        Taken,
+    ),
+    (
+        "{\"template\":\"Legs\",\"id\":4,\"fields\":{\"L\":[{\"P\":5,\"P\":null}{\"P\":6,\"P\":7}],\"K\":\"x\"}}",
+        Line(LineCause::Json, 0),
+    ),
     // numbers
     (
         "{\"id\":1,\"fields\":{\"Seq\":1,\"Sym\":\"AB\",\"Px\":1,\"Qty\":\"7\"}}",
