@@ -1,7 +1,9 @@
 -- The line of a message that says its packet stands for that message in that packet.
-use Rattle.std.proofs.Common.{◌≡◌, ℕ, pos, ◌==◌, ◌<◌, ◌≤◌, ◌^◌, true, false, List, [], ◌∷◌, ◌++◌, Option, Some, None, option_map, option_and_then, codes, decimal, refl, sym, ap, ap₂, ◌∙◌, arith, subst, append_assoc, append-nil, inl, inr, map, IsUtf8}
+use Rattle.std.proofs.Common.{◌≡◌, ℕ, pos, ◌==◌, ◌<◌, ◌≤◌, ◌^◌, true, false, List, [], ◌∷◌, ◌++◌, Option, Some, None, option_map, option_and_then, codes, decimal, refl, sym, ap, ap₂, ◌∙◌, arith, subst, append_assoc, append-nil, inl, inr, map, IsUtf8, suc}
 use Rattle.std.proofs.lemmas.Bool.{and_parts, ne_eqb, not-true}
+use Rattle.std.proofs.lemmas.Fmt.{IsAscii-decimal}
 use Rattle.std.proofs.lemmas.Str.{IsUtf8-append, IsUtf8-past_char, encode_ascii}
+use Rattle.std.specs.Str.{IsAscii}
 use Rattle.std.specs.List.{AllByRecursion, list_all}
 use Rattle.json.specs.Lex.{fresh, punctuate}
 use Rattle.json.specs.Json.{Json, number, string, object, Members, no_members, member, value, if_last, max_depth, document}
@@ -18,6 +20,7 @@ use Rattle.fast_packets.proofs.Labels.{numbered-line}
 use Rattle.fast_packets.specs.Numbered.{labelled, numbered, packet_label}
 use Rattle.fast_lines.specs.declared.form.Form.TheVariants as form
 use Rattle.fast_lines.specs.Lines.{line_by, line_if, line_in, lines_in}
+use Rattle.fast_spelled.specs.Shown.{IsNumberedLineOf}
 use Rattle.fast_spelled.specs.Numbered.{SpellIn, SpellsIn, counted_from_one, numbered_by, packet_by}
 use Rattle.fast_spelled.specs.Laws.{HasTextLines}
 use Rattle.fast_spelled.specs.Spelled.{is_blank, lines_of, message_by}
@@ -26,6 +29,7 @@ use Rattle.fast_spelled.specs.Within.{IsWithin}
 use Rattle.fast_spelled.proofs.Back.{below64, integer_back}
 use Rattle.fast_spelled.proofs.Digits.{decimal_read}
 use Rattle.fast_spelled.proofs.Feeds.{Line, NoFeed, both_clean, decimal_clean, first_line, line_is}
+use Rattle.fast_spelled.proofs.Showing.{all_ascii}
 use Rattle.fast_spelled.proofs.Streams.{blanks}
 use Rattle.fast_spelled.proofs.Read.{tokens_spelled}
 use Rattle.fast_spelled.proofs.Texts.{both_of, line_says, same_given}
@@ -135,6 +139,31 @@ by_template set n (Some t) m line there e sound w utf8 some few = spells_in set 
 
 pub numbered_spells : (set : TemplateList) (n : ℕ) (m : Content) (line : List ℕ) → IsSound set → IsWithin m → IsUtf8 line → line_in form.Json set m ≡ Some line → 0 < n → n < 2 ^ 64 → SpellsIn set (numbered n line) n m
 numbered_spells set n m line sound w utf8 e some few = by_template set n (template_of m.template set) m line refl e sound w utf8 some few
+
+-- ---- a line that is read from its front
+
+-- what stands behind characters of ASCII is UTF-8
+past_ascii : (a rest : List ℕ) → AllByRecursion (λ c. c < 128) a → IsUtf8 (a ++ rest) → IsUtf8 rest
+past_ascii [] rest h u = u
+past_ascii (c ∷ a) rest h u = past_ascii a rest h.1 (IsUtf8-past_char (c ∷ (a ++ rest)) (a ++ rest) c u (ap (λ (xs : List ℕ). xs ++ (a ++ rest)) (sym (encode_ascii c h.0))))
+
+each_ascii : (s : List ℕ) → IsAscii s → AllByRecursion (λ c. c < 128) s
+each_ascii [] h = tt
+each_ascii (c ∷ s) h = (h 0, each_ascii s (λ k. h (suc k)))
+
+rest_text : (n : ℕ) (rest : List ℕ) → n < 2 ^ 64 → IsUtf8 (123 ∷ (packet_label n ++ rest)) → IsUtf8 rest
+rest_text n rest few u =
+    let whole = append_assoc (codes "\"packet\":") (decimal n ++ codes ",") rest ∙ ap (λ (xs : List ℕ). codes "\"packet\":" ++ xs) (append_assoc (decimal n) (codes ",") rest) in
+    past_ascii (codes ",") rest (all_ascii (codes ",") refl)
+    (past_ascii (decimal n) (codes "," ++ rest) (each_ascii (decimal n) (IsAscii-decimal n few))
+    (past_ascii (codes "{\"packet\":") (decimal n ++ (codes "," ++ rest)) (all_ascii (codes "{\"packet\":") refl) (subst IsUtf8 (ap (λ (xs : List ℕ). 123 ∷ xs) whole) u)))
+
+pub numbered_shown : (set : TemplateList) (n : ℕ) (m : Content) (line : List ℕ) → IsNumberedLineOf set line n m → IsUtf8 line → SpellsIn set line n m
+numbered_shown set n m line x utf8 =
+    let own = 123 ∷ x.rest in
+    let begun = braced own x.rest (line_is (template_of m.template set) m own x.own.shown x.own.within) refl in
+    let text = IsUtf8-append (123 ∷ []) x.rest (IsUtf8-are_ascii (123 ∷ []) refl) (rest_text n x.rest x.few (subst IsUtf8 x.is utf8)) in
+    subst (λ (l : List ℕ). SpellsIn set l n m) (numbered_line n own x.rest begun ∙ sym x.is) (numbered_spells set n m own x.own.sound x.own.within text x.own.shown x.some x.few)
 
 -- ---- and no other
 

@@ -1,7 +1,8 @@
 -- Lines as `show --json` writes them, read from the front (our own).
-use Rattle.std.specs.Prelude.{◌≡◌, ℕ, ◌==◌, ◌+◌, ◌≤◌, nat_le, not, Bool, ◌&&◌, List, ◌++◌, Option, Some}
+use Rattle.std.specs.Prelude.{◌≡◌, ℕ, ◌==◌, ◌+◌, ◌≤◌, nat_le, not, Bool, ◌&&◌, List, ◌++◌, Option, Some, ◌<◌, ◌^◌, ◌∷◌}
 use Rattle.fast_template.specs.TemplateSets.{IsSound, TemplateList}
 use Rattle.fast_stream.specs.Nodes.{Content, node_limit, nodes_in}
+use Rattle.fast_packets.specs.Numbered.{packet_label}
 use Rattle.fast_lines.specs.declared.form.Form.TheVariants.{Json}
 use Rattle.fast_lines.specs.Lines.{line_in}
 use Rattle.fast_spelled.specs.declared.shown.Left.{Left}
@@ -30,3 +31,11 @@ pub record IsLineOf (set : TemplateList) (line : List ℕ) (m : Content) : Type 
   pub within : IsWithin m
   pub shown : line_in Json set m ≡ Some line
   pub small : nodes_in m.items ≤ node_limit
+
+-- a line is the one that is shown of a message in a packet
+pub record IsNumberedLineOf (set : TemplateList) (line : List ℕ) (n : ℕ) (m : Content) : Type 0 where
+  pub some : 0 < n
+  pub few : n < 2 ^ 64
+  pub rest : List ℕ
+  pub is : line ≡ 123 ∷ (packet_label n ++ rest)
+  pub own : IsLineOf set (123 ∷ rest) m

@@ -14,14 +14,14 @@ ghost use Rattle.fast_spelled.specs.Tokens.{Refuses};
 use crate::fault::{LineCause, LineFault};
 use crate::head::{fault, number_of, open_object, pass, read_head, template_for};
 use crate::members::{Reading, read_members};
-use crate::shown::read_shown;
+use crate::shown::{read_numbered, read_shown};
 use fast_stream::Message;
 use fast_template::{FlatTemplate, TemplateSet};
 use json::{MAX_DEPTH, Reader, Scratch, is_valid};
 use std::alloc::Global;
 
 /// The most nodes of a message.
-const NODE_LIMIT: usize = 65_536;
+pub(crate) const NODE_LIMIT: usize = 65_536;
 
 /// Judges whether a line is JSON.
 fn check(line: &str, scratch: &mut Scratch) -> Result<(), LineFault>
@@ -162,6 +162,9 @@ pub fn numbered_message_of(
         ⊎ ((f.cause ≡ LineCause.Limit)
         × ((n : ℕ) (m : Content) → SpellsIn set.now line.now n m → node_limit < nodes_in m.items))) }
 {
+    if let Some(numbered) = read_numbered(alloc, set, line) {
+        return Ok(numbered);
+    }
     match check(line, scratch) {
         Ok(()) => {}
         Err(fault) => return Err(fault),

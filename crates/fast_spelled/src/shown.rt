@@ -11,21 +11,17 @@ ghost use Rattle.fast_stream.specs.Nodes.{content_of, elements_of, item_of, item
 ghost use Rattle.fast_lines.specs.declared.form.Form.TheVariants.{Json};
 ghost use Rattle.fast_lines.specs.Lines.{absent_text, braced, bracketed, elements_text, members_text, node_text, value_text};
 ghost use Rattle.fast_lines.specs.Signs.{label_text, lead};
-ghost use Rattle.fast_spelled.specs.Shown.{IsLineOf, IsShown, Stands, is_plain_unit};
+ghost use Rattle.fast_spelled.specs.Shown.{IsLineOf, IsNumberedLineOf, IsShown, Stands, is_plain_unit};
 ghost use Rattle.fast_spelled.specs.Within.{HasScalars, HaveScalars, HaveScalarsIn};
 
+use crate::line::NODE_LIMIT;
 use crate::members::{name_of, presence_of};
 use crate::pieces::{behind, behind_byte, behind_label, hex_bytes, signed, units, unsigned};
+use crate::value::UNIT_LIMIT;
 use fast_stream::{Message, Node};
 use fast_template::{ByteString, Flat, Kind, Presence, Scalar, TemplateSet, UnicodeText};
 use std::alloc::Global;
 use std::str;
-
-/// The most nodes of a message.
-const NODE_LIMIT: usize = 65_536;
-
-/// The most characters or bytes of a value.
-const UNIT_LIMIT: usize = 65_535;
 
 /// What is left of a line while it is read.
 #[derive(Drop)]
@@ -325,11 +321,11 @@ fn read_node(line: &mut Left<'_>, flat: &Flat) -> Option<Node>
     }
 }
 
-/// The message of a line as `show --json` writes it; none also where memory is refused.
-pub(crate) fn read_shown(alloc: Global, set: &TemplateSet, line: &str) -> Option<Message>
-    ensures { IfSome result (λ m. IsLineOf set.now line.now (content_of m)) }
+/// The message of a line as `show --json` writes it, behind its brace; none also where memory is refused.
+fn read_named(alloc: Global, set: &TemplateSet, bytes: &[u8]) -> Option<Message>
+    ensures { IfSome result (λ m. IsLineOf set.now (123 ∷ bytes.now) (content_of m)) }
 {
-    let left = behind(line.as_bytes(), b"{\"template\":\"")?;
+    let left = behind(bytes, b"\"template\":\"")?;
     let (name, left) = units(left)?;
     let left = behind(left, b",\"id\":")?;
     let (id, left) = short_unsigned(left)?;
@@ -351,4 +347,26 @@ pub(crate) fn read_shown(alloc: Global, set: &TemplateSet, line: &str) -> Option
         template: id,
         fields,
     })
+}
+
+/// The message of a line as `show --json` writes it; none also where memory is refused.
+pub(crate) fn read_shown(alloc: Global, set: &TemplateSet, line: &str) -> Option<Message>
+    ensures { IfSome result (λ m. IsLineOf set.now line.now (content_of m)) }
+{
+    let left = behind_byte(line.as_bytes(), b'{')?;
+    read_named(alloc, set, left)
+}
+
+/// The packet and the message of a line as `show --packets --json` writes it; none also where memory is refused.
+pub(crate) fn read_numbered(alloc: Global, set: &TemplateSet, line: &str) -> Option<(u64, Message)>
+    ensures { IfSome result (λ x. IsNumberedLineOf set.now line.now x.0 (content_of x.1)) }
+{
+    let left = behind(line.as_bytes(), b"{\"packet\":")?;
+    let (number, left) = unsigned(left)?;
+    if number == 0 {
+        return None;
+    }
+    let left = behind_byte(left, b',')?;
+    let message = read_named(alloc, set, left)?;
+    Some((number, message))
 }

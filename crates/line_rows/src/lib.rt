@@ -64,6 +64,14 @@ pub const ROWS: &str = r#"{ => refused Json line=1 template=0 instruction=0
 {"id":4,"fields":{"L":[null],"K":"x"}} => refused Mismatch line=1 template=4 instruction=1
 {"id":4,"fields":{"L":[]}} => refused Mismatch line=1 template=4 instruction=4
 {"id":4,"fields":{"L":[],"K":"y"}} => refused NotConstant line=1 template=4 instruction=4
+{"template":"Quote","id":1,"fields":{"Seq":1,"Sym":"AB","Px":1e0,"Qty":null,"B":"0aff","U":"","I":-0}} => f0818141c28081830aff8181
+{"template":"Quote","id":1,"fields":{"Seq":1,"Sym":"AB","Px":1e0,"Qty":null,"B":null,"U":null}} => f0818141c28081808080
+{"template":"Quote","id":1,"fields":{"Seq":1,"Sym":"AB","Px":1e0,"Qty":null,"B":null,"U":null,"I":01}} => refused Json line=1 template=0 instruction=0
+{"template":"Quote","id":1,"fields":{"Seq":1,"Sym":"AB","Px":1e0,"Qty":null,"B":null,"U":null,"I":1,}} => refused Json line=1 template=0 instruction=0
+{"template":"Quote","id":1,"fields":{"Seq":1,"Sym":null,"Px":1e0,"Qty":null,"B":null,"U":null,"I":1}} => refused Mismatch line=1 template=1 instruction=2
+{"template":"Empty","id":1,"fields":{}} => refused D9 line=1 template=0 instruction=0
+{"template":"Legs","id":4,"fields":{"L":[{"P":5,"P":null},{"P":6,"P":7}],"K":"x"}} => c0848285808688
+{"template":"Legs","id":4,"fields":{"L":[{"P":5,"P":null}{"P":6,"P":7}],"K":"x"}} => refused Json line=1 template=0 instruction=0
 {"id":4,"fields":{"L":[}} => refused Json line=1 template=0 instruction=0
 {"id":1,"fields":{"Seq":1,"Sym":"AB","Px":1}} => f0818141c28081808080
 {"id":1,"fields":{"Px":1,"Seq":1,"Sym":"AB"}} => f0818141c28081808080
