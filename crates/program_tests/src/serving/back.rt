@@ -66,28 +66,32 @@ pub fn ended(alloc: Global, case: &Case) -> Result<Ended, AllocError> {
     Ok(ended)
 }
 
+/// What comes of other words over a case's templates, and of another input.
+fn ended_over<'a>(
+    alloc: Global,
+    words: &'a [&'a str],
+    input: &'a [u8],
+    case: Case<'a>,
+) -> Result<Ended, AllocError> {
+    ended(
+        alloc,
+        &Case {
+            words,
+            input,
+            ..case
+        },
+    )
+}
+
 /// A stream that is canonicalised is shown in JSON, and these lines are written as its canonical bytes.
 pub fn is_written_back(rt: &impl Abort, alloc: Global, case: &Case) -> Result<(), AllocError> {
     if !is_canonicalised(case) {
         return Ok(());
     }
     let words = showing(alloc, case.words)?;
-    let shown = ended(
-        alloc,
-        &Case {
-            words: &words,
-            ..*case
-        },
-    )?;
+    let shown = ended_over(alloc, &words, case.input, *case)?;
     let words = writing(alloc, case.words)?;
-    let written = ended(
-        alloc,
-        &Case {
-            words: &words,
-            input: &shown.out,
-            ..*case
-        },
-    )?;
+    let written = ended_over(alloc, &words, &shown.out, *case)?;
     same_of(rt, &words, written.status, 0);
     same_of(rt, &words, written.out.as_slice(), case.out);
     Ok(())

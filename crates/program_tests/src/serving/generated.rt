@@ -49,7 +49,7 @@ fn drawn(number: u64) -> &'static [u8] {
 }
 
 /// A stream of so many runs of messages.
-fn generated(alloc: Global, seed: u64, runs: u64) -> Result<Generated, AllocError> {
+fn streams_of(alloc: Global, seed: u64, runs: u64) -> Result<Generated, AllocError> {
     let mut number = next_of(seed);
     let mut plain = Vec::new(alloc);
     let mut framed = Vec::new(alloc);
@@ -75,11 +75,11 @@ const BLOCKS: &[&str] = &["fastcat", "canon", "--blocks", "--templates", TEMPLAT
 const PACKETS: &[&str] = &["fastcat", "canon", "--packets", "--templates", TEMPLATES];
 
 /// What a command line that canonicalises writes of a stream, which is accepted, is written back.
-fn goes_back(
+fn goes_back<'a>(
     rt: &impl Abort,
     alloc: Global,
-    words: &[&str],
-    input: &[u8],
+    words: &'a [&'a str],
+    input: &'a [u8],
 ) -> Result<(), AllocError> {
     let case = Case {
         words,
@@ -96,7 +96,7 @@ fn goes_back(
 #[test]
 fn generated_streams_go_back(rt: HostRuntime) -> Result<(), AllocError> {
     for seed in 0..24 {
-        let streams = generated(rt.alloc(), seed, 8)?;
+        let streams = streams_of(rt.alloc(), seed, 8)?;
         goes_back(&rt, rt.alloc(), PLAIN, &streams.plain)?;
         goes_back(&rt, rt.alloc(), STRICT, &streams.plain)?;
         goes_back(&rt, rt.alloc(), BLOCKS, &streams.framed)?;

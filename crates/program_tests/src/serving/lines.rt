@@ -116,19 +116,30 @@ struct Large {
     said: &'static str,
 }
 
-fn large_is_served(rt: &impl Abort, alloc: Global, row: &Large) -> Result<(), AllocError> {
-    let input = joined(alloc, row.input)?;
-    let out = joined(alloc, row.out)?;
+fn is_served<'a>(
+    rt: &impl Abort,
+    alloc: Global,
+    words: &'a [&'a str],
+    input: &'a [u8],
+    out: &'a [u8],
+    said: &'a str,
+) -> Result<(), AllocError> {
     let case = Case {
-        words: row.words,
-        input: &input,
+        words,
+        input,
         turns: 1 << 20,
-        status: if row.said.is_empty() { 0 } else { 1 },
-        out: &out,
-        err: row.said,
+        status: if said.is_empty() { 0 } else { 1 },
+        out,
+        err: said,
         ..OVER_LINES
     };
     served(rt, alloc, &case)
+}
+
+fn large_is_served(rt: &impl Abort, alloc: Global, row: &Large) -> Result<(), AllocError> {
+    let input = joined(alloc, row.input)?;
+    let out = joined(alloc, row.out)?;
+    is_served(rt, alloc, row.words, &input, &out, row.said)
 }
 
 /// Lines of 16,777,216 bytes, and of one more; and one of blanks.
