@@ -90,7 +90,7 @@ enum fastcat_cause {
   FASTCAT_TOO_MANY = 111,       /* more than 65,535 templates, or instructions behind replaced references */
   /* Of a line: */
   FASTCAT_NOT_JSON = 201,     /* it is no JSON text in UTF-8, or nests more than 128 levels */
-  FASTCAT_LINE = 202,         /* it is no object of a template or an identifier, and fields; or its packet is not as it is to be */
+  FASTCAT_LINE = 202,         /* it is JSON and no message; or its packet is missing, not asked for, or below the last one */
   FASTCAT_MEMBER = 203,       /* a member of its fields is not its template's, or is there once too often */
   FASTCAT_MISMATCH = 204,     /* a value is not of its field's type, or a mandatory one is left out */
   FASTCAT_D3 = 205,           /* a decimal does not have the exponent or the mantissa that its part must have */
@@ -109,7 +109,7 @@ struct fastcat_answer {
   uint32_t cause;       /* enum fastcat_cause */
   uint32_t template_id; /* of a refused stream or line the template's identifier; of templates the place in the list, from 1 */
   uint32_t instruction; /* the instruction's number, from 1 */
-  uint64_t packets;     /* the packets of a recording that is read, or of a refused one those before the packet that is refused */
+  uint64_t packets;     /* the packets of a recording that is read, or of a refused one those before its refused packet */
   uint64_t packet;      /* the packet that is refused, from 1 */
 };
 

@@ -96,7 +96,7 @@ class Answer:
 
 
 class FastcatError(Exception):
-    """A call that did not end well: its answer, and what was written before a fault of the stream, or a line that is refused."""
+    """A call that did not end well: its answer, and what was written before a fault of the stream or a refused line."""
 
     def __init__(self, answer: Answer, written: bytes = b""):
         self.answer = answer

@@ -155,17 +155,20 @@ static void recordings(void) {
 }
 
 /* Lines are written into the room, whose length is given. */
-static uint32_t write_lines(const char *lines, size_t length, uint32_t mode, size_t room_length, struct fastcat_answer *answer) {
+static uint32_t write_lines(const char *lines, size_t length, uint32_t mode, size_t room_length,
+                            struct fastcat_answer *answer) {
   memset(room, 0xaa, sizeof room);
   memset(answer, 0xaa, sizeof *answer);
   return fastcat_write(templates, templates_length, mode, (const uint8_t *)lines, length, room, room_length, answer);
 }
 
 /* What fastcat_show writes of a stream in JSON is written again. */
-static int is_written_again(const uint8_t *stream, size_t length, uint32_t mode, const uint8_t *bytes, size_t count, uint64_t messages) {
+static int is_written_again(const uint8_t *stream, size_t length, uint32_t mode, const uint8_t *bytes, size_t count,
+                            uint64_t messages) {
   static uint8_t shown[1024];
   struct fastcat_answer a;
-  if (fastcat_show(templates, templates_length, mode | FASTCAT_JSON, stream, length, shown, sizeof shown, &a) != FASTCAT_DONE) return 0;
+  if (fastcat_show(templates, templates_length, mode | FASTCAT_JSON, stream, length, shown, sizeof shown, &a) != FASTCAT_DONE)
+    return 0;
   size_t size = (size_t)a.written;
   for (uint32_t json = 0; json <= FASTCAT_JSON; json += FASTCAT_JSON)
     if (write_lines((const char *)shown, size, mode | json, count, &a) != FASTCAT_DONE ||
@@ -177,14 +180,16 @@ static int is_written_again(const uint8_t *stream, size_t length, uint32_t mode,
 static void lines(void) {
   struct fastcat_answer a;
   expect(is_written_again(spelled_out, sizeof spelled_out, 0, canonical, 11, 2), "two messages, shown and written");
-  expect(is_written_again(two_packets, sizeof two_packets, FASTCAT_PACKETS, canonical_packets, 18, 2), "two packets, shown and written");
+  expect(is_written_again(two_packets, sizeof two_packets, FASTCAT_PACKETS, canonical_packets, 18, 2),
+         "two packets, shown and written");
   expect(write_lines("", 0, 0, 0, &a) == FASTCAT_DONE && says(&a, 0, 0, 0, 0, 0, 0, 0, 0, 0) && holds("", 0), "no lines");
-  expect(write_lines(json, sizeof json - 1, 0, 7, &a) == FASTCAT_ROOM_TOO_SHORT && says(&a, 3, 0, 0, 8, 0, 0, 0, 0, 0) && holds("", 0),
-         "a room that is one byte too short for a line");
+  expect(write_lines(json, sizeof json - 1, 0, 7, &a) == FASTCAT_ROOM_TOO_SHORT && says(&a, 3, 0, 0, 8, 0, 0, 0, 0, 0) &&
+             holds("", 0), "a room that is one byte too short for a line");
   expect(write_lines(json, sizeof json - 1, 0, 8, &a) == FASTCAT_DONE && holds(one, 8), "a room of as many bytes as it says");
   expect(write_lines(packet_lines, sizeof packet_lines - 1, FASTCAT_PACKETS, 17, &a) == FASTCAT_ROOM_TOO_SHORT &&
              says(&a, 3, 0, 0, 18, 0, 0, 0, 0, 0) && holds("", 0), "a room that is too short for lines of packets");
-  static const uint32_t unknown[] = {FASTCAT_STRICT, FASTCAT_BLOCKS, FASTCAT_BLOCKS | FASTCAT_PACKETS, FASTCAT_STRICT | FASTCAT_PACKETS, 16};
+  static const uint32_t unknown[] = {FASTCAT_STRICT, FASTCAT_BLOCKS, FASTCAT_BLOCKS | FASTCAT_PACKETS,
+                                     FASTCAT_STRICT | FASTCAT_PACKETS, 16};
   for (size_t i = 0; i < sizeof unknown / sizeof *unknown; i++)
     expect(write_lines(json, sizeof json - 1, unknown[i], sizeof room, &a) == FASTCAT_UNKNOWN_MODE &&
                says(&a, 5, 0, 0, 0, 0, 0, 0, 0, 0) && holds("", 0), "a mode that lines have not");
@@ -198,8 +203,8 @@ static void lines(void) {
   static const char mismatch[] = "{" FIELDS "\n{\"id\":1,\"fields\":{\"Seq\":2,\"Sym\":5,\"Px\":1}}\n";
   expect(write_lines(mismatch, sizeof mismatch - 1, 0, sizeof room, &a) == FASTCAT_LINE_REFUSED &&
              says(&a, 7, 0, 0, 8, FASTCAT_MISMATCH, 3, 0, 1, 2) && of_packets(&a, 0, 0) && holds(one, 8), "a number for a string");
-  expect(write_lines(mismatch, sizeof mismatch - 1, 0, 7, &a) == FASTCAT_ROOM_TOO_SHORT && says(&a, 3, 0, 0, 8, 0, 0, 0, 0, 0) &&
-             holds("", 0), "a line that is refused, and a short room");
+  expect(write_lines(mismatch, sizeof mismatch - 1, 0, 7, &a) == FASTCAT_ROOM_TOO_SHORT &&
+             says(&a, 3, 0, 0, 8, 0, 0, 0, 0, 0) && holds("", 0), "a line that is refused, and a short room");
   static const char other[] = "{" FIELDS "{\"template\":\"Const\",\"fields\":{\"K\":8,\"D\":3}}";
   expect(write_lines(other, sizeof other - 1, 0, sizeof room, &a) == FASTCAT_LINE_REFUSED &&
              says(&a, 7, 0, 0, 8, FASTCAT_NOT_CONSTANT, 2, 0, 14, 1) && holds(one, 8), "another value than the constant");
@@ -259,8 +264,8 @@ static void table(FILE *file) {
       expect(fastcat_check((const uint8_t *)over, strlen(over), mode, stream, length, &a) == FASTCAT_STREAM_REFUSED &&
                  a.cause == number, name);
     } else if (strcmp(kind, "line") == 0) {
-      expect(fastcat_write((const uint8_t *)over, strlen(over), mode, (const uint8_t *)what, strlen(what), room, sizeof room, &a) ==
-                     FASTCAT_LINE_REFUSED && a.cause == number && a.message == 1, name);
+      expect(fastcat_write((const uint8_t *)over, strlen(over), mode, (const uint8_t *)what, strlen(what), room, sizeof room,
+                           &a) == FASTCAT_LINE_REFUSED && a.cause == number && a.message == 1, name);
     } else {
       expect(fastcat_templates((const uint8_t *)what, strlen(what), &a) == FASTCAT_TEMPLATES_REFUSED && a.cause == number, name);
     }

@@ -242,7 +242,8 @@ class Writing(unittest.TestCase):
 
     def test_refused_in_packets(self):
         good = quote(decimal.Decimal("1.00"))
-        self.assertEqual(fastcat.write(WORKED, [good | {"packet": 1}, good | {"packet": 3}], packets=True), (b"\x88" + ONE) * 2)
+        numbered = [good | {"packet": 1}, good | {"packet": 3}]
+        self.assertEqual(fastcat.write(WORKED, numbered, packets=True), (b"\x88" + ONE) * 2)
         error = self.refusal(WORKED, [good | {"packet": 2}, good | {"packet": 1}], packets=True)
         self.assertEqual(str(error), "refused Line line=2 template=0 instruction=0")
         self.assertEqual(error.written, b"\x88" + ONE)
