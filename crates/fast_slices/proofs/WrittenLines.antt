@@ -10,7 +10,7 @@ use Rattle.fast_spelled.specs.Spelled.{Spell, in_front, lines_of}
 use Rattle.fast_spelled.specs.Numbered.{SpellIn}
 use Rattle.fast_write.specs.Packets.{MakePackets, Packets, WritesBeforeIn, WritesFrontIn, no_packets}
 use Rattle.fast_write.specs.Written.{Make, WritesBefore as WritesBeforePlain, WritesFront}
-use Rattle.fast_write.specs.Ways.{Makes}
+use Rattle.fast_write.specs.Ways.{Makes, WritesIf}
 use Rattle.fast_write.specs.declared.fault.WriteFault.{WriteFault}
 use Rattle.fast_write.specs.declared.output.OutputForm.{OutputForm}
 use Rattle.fast_write.specs.declared.summary.WrittenSummary.{WrittenSummary}
@@ -49,6 +49,9 @@ few_made false set lines bytes p d count m = let n = few_messages set lines m.0.
 few_made true set lines bytes p d count m = let n = few_numbered set lines m.0.messages m.0.spelled in let e = m.1 in omega (arith, n, e)
 
 -- ---- what a run wrote
+
+pub ran_so : (numbered b : Bool) (set : TemplateList) (text input back : List ℕ) (old new : Option (List ℕ)) (ran : Result WrittenSummary WriteFault) → numbered ≡ b → text ≡ input ++ back → WritesIf b OutputForm.Bytes set (Some back) old new input ran → RunsLines numbered set text old new ran
+ran_so numbered b set text input back old new ran is parts w = (input, back, parts, subst (λ (x : Bool). WritesIf x OutputForm.Bytes set (Some back) old new input ran) (sym is) w)
 
 abbrev of_stream : (set : TemplateList) (text input back : List ℕ) (lines rest : List (List ℕ)) (out : List ℕ) (d : Dictionary) → text ≡ input ++ back → lines_of input ≡ lines ++ rest → Make set lines out d → MadeOfFront false set text out
 of_stream set text input back lines rest out d parts cut m =
