@@ -1,5 +1,5 @@
 -- What was read of lines in memory, and what was made of them.
-use Rattle.std.proofs.Common.{◌≡◌, ◌<◌, ◌≤◌, ◌+◌, ◌^◌, ◌==◌, ℕ, suc, if◌then◌else◌, Bool, true, false, List, [], ◌∷◌, ◌++◌, length, Option, None, Some, Result, Ok, Err, refl, sym, ap, subst, ◌∙◌, arith, append-nil, length-append, inl, inr}
+use Rattle.std.proofs.Common.{◌≡◌, ◌<◌, ◌≤◌, ◌^◌, ◌==◌, ℕ, suc, if◌then◌else◌, Bool, true, false, List, [], ◌∷◌, ◌++◌, length, Option, Some, Result, Ok, Err, refl, sym, ap, subst, ◌∙◌, arith, append-nil, length-append, inl, inr}
 use Rattle.std.specs.Io.KnownBytes.{Appends}
 use Rattle.fast_io.specs.Counts.{counted_by}
 use Rattle.fast_io.specs.Traffic.{Taken}
@@ -9,13 +9,13 @@ use Rattle.fast_stream.specs.Nodes.{Content}
 use Rattle.fast_spelled.specs.Spelled.{Spell, in_front, lines_of}
 use Rattle.fast_spelled.specs.Numbered.{SpellIn}
 use Rattle.fast_write.specs.Packets.{MakePackets, Packets, WritesBeforeIn, WritesFrontIn, no_packets}
-use Rattle.fast_write.specs.Written.{Make, WritesBefore as WritesBeforePlain, WritesFront}
+use Rattle.fast_write.specs.Written.{Make, WritesBefore as WritesBeforePlain}
 use Rattle.fast_write.specs.Ways.{Makes, WritesIf}
 use Rattle.fast_write.specs.declared.fault.WriteFault.{WriteFault}
 use Rattle.fast_write.specs.declared.output.OutputForm.{OutputForm}
 use Rattle.fast_write.specs.declared.summary.WrittenSummary.{WrittenSummary}
 use Rattle.fast_slices.specs.Calls.{Done}
-use Rattle.fast_slices.specs.Lines.{IsOfLine, MadeBefore, MadeOfFront, MeasuresLines, MeasuresRun, Overflows, RunsLines, SettlesLines, WritesBefore, WritesLines}
+use Rattle.fast_slices.specs.Lines.{IsOfLine, MadeBefore, MadeOfFront, MeasuresLines, MeasuresRun, RunsLines, SettlesLines, WritesBefore, WritesLines}
 use Rattle.fast_slices.specs.Rooms.{Puts}
 use Rattle.fast_slices.specs.declared.answer.Counts.{Counts}
 use Rattle.fast_slices.specs.declared.answer.Refusal.{Refusal}

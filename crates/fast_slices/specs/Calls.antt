@@ -31,7 +31,6 @@ use Rattle.fast_slices.specs.Ways.{way_of}
 use Rattle.fast_slices.specs.declared.answer.Counts.{Counts}
 use Rattle.fast_slices.specs.declared.answer.Refusal.{Refusal}
 use Rattle.fast_slices.specs.declared.way.Reading.{Reading}
-use Rattle.fast_slices.specs.declared.way.Way.{Way}
 
 -- what is answered of a stream, and of a call
 abbrev pub StreamDone : Type 0
