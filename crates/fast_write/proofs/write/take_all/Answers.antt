@@ -99,7 +99,7 @@ returns-in-Err-hand_on-clause-answer g c = λ before go.
       i.0 ++ take c.in-Ok.count c.pull.new.buf,
       more_read _ _ _ c.loop-reads.reads i.0 _ i.1 (one_read _ _ c.in-Ok.count c.pull.new.buf c.pull.ensures.call p.bytes.1 (omega (arith, room))),
       omega arith,
-      write_stops (t.comes None before i.0 i.2) (here c.hand_on.new.self) None _ c.in-Err-hand_on.fault h,
+      write_stops (t.comes None before i.0 i.2) (here c.hand_on.new.self) _ _ c.in-Err-hand_on.fault h,
       caused_by_line c.in-Err-hand_on.fault _ _ _ (of_write _ h.0),
     )
 
