@@ -15,7 +15,7 @@ use Rattle.fast_write.specs.declared.fault.WriteFault.{WriteFault}
 use Rattle.fast_write.specs.declared.output.OutputForm.{OutputForm}
 use Rattle.fast_write.specs.declared.summary.WrittenSummary.{WrittenSummary}
 use Rattle.fast_slices.specs.Calls.{Done}
-use Rattle.fast_slices.specs.Lines.{IsOfLine, MadeOfFront, MeasuresLines, MeasuresRun, RunsLines, SettlesLines, StopsBehind, WritesBefore, WritesLines}
+use Rattle.fast_slices.specs.Lines.{IsOfLine, MadeBefore, MadeOfFront, MeasuresLines, MeasuresRun, RunsLines, SettlesLines, WritesBefore, WritesLines}
 use Rattle.fast_slices.specs.Rooms.{Puts}
 use Rattle.fast_slices.specs.declared.answer.Counts.{Counts}
 use Rattle.fast_slices.specs.declared.answer.Refusal.{Refusal}
@@ -101,19 +101,30 @@ all_made true set text old new summary (input, back, parts, w) = record {
 -- a line is refused
 record Stopped (numbered : Bool) (set : TemplateList) (text : List ℕ) (old new : Option (List ℕ)) (f : WriteFault) : Type 0 where
   pub bytes : List ℕ
-  pub made : MadeOfFront numbered set text bytes
-  pub why : StopsBehind numbered set text bytes made f
+  pub made : MadeBefore numbered set text bytes f
   pub appended : Appends old new bytes
 
+stopped_stream : (set : TemplateList) (text input back : List ℕ) (old new : Option (List ℕ)) (f : WriteFault) → text ≡ input ++ back → WritesBeforePlain OutputForm.Bytes set (Some back) old new input f → Stopped false set text old new f
+stopped_stream set text input back old new f parts w =
+    let s = w.stops back (λ e. e) in record {
+      bytes = w.out;
+      made = record { lines = w.lines; rest = s.0; cut = ap lines_of parts ∙ s.1; packets = no_packets; entries = w.entries; count = length w.made.messages; made = (w.made, refl); why = s.2 };
+      appended = subst (Appends old new) (append-nil w.out) w.written;
+    }
+
+stopped_packets : (set : TemplateList) (text input back : List ℕ) (old new : Option (List ℕ)) (f : WriteFault) → text ≡ input ++ back → WritesBeforeIn OutputForm.Bytes set (Some back) old new input f → Stopped true set text old new f
+stopped_packets set text input back old new f parts w =
+    let s = w.stops back (λ e. e) in record {
+      bytes = w.out;
+      made = record { lines = w.lines; rest = s.0; cut = ap lines_of parts ∙ s.1; packets = w.packets; entries = w.entries; count = length w.made.messages; made = (w.made, refl); why = s.2 };
+      appended = subst (Appends old new) (append-nil w.out) w.written;
+    }
+
 stopped : (numbered : Bool) (set : TemplateList) (text : List ℕ) (old new : Option (List ℕ)) (f : WriteFault) → IsOfLine f → RunsLines numbered set text old new (Err f) → Stopped numbered set text old new f
-stopped false set text old new (WriteFault.Line number f) of (input, back, parts, w) =
-    record { bytes = w.out; made = of_stream set text input back w.lines w.rest w.out w.entries parts w.cut w.made; why = w.why; appended = subst (Appends old new) (append-nil w.out) w.written }
-stopped false set text old new (WriteFault.Message number template f) of (input, back, parts, w) =
-    record { bytes = w.out; made = of_stream set text input back w.lines w.rest w.out w.entries parts w.cut w.made; why = w.why; appended = subst (Appends old new) (append-nil w.out) w.written }
-stopped true set text old new (WriteFault.Line number f) of (input, back, parts, w) =
-    record { bytes = w.out; made = of_packets set text input back w.lines w.rest w.out w.packets w.entries parts w.cut w.made; why = w.why; appended = subst (Appends old new) (append-nil w.out) w.written }
-stopped true set text old new (WriteFault.Message number template f) of (input, back, parts, w) =
-    record { bytes = w.out; made = of_packets set text input back w.lines w.rest w.out w.packets w.entries parts w.cut w.made; why = w.why; appended = subst (Appends old new) (append-nil w.out) w.written }
+stopped false set text old new (WriteFault.Line number f) of (input, back, parts, w) = stopped_stream set text input back old new (WriteFault.Line number f) parts w
+stopped false set text old new (WriteFault.Message number template f) of (input, back, parts, w) = stopped_stream set text input back old new (WriteFault.Message number template f) parts w
+stopped true set text old new (WriteFault.Line number f) of (input, back, parts, w) = stopped_packets set text input back old new (WriteFault.Line number f) parts w
+stopped true set text old new (WriteFault.Message number template f) of (input, back, parts, w) = stopped_packets set text input back old new (WriteFault.Message number template f) parts w
 stopped numbered set text old new f of h = absurd of
 
 -- more was written than fits
@@ -132,11 +143,17 @@ front_is size kept out rest long t =
     let sum = length-append t.front rest in
     let front = ap (λ (xs : List ℕ). length xs) t.appended in omega (arith, long, same, sum, front)
 
-long_stream : (set : TemplateList) (text input back kept : List ℕ) (size : ℕ) (f : WriteFault) → text ≡ input ++ back → size < length kept → WritesBeforePlain OutputForm.Bytes set (Some []) (Some kept) input f → Long false set text size
-long_stream set text input back kept size f parts long w = record { bytes = w.out; made = of_stream set text input back w.lines w.rest w.out w.entries parts w.cut w.made; longer = whole_is size kept w.out long w.written }
+-- nothing follows
+alone : {ls : List (List ℕ)} (input : List ℕ) → lines_of (input ++ []) ≡ ls → lines_of input ≡ ls
+alone input cut = ap lines_of (sym (append-nil input)) ∙ cut
 
-long_packets : (set : TemplateList) (text input back kept : List ℕ) (size : ℕ) (f : WriteFault) → text ≡ input ++ back → size < length kept → WritesBeforeIn OutputForm.Bytes set (Some []) (Some kept) input f → Long true set text size
-long_packets set text input back kept size f parts long w = record { bytes = w.out; made = of_packets set text input back w.lines w.rest w.out w.packets w.entries parts w.cut w.made; longer = whole_is size kept w.out long w.written }
+long_stream : (set : TemplateList) (text input back kept : List ℕ) (size : ℕ) (f : WriteFault) → text ≡ input ++ back → size < length kept → WritesBeforePlain OutputForm.Bytes set (Some back) (Some []) (Some kept) input f → Long false set text size
+long_stream set text input back kept size f parts long w =
+    let s = w.stops [] (λ e. refl) in record { bytes = w.out; made = of_stream set text input back w.lines s.0 w.out w.entries parts (alone input s.1) w.made; longer = whole_is size kept w.out long w.written }
+
+long_packets : (set : TemplateList) (text input back kept : List ℕ) (size : ℕ) (f : WriteFault) → text ≡ input ++ back → size < length kept → WritesBeforeIn OutputForm.Bytes set (Some back) (Some []) (Some kept) input f → Long true set text size
+long_packets set text input back kept size f parts long w =
+    let s = w.stops [] (λ e. refl) in record { bytes = w.out; made = of_packets set text input back w.lines s.0 w.out w.packets w.entries parts (alone input s.1) w.made; longer = whole_is size kept w.out long w.written }
 
 long_front : (set : TemplateList) (text input back kept : List ℕ) (size : ℕ) → text ≡ input ++ back → size < length kept → WritesFrontIn OutputForm.Bytes set (Some []) (Some kept) input → Long true set text size
 long_front set text input back kept size parts long w =
@@ -184,7 +201,7 @@ written_before : (numbered : Bool) (set : TemplateList) (text bytes old new : Li
 written_before numbered set text bytes old new f written of h count put =
     let s = stopped numbered set text (Some []) (Some bytes) f of h in
     let same : bytes ≡ s.bytes = s.appended in
-    record { bytes = s.bytes; made = s.made; why = s.why; put = subst (λ (xs : List ℕ). Puts xs old new) same put; count = count ∙ ap (λ (xs : List ℕ). length xs) same }
+    record { bytes = s.bytes; made = s.made; put = subst (λ (xs : List ℕ). Puts xs old new) same put; count = count ∙ ap (λ (xs : List ℕ). length xs) same }
 
 pub settled : (numbered : Bool) (set : TemplateList) (text bytes old new : List ℕ) (ran : Result WrittenSummary WriteFault) (r : Done) → length text < 2 ^ 40 → length bytes < 2 ^ 64 → RunsLines numbered set text (Some []) (Some bytes) ran → SettlesLines ran (length text) bytes old new r
     → WritesLines numbered set text old new r
@@ -217,7 +234,7 @@ measured numbered set text old new ran (Refusal.Room needed) h (inl (summary, is
     let a = all_made numbered set text old new summary (subst (λ (x : Result WrittenSummary WriteFault). RunsLines numbered set text old new x) is h) in
     inl (a.bytes, a.packets, a.entries, a.messages, a.made, n ∙ a.written_are)
 measured numbered set text old new ran (Refusal.Room needed) h (inr (f, is, of)) =
-    let s = stopped numbered set text old new f of (subst (λ (x : Result WrittenSummary WriteFault). RunsLines numbered set text old new x) is h) in inr (f, of, s.bytes, s.made, s.why)
+    let s = stopped numbered set text old new f of (subst (λ (x : Result WrittenSummary WriteFault). RunsLines numbered set text old new x) is h) in inr (f, of, s.bytes, s.made)
 measured numbered set text old new ran Refusal.Memory h m = tt
 measured numbered set text old new ran r h m = absurd m
 

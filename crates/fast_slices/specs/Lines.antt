@@ -45,9 +45,16 @@ pub record MadeOfFront (numbered : Bool) (set : TemplateList) (text bytes : List
   pub count : ℕ
   pub made : Makes numbered set lines bytes packets entries count
 
--- why it went no further than these lines
-abbrev pub StopsBehind : (numbered : Bool) (set : TemplateList) (text bytes : List ℕ) → MadeOfFront numbered set text bytes → WriteFault → Type 0
-StopsBehind numbered set text bytes m f = StopsIf numbered set m.packets m.entries m.lines m.rest f
+-- Likewise of the lines of a text before one that is refused, and why that is.
+pub record MadeBefore (numbered : Bool) (set : TemplateList) (text bytes : List ℕ) (f : WriteFault) : Type 0 where
+  pub lines : List (List ℕ)
+  pub rest : List (List ℕ)
+  pub cut : lines_of text ≡ lines ++ rest
+  pub packets : Packets
+  pub entries : Dictionary
+  pub count : ℕ
+  pub made : Makes numbered set lines bytes packets entries count
+  pub why : StopsIf numbered set packets entries lines rest f
 
 -- it is the fault of a line
 abbrev pub IsOfLine : WriteFault → Type 0
@@ -70,8 +77,7 @@ pub record WritesAll (numbered : Bool) (set : TemplateList) (text old new : List
 -- A line is refused; what is made of the lines before it is in the room's front.
 pub record WritesBefore (numbered : Bool) (set : TemplateList) (text old new : List ℕ) (f : WriteFault) (written : ℕ) : Type 0 where
   pub bytes : List ℕ
-  pub made : MadeOfFront numbered set text bytes
-  pub why : StopsBehind numbered set text bytes made f
+  pub made : MadeBefore numbered set text bytes f
   pub put : Puts bytes old new
   pub count : written ≡ length bytes
 
@@ -79,7 +85,7 @@ pub record WritesBefore (numbered : Bool) (set : TemplateList) (text old new : L
 abbrev pub Needs : Bool → TemplateList → List ℕ → ℕ → Type 0
 Needs numbered set text needed =
     ((bytes : List ℕ) × (packets : Packets) × (entries : Dictionary) × (messages : ℕ) × Makes numbered set (lines_of text) bytes packets entries messages × (needed ≡ counted_by 0 (length bytes)))
-    ⊎ ((f : WriteFault) × IsOfLine f × (bytes : List ℕ) × (made : MadeOfFront numbered set text bytes) × StopsBehind numbered set text bytes made f)
+    ⊎ ((f : WriteFault) × IsOfLine f × (bytes : List ℕ) × MadeBefore numbered set text bytes f)
 
 -- More is made than the room holds of lines that a front of the text begins with, and the room stays.
 pub record Overflows (numbered : Bool) (set : TemplateList) (text old new : List ℕ) (needed : ℕ) : Type 0 where

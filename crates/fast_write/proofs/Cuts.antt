@@ -71,6 +71,10 @@ no_line (c ∷ cs) e = absurd (omega (arith, e))
 pub all_cut : {input begun : List ℕ} {lines : List (List ℕ)} → IsCut input lines begun → lines_of input ≡ lines ++ lines_of begun
 all_cut {input = input} {begun = begun} {lines = lines} c = ap lines_of (sym (append-nil input)) ∙ c.cut [] ∙ ap (λ l. lines ++ lines_of l) (append-nil begun)
 
+-- nothing follows
+pub nothing_follows : (input : List ℕ) (lines rest : List (List ℕ)) → lines_of (input ++ []) ≡ lines ++ rest → lines_of input ≡ lines ++ rest
+nothing_follows input lines rest cut = ap lines_of (sym (append-nil input)) ∙ cut
+
 pub ends_between : {input begun : List ℕ} {lines : List (List ℕ)} → IsCut input lines begun → length begun ≡ 0 → lines_of input ≡ lines
 ends_between {begun = begun} {lines = lines} c none = all_cut c ∙ ap (λ l. lines ++ l) (no_line begun none) ∙ append-nil lines
 

@@ -14,8 +14,9 @@ use Rattle.fast_write.specs.declared.output.OutputForm.{OutputForm}
 use Rattle.fast_write.specs.declared.summary.WrittenSummary.{WrittenSummary}
 use Rattle.fast_write.specs.Outputs.{ending_of, output_of, part_of}
 use Rattle.fast_write.specs.Packets.{Packets, no_packets}
-use Rattle.fast_write.specs.Written.{FlushesOnce}
+use Rattle.fast_write.specs.Written.{FlushesOnce, MayFollow}
 use Rattle.fast_write.specs.Ways.{Answers, ClosesNot, ClosesOn, Ends, Finishes, Here, MadeIf, Makes, Stands, Stops, StopsIf, StopsIn, WritesIf}
+use Rattle.fast_write.proofs.Cuts.{nothing_follows}
 use Rattle.fast_write.proofs.Made.{make_none}
 use Rattle.fast_write.proofs.Standing.{closes_of, few_if, makes_if, more_counted, part_append, part_nil}
 
@@ -77,19 +78,24 @@ front_if true form set left old last input lines rest out p d count unwritten cu
 whole_taken : (old last : Option (List ℕ)) (bytes : List ℕ) → Appends old last bytes → Taken old last bytes []
 whole_taken old last bytes w = record { front = bytes; parts = sym (append-nil bytes); appended = w }
 
-before_if : (b : Bool) (form : OutputForm) (set : TemplateList) (left old last : Option (List ℕ)) (input : List ℕ) (lines rest : List (List ℕ)) (out : List ℕ) (p : Packets) (d : Dictionary) (count : ℕ) (f : WriteFault) → (f ≡ refusal.Write → ⊥) → lines_of input ≡ lines ++ rest → Makes b set lines out p d count
-    → StopsIf b set p d lines rest f → Appends old last (output_of form out) → WritesIf b form set left old last input (Err f)
-before_if b form set left old last input lines rest out p d count refusal.Write other cut m why w = absurd (other refl)
-before_if false form set left old last input lines rest out p d count (refusal.Line n x) other cut m why w = record { lines = lines; rest = rest; out = out; entries = d; cut = cut; made = m.0; written = w; why = why }
-before_if false form set left old last input lines rest out p d count (refusal.Message n template x) other cut m why w = record { lines = lines; rest = rest; out = out; entries = d; cut = cut; made = m.0; written = w; why = why }
-before_if false form set left old last input lines rest out p d count refusal.Read other cut m why w = record { lines = lines; rest = rest; out = out; entries = d; cut = cut; made = m.0; written = w; why = why }
-before_if false form set left old last input lines rest out p d count refusal.Turns other cut m why w = record { lines = lines; rest = rest; out = out; entries = d; cut = cut; made = m.0; written = w; why = why }
-before_if false form set left old last input lines rest out p d count refusal.Memory other cut m why w = record { lines = lines; rest = rest; out = out; entries = d; cut = cut; made = m.0; written = w; why = why }
-before_if true form set left old last input lines rest out p d count (refusal.Line n x) other cut m why w = record { lines = lines; rest = rest; out = out; packets = p; entries = d; cut = cut; made = m.0; written = w; why = why }
-before_if true form set left old last input lines rest out p d count (refusal.Message n template x) other cut m why w = record { lines = lines; rest = rest; out = out; packets = p; entries = d; cut = cut; made = m.0; written = w; why = why }
-before_if true form set left old last input lines rest out p d count refusal.Read other cut m why w = record { lines = lines; rest = rest; out = out; packets = p; entries = d; cut = cut; made = m.0; written = w; why = why }
-before_if true form set left old last input lines rest out p d count refusal.Turns other cut m why w = record { lines = lines; rest = rest; out = out; packets = p; entries = d; cut = cut; made = m.0; written = w; why = why }
-before_if true form set left old last input lines rest out p d count refusal.Memory other cut m why w = record { lines = lines; rest = rest; out = out; packets = p; entries = d; cut = cut; made = m.0; unwritten = []; written = whole_taken old last (output_of form out) w }
+-- why it went no further, whatever may still follow
+abbrev StopsStill : Bool → TemplateList → Option (List ℕ) → List ℕ → List (List ℕ) → Packets → Dictionary → WriteFault → Type 0
+StopsStill b set left input lines p d f = (more : List ℕ) → MayFollow left more → (rest : List (List ℕ)) × (lines_of (input ++ more) ≡ lines ++ rest) × StopsIf b set p d lines rest f
+
+before_if : (b : Bool) (form : OutputForm) (set : TemplateList) (left old last : Option (List ℕ)) (input : List ℕ) (lines : List (List ℕ)) (out : List ℕ) (p : Packets) (d : Dictionary) (count : ℕ) (f : WriteFault) → (f ≡ refusal.Write → ⊥) → Makes b set lines out p d count
+    → StopsStill b set left input lines p d f → Appends old last (output_of form out) → WritesIf b form set left old last input (Err f)
+before_if b form set left old last input lines out p d count refusal.Write other m stops w = absurd (other refl)
+before_if false form set left old last input lines out p d count (refusal.Line n x) other m stops w = record { lines = lines; out = out; entries = d; made = m.0; written = w; stops = stops }
+before_if false form set left old last input lines out p d count (refusal.Message n template x) other m stops w = record { lines = lines; out = out; entries = d; made = m.0; written = w; stops = stops }
+before_if false form set left old last input lines out p d count refusal.Read other m stops w = record { lines = lines; out = out; entries = d; made = m.0; written = w; stops = stops }
+before_if false form set left old last input lines out p d count refusal.Turns other m stops w = record { lines = lines; out = out; entries = d; made = m.0; written = w; stops = stops }
+before_if false form set left old last input lines out p d count refusal.Memory other m stops w = record { lines = lines; out = out; entries = d; made = m.0; written = w; stops = stops }
+before_if true form set left old last input lines out p d count (refusal.Line n x) other m stops w = record { lines = lines; out = out; packets = p; entries = d; made = m.0; written = w; stops = stops }
+before_if true form set left old last input lines out p d count (refusal.Message n template x) other m stops w = record { lines = lines; out = out; packets = p; entries = d; made = m.0; written = w; stops = stops }
+before_if true form set left old last input lines out p d count refusal.Read other m stops w = record { lines = lines; out = out; packets = p; entries = d; made = m.0; written = w; stops = stops }
+before_if true form set left old last input lines out p d count refusal.Turns other m stops w = record { lines = lines; out = out; packets = p; entries = d; made = m.0; written = w; stops = stops }
+before_if true form set left old last input lines out p d count refusal.Memory other m stops w =
+    let s = stops [] (λ e. refl) in record { lines = lines; rest = s.0; out = out; packets = p; entries = d; cut = nothing_follows input lines s.0 s.1; made = m.0; unwritten = []; written = whole_taken old last (output_of form out) w }
 
 -- memory was refused for the size of a packet
 memory_if : (b : Bool) (form : OutputForm) (set : TemplateList) (left old last : Option (List ℕ)) (input : List ℕ) (lines rest : List (List ℕ)) (bytes out : List ℕ) (p : Packets) (d : Dictionary) (count number : ℕ) (packet unwritten : List ℕ) → lines_of input ≡ lines ++ rest
@@ -119,25 +125,27 @@ pub all_not_closed : {h : Here} {left old new : Option (List ℕ)} {input : List
 all_not_closed {left = left} {input = input} e last f w = not_closed e.stands left last input [] f (sym (append-nil (lines_of input))) w
 
 -- those before a fault
-stopped_in : (h : Here) (old new : Option (List ℕ)) (input : List ℕ) (f : WriteFault) → (f ≡ refusal.Write → ⊥) → Stops h old new input f → StopsIn h old new input f
-stopped_in h old new input (refusal.Line n x) other s = s
-stopped_in h old new input (refusal.Message n template x) other s = s
-stopped_in h old new input refusal.Read other s = s
-stopped_in h old new input refusal.Turns other s = s
-stopped_in h old new input refusal.Memory other s = s
-stopped_in h old new input refusal.Write other s = absurd (other refl)
+stopped_in : (h : Here) (left old new : Option (List ℕ)) (input : List ℕ) (f : WriteFault) → (f ≡ refusal.Write → ⊥) → Stops h left old new input f → StopsIn h left old new input f
+stopped_in h left old new input (refusal.Line n x) other s = s
+stopped_in h left old new input (refusal.Message n template x) other s = s
+stopped_in h left old new input refusal.Read other s = s
+stopped_in h left old new input refusal.Turns other s = s
+stopped_in h left old new input refusal.Memory other s = s
+stopped_in h left old new input refusal.Write other s = absurd (other refl)
 
-pub before_written : (h : Here) (left old new : Option (List ℕ)) (input : List ℕ) (f : WriteFault) → Stops h old new input f → (f ≡ refusal.Write → ⊥) → (k : Here) (last : Option (List ℕ)) → ClosesOn h k new last → WritesIf h.numbered h.form h.set left old last input (Err f)
+pub before_written : (h : Here) (left old new : Option (List ℕ)) (input : List ℕ) (f : WriteFault) → Stops h left old new input f → (f ≡ refusal.Write → ⊥) → (k : Here) (last : Option (List ℕ)) → ClosesOn h k new last → WritesIf h.numbered h.form h.set left old last input (Err f)
 before_written h left old new input f stops other k last w =
-    let s = stopped_in h old new input f other stops in
-    before_if h.numbered h.form h.set left old last input s.lines s.rest ((s.stands.sent ++ h.ready) ++ w.bytes) s.stands.packets s.entries s.stands.count f other s.cut (makes_if h.numbered h.set s.lines (s.stands.sent ++ h.ready) s.stands.count s.stands.packets s.entries h.number h.packet s.stands.made s.stands.short w.bytes w.closes) s.why
+    let s = stopped_in h left old new input f other stops in
+    before_if h.numbered h.form h.set left old last input s.lines ((s.stands.sent ++ h.ready) ++ w.bytes) s.stands.packets s.entries s.stands.count f other (makes_if h.numbered h.set s.lines (s.stands.sent ++ h.ready) s.stands.count s.stands.packets s.entries h.number h.packet s.stands.made s.stands.short w.bytes w.closes) s.stops
     (closed s.stands last w.bytes w.written)
 
-pub before_not_closed : (h : Here) (left old new : Option (List ℕ)) (input : List ℕ) (f : WriteFault) → Stops h old new input f → (f ≡ refusal.Write → ⊥) → (last : Option (List ℕ)) (failed : WriteFault) → ClosesNot h new last failed → WritesIf h.numbered h.form h.set left old last input (Err failed)
-before_not_closed h left old new input f stops other last failed w = let s = stopped_in h old new input f other stops in not_closed s.stands left last input s.rest failed s.cut w
+pub before_not_closed : (h : Here) (left old new : Option (List ℕ)) (input : List ℕ) (f : WriteFault) → Stops h left old new input f → (f ≡ refusal.Write → ⊥) → (last : Option (List ℕ)) (failed : WriteFault) → ClosesNot h new last failed → WritesIf h.numbered h.form h.set left old last input (Err failed)
+before_not_closed h left old new input f stops other last failed w =
+    let s = stopped_in h left old new input f other stops in
+    let t = s.stops [] (λ e. refl) in not_closed s.stands left last input t.0 failed (nothing_follows input s.lines t.0 t.1) w
 
 -- a write failed before
-pub front_written : (h : Here) (left old new : Option (List ℕ)) (input : List ℕ) → Stops h old new input refusal.Write → WritesIf h.numbered h.form h.set left old new input (Err refusal.Write)
+pub front_written : (h : Here) (left old new : Option (List ℕ)) (input : List ℕ) → Stops h left old new input refusal.Write → WritesIf h.numbered h.form h.set left old new input (Err refusal.Write)
 front_written h left old new input s = front_if h.numbered h.form h.set left old new input s.lines s.rest s.breaks.out s.breaks.packets s.breaks.entries s.breaks.count s.breaks.unwritten s.cut s.breaks.made s.breaks.written
 
 -- no lines, for want of memory
@@ -145,12 +153,12 @@ make_nothing : (b : Bool) (set : TemplateList) → Makes b set [] [] no_packets 
 make_nothing false set = (make_none set map.empty refl, refl)
 make_nothing true set = (record { messages = []; short = tt; spelled = refl; in_order = tt; packets = refl; recorded = refl; stream = []; going_on = (refl, refl) }, refl)
 
-why_nothing : (b : Bool) (set : TemplateList) → StopsIf b set no_packets map.empty [] [] refusal.Memory
-why_nothing false set = tt
-why_nothing true set = tt
+why_nothing : (b : Bool) (set : TemplateList) (rest : List (List ℕ)) → StopsIf b set no_packets map.empty [] rest refusal.Memory
+why_nothing false set rest = tt
+why_nothing true set rest = tt
 
 pub none_written : (b : Bool) (form : OutputForm) (set : TemplateList) (left old new : Option (List ℕ)) → Appends old new (ending_of form) → WritesIf b form set left old new [] (Err refusal.Memory)
-none_written b form set left old new w = before_if b form set left old new [] [] [] [] no_packets map.empty 0 refusal.Memory (λ e. absurd cc) refl (make_nothing b set) (why_nothing b set) (subst (λ (l : List ℕ). Appends old new (l ++ ending_of form)) (sym (part_nil form)) w)
+none_written b form set left old new w = before_if b form set left old new [] [] [] no_packets map.empty 0 refusal.Memory (λ e. absurd cc) (make_nothing b set) (λ more may. (lines_of more, refl, why_nothing b set (lines_of more))) (subst (λ (l : List ℕ). Appends old new (l ++ ending_of form)) (sym (part_nil form)) w)
 
 pub none_front : (b : Bool) (form : OutputForm) (set : TemplateList) (left old new : Option (List ℕ)) (rest : List ℕ) → Taken old new (ending_of form) rest → WritesIf b form set left old new [] (Err refusal.Write)
 none_front b form set left old new rest t = front_if b form set left old new [] [] [] [] no_packets map.empty 0 rest refl (make_nothing b set) (subst (λ (l : List ℕ). Taken old new (l ++ ending_of form) rest) (sym (part_nil form)) t)

@@ -15,7 +15,7 @@ use Rattle.fast_write.specs.declared.fault.WriteFault.TheVariants as refusal
 use Rattle.fast_write.specs.declared.summary.WrittenSummary.{WrittenSummary}
 use Rattle.fast_decoder.specs.Inputs.{Reader, Reads}
 use Rattle.fast_decoder.proofs.Inputs.{more_read}
-use Rattle.fast_write.specs.Written.{HasEnded, IsCauseOf, IsCausedBy, IsShort, is_no_feed, line_limit, size_of}
+use Rattle.fast_write.specs.Written.{HasEnded, IsCauseOf, IsCausedBy, IsShort, MayFollow, is_no_feed, line_limit, size_of}
 use Rattle.fast_template.specs.TemplateSets.{TemplateList}
 use Rattle.fast_dictionary.specs.Dictionary.{Dictionary}
 use Rattle.fast_io.specs.Counts.{counted_by}
@@ -58,41 +58,58 @@ line_goes {h = h} {old = old} {input = input} g begun is k newer e = record {
 why_still : (h k : Here) (d : Dictionary) (p : Packets) (lines rest : List (List ℕ)) (f : WriteFault) → IsSameWay h k → StopsIf h.numbered h.set p d lines rest f → StopsIf k.numbered k.set p d lines rest f
 why_still h k d p lines rest f same why = subst (λ s. StopsIf k.numbered s p d lines rest f) (sym same.set) (subst (λ b. StopsIf b h.set p d lines rest f) (sym same.numbered) why)
 
-stops_by : (h k : Here) (old newer : Option (List ℕ)) (lines rest : List (List ℕ)) (whole : List ℕ) (f : WriteFault) → IsSameWay h k → lines_of whole ≡ lines ++ h.begun ∷ rest → (d : Dictionary) (s : Stands k d old newer lines)
-    → ((more : List (List ℕ)) → StopsIf h.numbered h.set s.packets d lines (h.begun ∷ more) f) → StopsIn k old newer whole f
-stops_by h k old newer lines rest whole f same cut d s why = record { lines = lines; rest = h.begun ∷ rest; cut = cut; entries = d; stands = s; why = why_still h k d s.packets lines (h.begun ∷ rest) f same (why rest) }
+-- what follows stands behind what is behind
+behind_too : {whole front behind : List ℕ} → whole ≡ front ++ behind → (more : List ℕ) → whole ++ more ≡ front ++ (behind ++ more)
+behind_too {front = front} {behind = behind} w more = ap (λ (l : List ℕ). l ++ more) w ∙ append_assoc front behind more
 
-stops_before : (h k : Here) (old newer : Option (List ℕ)) (lines rest : List (List ℕ)) (whole : List ℕ) (f : WriteFault) → IsSameWay h k → lines_of whole ≡ lines ++ h.begun ∷ rest → EndsLine h k old newer lines (Err f) → Stops k old newer whole f
-stops_before h k old newer lines rest whole (refusal.Line n f) same cut e = stops_by h k old newer lines rest whole (refusal.Line n f) same cut e.0 e.1 e.2
-stops_before h k old newer lines rest whole (refusal.Message n template f) same cut e = stops_by h k old newer lines rest whole (refusal.Message n template f) same cut e.0 e.1 e.2
-stops_before h k old newer lines rest whole refusal.Read same cut e = stops_by h k old newer lines rest whole refusal.Read same cut e.0 e.1 e.2
-stops_before h k old newer lines rest whole refusal.Turns same cut e = stops_by h k old newer lines rest whole refusal.Turns same cut e.0 e.1 e.2
-stops_before h k old newer lines rest whole refusal.Memory same cut e = stops_by h k old newer lines rest whole refusal.Memory same cut e.0 e.1 e.2
-stops_before h k old newer lines rest whole refusal.Write same cut e = record {
-  lines = lines ++ h.begun ∷ [];
-  rest = rest;
-  cut = cut ∙ sym (append_assoc lines (h.begun ∷ []) rest);
-  breaks = breaks_still (record { form = sym same.form; set = sym same.set; numbered = sym same.numbered }) e;
+-- the open line is one of what was read, whatever may follow
+abbrev IsWhole : Here → Option (List ℕ) → List (List ℕ) → List ℕ → Type 0
+IsWhole h left lines whole = (more : List ℕ) → MayFollow left more → (rest : List (List ℕ)) × (lines_of (whole ++ more) ≡ lines ++ h.begun ∷ rest)
+
+stops_by : (h k : Here) (left old newer : Option (List ℕ)) (lines : List (List ℕ)) (whole : List ℕ) (f : WriteFault) → IsSameWay h k → IsWhole h left lines whole → (d : Dictionary) (s : Stands k d old newer lines)
+    → ((more : List (List ℕ)) → StopsIf h.numbered h.set s.packets d lines (h.begun ∷ more) f) → StopsIn k left old newer whole f
+stops_by h k left old newer lines whole f same cut d s why = record {
+  lines = lines;
+  entries = d;
+  stands = s;
+  stops = λ more may. let c = cut more may in (h.begun ∷ c.0, c.1, why_still h k d s.packets lines (h.begun ∷ c.0) f same (why c.0));
 }
 
-pub line_stops : {h : Here} {old new : Option (List ℕ)} {input : List ℕ} → (g : GoesOn h old new input) → (begun : List ℕ) → begun ≡ h.begun ++ 10 ∷ [] → (k : Here) (newer : Option (List ℕ)) (more whole : List ℕ) (f : WriteFault) → IsSameWay (record h { begun = begun }) k
-    → whole ≡ (input ++ 10 ∷ []) ++ more → EndsLine (record h { begun = begun }) k old newer g.lines (Err f) → Stops k old newer whole f
-line_stops {h = h} {old = old} g begun is k newer more whole f same w e =
-    stops_before (record h { begun = begun }) k old newer g.lines (lines_of more) whole f same (ap lines_of w ∙ next_line g.is_cut more ∙ ap (λ (line : List ℕ). g.lines ++ line ∷ lines_of more) (sym is)) e
+stops_before : (h k : Here) (left old newer : Option (List ℕ)) (lines : List (List ℕ)) (whole : List ℕ) (f : WriteFault) → IsSameWay h k → IsWhole h left lines whole → EndsLine h k old newer lines (Err f) → Stops k left old newer whole f
+stops_before h k left old newer lines whole (refusal.Line n f) same cut e = stops_by h k left old newer lines whole (refusal.Line n f) same cut e.0 e.1 e.2
+stops_before h k left old newer lines whole (refusal.Message n template f) same cut e = stops_by h k left old newer lines whole (refusal.Message n template f) same cut e.0 e.1 e.2
+stops_before h k left old newer lines whole refusal.Read same cut e = stops_by h k left old newer lines whole refusal.Read same cut e.0 e.1 e.2
+stops_before h k left old newer lines whole refusal.Turns same cut e = stops_by h k left old newer lines whole refusal.Turns same cut e.0 e.1 e.2
+stops_before h k left old newer lines whole refusal.Memory same cut e = stops_by h k left old newer lines whole refusal.Memory same cut e.0 e.1 e.2
+stops_before h k left old newer lines whole refusal.Write same cut e =
+    let c = cut [] (λ e. refl) in record {
+      lines = lines ++ h.begun ∷ [];
+      rest = c.0;
+      cut = ap lines_of (sym (append-nil whole)) ∙ c.1 ∙ sym (append_assoc lines (h.begun ∷ []) c.0);
+      breaks = breaks_still (record { form = sym same.form; set = sym same.set; numbered = sym same.numbered }) e;
+    }
+
+pub line_stops : {h : Here} {old new : Option (List ℕ)} {input : List ℕ} → (g : GoesOn h old new input) → (begun : List ℕ) → begun ≡ h.begun ++ 10 ∷ [] → (k : Here) (left newer : Option (List ℕ)) (behind whole : List ℕ) (f : WriteFault) → IsSameWay (record h { begun = begun }) k
+    → whole ≡ (input ++ 10 ∷ []) ++ behind → EndsLine (record h { begun = begun }) k old newer g.lines (Err f) → Stops k left old newer whole f
+line_stops {h = h} {old = old} {input = input} g begun is k left newer behind whole f same w e =
+    stops_before (record h { begun = begun }) k left old newer g.lines whole f same
+    (λ more may. (lines_of (behind ++ more), ap lines_of (behind_too w more) ∙ next_line g.is_cut (behind ++ more) ∙ ap (λ (line : List ℕ). g.lines ++ line ∷ lines_of (behind ++ more)) (sym is))) e
 
 -- memory was refused for it
 why_of_memory : (b : Bool) (set : TemplateList) (p : Packets) (d : Dictionary) (lines rest : List (List ℕ)) → StopsIf b set p d lines rest refusal.Memory × StopsIf b set p d lines rest refusal.Read × StopsIf b set p d lines rest refusal.Turns
 why_of_memory false set p d lines rest = (tt, tt, tt)
 why_of_memory true set p d lines rest = (tt, tt, tt)
 
-pub memory_stops : {h : Here} {old new : Option (List ℕ)} {input : List ℕ} → GoesOn h old new input → (begun more whole : List ℕ) → whole ≡ input ++ more → Stops (record h { begun = begun }) old new whole refusal.Memory
-memory_stops {h = h} g begun more whole w = record {
+pub memory_stops : {h : Here} {old new : Option (List ℕ)} {input : List ℕ} → GoesOn h old new input → (left : Option (List ℕ)) (begun behind whole : List ℕ) → whole ≡ input ++ behind → Stops (record h { begun = begun }) left old new whole refusal.Memory
+memory_stops {h = h} g left begun behind whole w = record {
   lines = g.lines;
-  rest = lines_of (h.begun ++ more);
-  cut = ap lines_of w ∙ g.is_cut.cut more;
   entries = h.entries;
   stands = stands_closed g.stands begun;
-  why = (why_of_memory h.numbered h.set g.stands.packets h.entries g.lines (lines_of (h.begun ++ more))).0;
+  stops = λ more may. (
+    lines_of (h.begun ++ (behind ++ more)),
+    ap lines_of (behind_too w more) ∙ g.is_cut.cut (behind ++ more),
+    (why_of_memory h.numbered h.set g.stands.packets h.entries g.lines (lines_of (h.begun ++ (behind ++ more)))).0,
+  );
 }
 
 -- it is too long
@@ -100,26 +117,27 @@ why_of_long : (b : Bool) (set : TemplateList) (p : Packets) (d : Dictionary) (li
 why_of_long false set p d lines line more n f is limit long = (is, line, more, refl, inl (limit, long))
 why_of_long true set p d lines line more n f is limit long = (is, line, more, refl, inl (limit, long))
 
-long_stops : {h : Here} {old new : Option (List ℕ)} {input : List ℕ} → GoesOn h old new input → (bytes more whole : List ℕ) (f : LineFault) → list_all is_no_feed bytes ≡ true → line_limit < length (h.begun ++ bytes) → f.cause ≡ Limit → whole ≡ input ++ (bytes ++ more)
-    → Stops h old new whole (refusal.Line (counted h.counts.lines) f)
-long_stops {h = h} {old = old} {new = new} g bytes more whole f clean long limit w =
-    let t = too_long g.is_cut bytes more clean long in
-    record {
-      lines = g.lines;
-      rest = t.0 ∷ t.1;
-      cut = ap lines_of w ∙ t.2;
-      entries = h.entries;
-      stands = g.stands;
-      why = why_of_long h.numbered h.set g.stands.packets h.entries g.lines t.0 t.1 _ f (ap (λ (c : WrittenSummary). counted c.lines) g.stands.counts ∙ one_counted (length g.lines)) limit t.3;
-    }
+long_stops : {h : Here} {old new : Option (List ℕ)} {input : List ℕ} → GoesOn h old new input → (left : Option (List ℕ)) (bytes behind whole : List ℕ) (f : LineFault) → list_all is_no_feed bytes ≡ true → line_limit < length (h.begun ++ bytes) → f.cause ≡ Limit → whole ≡ input ++ (bytes ++ behind)
+    → Stops h left old new whole (refusal.Line (counted h.counts.lines) f)
+long_stops {h = h} {input = input} g left bytes behind whole f clean long limit w = record {
+  lines = g.lines;
+  entries = h.entries;
+  stands = g.stands;
+  stops = λ more may.
+      let t = too_long g.is_cut bytes (behind ++ more) clean long in (
+        t.0 ∷ t.1,
+        ap lines_of (behind_too w more ∙ ap (λ (l : List ℕ). input ++ l) (append_assoc bytes behind more)) ∙ t.2,
+        why_of_long h.numbered h.set g.stands.packets h.entries g.lines t.0 t.1 _ f (ap (λ (c : WrittenSummary). counted c.lines) g.stands.counts ∙ one_counted (length g.lines)) limit t.3,
+      );
+}
 
 -- why bytes of a line are not kept
 abbrev pub IsNotKept : Here → List ℕ → WriteFault → Type 0
 IsNotKept h bytes f = (f ≡ refusal.Memory) ⊎ ((fault : LineFault) × (f ≡ refusal.Line (counted h.counts.lines) fault) × (fault.cause ≡ Limit) × (line_limit < length (h.begun ++ bytes)))
 
-pub kept_stops : {h : Here} {old new : Option (List ℕ)} {input : List ℕ} → GoesOn h old new input → (k : Here) (bytes more whole : List ℕ) (f : WriteFault) → k ≡ h → list_all is_no_feed bytes ≡ true → IsNotKept h bytes f → whole ≡ input ++ (bytes ++ more) → Stops k old new whole f
-kept_stops {h = h} {old = old} {new = new} g k bytes more whole f is clean (inl none) w = rw (is, none) (memory_stops g h.begun (bytes ++ more) whole w)
-kept_stops {h = h} {old = old} {new = new} g k bytes more whole f is clean (inr x) w = rw (is, x.1) (long_stops g bytes more whole x.0 clean x.3 x.2 w)
+pub kept_stops : {h : Here} {old new : Option (List ℕ)} {input : List ℕ} → GoesOn h old new input → (k : Here) (left : Option (List ℕ)) (bytes behind whole : List ℕ) (f : WriteFault) → k ≡ h → list_all is_no_feed bytes ≡ true → IsNotKept h bytes f → whole ≡ input ++ (bytes ++ behind) → Stops k left old new whole f
+kept_stops {h = h} {old = old} {new = new} g k left bytes behind whole f is clean (inl none) w = rw (is, none) (memory_stops g left h.begun (bytes ++ behind) whole w)
+kept_stops {h = h} {old = old} {new = new} g k left bytes behind whole f is clean (inr x) w = rw (is, x.1) (long_stops g left bytes behind whole x.0 clean x.3 x.2 w)
 
 -- ---- bytes up to a line feed
 
@@ -164,14 +182,15 @@ all_stand {h = h} {old = old} {new = new} g none = subst (Stands h h.entries old
 pub last_ends : {h : Here} {old new : Option (List ℕ)} {input : List ℕ} → (g : GoesOn h old new input) → (length h.begun ≡ 0 → ⊥) → (k : Here) (newer left : Option (List ℕ)) (r : Result (Unit {0}) WriteFault) → IsSameWay h k → IsAtEnd left → EndsLine h k old newer g.lines r
     → Finishes k left old newer input r
 last_ends {old = old} g some k newer left (Ok x) same ended e = record { ended = ended; stands = subst (Stands k k.entries old newer) (sym (ends_open g.is_cut some)) e.0 }
-last_ends {h = h} {old = old} {input = input} g some k newer left (Err f) same ended e = stops_before h k old newer g.lines [] input f same (ends_open g.is_cut some) e
+last_ends {h = h} {old = old} {input = input} g some k newer left (Err f) same ended e =
+    stops_before h k left old newer g.lines input f same (λ more may. ([], ap (λ (l : List ℕ). lines_of (input ++ l)) (may ended) ∙ ap lines_of (append-nil input) ∙ ends_open g.is_cut some)) e
 
 -- the reads failed or are used up
-pub read_stops : {h : Here} {old new : Option (List ℕ)} {input : List ℕ} → GoesOn h old new input → Stops h old new input refusal.Read × Stops h old new input refusal.Turns
-read_stops {h = h} g =
-    let why = why_of_memory h.numbered h.set g.stands.packets h.entries g.lines (lines_of h.begun) in (
-      record { lines = g.lines; rest = lines_of h.begun; cut = all_cut g.is_cut; entries = h.entries; stands = g.stands; why = why.1 },
-      record { lines = g.lines; rest = lines_of h.begun; cut = all_cut g.is_cut; entries = h.entries; stands = g.stands; why = why.2 },
+pub read_stops : {h : Here} {old new : Option (List ℕ)} {input : List ℕ} → GoesOn h old new input → (left : Option (List ℕ)) → Stops h left old new input refusal.Read × Stops h left old new input refusal.Turns
+read_stops {h = h} g left =
+    let why = λ (rest : List (List ℕ)). why_of_memory h.numbered h.set g.stands.packets h.entries g.lines rest in (
+      record { lines = g.lines; entries = h.entries; stands = g.stands; stops = λ more may. (lines_of (h.begun ++ more), g.is_cut.cut more, (why (lines_of (h.begun ++ more))).1) },
+      record { lines = g.lines; entries = h.entries; stands = g.stands; stops = λ more may. (lines_of (h.begun ++ more), g.is_cut.cut more, (why (lines_of (h.begun ++ more))).2) },
     )
 
 -- ---- causes
@@ -217,8 +236,8 @@ pub more_none : (a b c : Reader) (k : ℕ) (got : List ℕ) → Reads a b k got 
 more_none a b c k got r one = subst (Reads a c (k + 1)) (append-nil got) (more_read a b c k got [] r one)
 
 -- a write behind what was read failed
-pub write_stops : {h : Here} {old new : Option (List ℕ)} {input : List ℕ} → GoesOn h old new input → (k : Here) (newer : Option (List ℕ)) (f : WriteFault) → Hands h k new newer (Err f) → Stops k old newer input f
-write_stops {h = h} {old = old} {input = input} g k newer f w = rw (w.0) (record {
+pub write_stops : {h : Here} {old new : Option (List ℕ)} {input : List ℕ} → GoesOn h old new input → (k : Here) (left newer : Option (List ℕ)) (f : WriteFault) → Hands h k new newer (Err f) → Stops k left old newer input f
+write_stops {h = h} {old = old} {input = input} g k left newer f w = rw (w.0) (record {
   lines = g.lines;
   rest = lines_of h.begun;
   cut = all_cut g.is_cut;

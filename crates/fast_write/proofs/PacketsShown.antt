@@ -27,6 +27,7 @@ use Rattle.fast_write.specs.Laws.{HasShortLines, IsWrittenAs}
 use Rattle.fast_nodes.specs.declared.fault.EncodeFault.{EncodeFault}
 use Rattle.fast_packet_laws.proofs.CanonicalLaws.{same_exactly_packets}
 use Rattle.fast_writer.proofs.LawProofs.{canonical_carries}
+use Rattle.fast_write.proofs.Cuts.{nothing_follows}
 use Rattle.fast_write.proofs.Withins.{carried_within}
 use Rattle.fast_write.specs.declared.fault.WriteFault.{WriteFault}
 use Rattle.fast_write.specs.declared.fault.WriteFault.TheVariants as refusal
@@ -326,8 +327,10 @@ module _ (set : TemplateList) (ps : List (List Content)) (bytes text : List ℕ)
       ap all_of (sym w.made.packets ∙ ap (λ (l : List Numbered). packets_of l) (once (lines_of text) w.made.messages (pairs_from 1 ps) w.made.spelled spelled)) ∙ packets_again ps (recorded_some (templates_in set) ps bytes recorded) in
       let own = subst (λ l. IsCanonicalRecording (templates_in set) l w.out) same w.made.recorded in
       w.written ∙ ap (output_of form) ((same_exactly_packets set sound ps ps w.out bytes own recorded).0 refl)
-  packets_written_as sound form left out (Err (refusal.Line n f)) short w = stopped form w.lines w.rest w.out w.packets w.entries (refusal.Line n f) out short w.cut w.made w.why
-  packets_written_as sound form left out (Err (refusal.Message n template f)) short w = stopped form w.lines w.rest w.out w.packets w.entries (refusal.Message n template f) out short w.cut w.made w.why
+  packets_written_as sound form left out (Err (refusal.Line n f)) short w =
+      let s = w.stops [] (λ e. refl) in stopped form w.lines s.0 w.out w.packets w.entries (refusal.Line n f) out short (nothing_follows text w.lines s.0 s.1) w.made s.2
+  packets_written_as sound form left out (Err (refusal.Message n template f)) short w =
+      let s = w.stops [] (λ e. refl) in stopped form w.lines s.0 w.out w.packets w.entries (refusal.Message n template f) out short (nothing_follows text w.lines s.0 s.1) w.made s.2
   packets_written_as sound form left out (Err refusal.Read) short w = tt
   packets_written_as sound form left out (Err refusal.Write) short w = tt
   packets_written_as sound form left out (Err refusal.Turns) short w = tt

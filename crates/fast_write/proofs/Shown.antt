@@ -30,6 +30,7 @@ use Rattle.fast_write.specs.declared.summary.WrittenSummary.{WrittenSummary}
 use Rattle.fast_write.specs.Outputs.{output_of}
 use Rattle.fast_write.specs.Written.{IsShort, Writes, IsNoLine, HasNoForm, StopsFor, Make}
 use Rattle.fast_write.specs.Laws.{HasShortLines, IsWrittenAs, WritesWhatIsShown}
+use Rattle.fast_write.proofs.Cuts.{nothing_follows}
 use Rattle.fast_write.proofs.Withins.{carried_within}
 
 -- ---- lines and messages apart
@@ -141,8 +142,10 @@ module _ (set : TemplateList) (ms : List Content) (bytes text : List ℕ) (canon
       let same : w.messages ≡ ms = spelled_once set (lines_of text) w.messages ms w.spelled spelled in
       let own = subst (λ l. CanonFrom (templates_in set) map.empty w.out l w.canonical.0) same w.canonical.1 in
       w.written ∙ ap (output_of form) (one_canonical (templates_in set) ms map.empty map.empty w.canonical.0 canonical.0 w.out bytes refl own canonical.1).0
-  written_as form left out (Err (refusal.Line n f)) short w = stopped form w.lines w.rest w.out w.entries (refusal.Line n f) out short w.cut w.made w.why
-  written_as form left out (Err (refusal.Message n template f)) short w = stopped form w.lines w.rest w.out w.entries (refusal.Message n template f) out short w.cut w.made w.why
+  written_as form left out (Err (refusal.Line n f)) short w =
+      let s = w.stops [] (λ e. refl) in stopped form w.lines s.0 w.out w.entries (refusal.Line n f) out short (nothing_follows text w.lines s.0 s.1) w.made s.2
+  written_as form left out (Err (refusal.Message n template f)) short w =
+      let s = w.stops [] (λ e. refl) in stopped form w.lines s.0 w.out w.entries (refusal.Message n template f) out short (nothing_follows text w.lines s.0 s.1) w.made s.2
   written_as form left out (Err refusal.Read) short w = tt
   written_as form left out (Err refusal.Write) short w = tt
   written_as form left out (Err refusal.Turns) short w = tt

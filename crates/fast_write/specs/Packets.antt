@@ -23,7 +23,7 @@ use Rattle.fast_write.specs.declared.fault.WriteFault.{WriteFault}
 use Rattle.fast_write.specs.declared.output.OutputForm.{OutputForm}
 use Rattle.fast_write.specs.declared.summary.WrittenSummary.{WrittenSummary}
 use Rattle.fast_write.specs.Outputs.{output_of}
-use Rattle.fast_write.specs.Written.{IsShort, line_limit, size_of}
+use Rattle.fast_write.specs.Written.{IsShort, MayFollow, line_limit, size_of}
 
 -- ---- messages in packets
 
@@ -132,17 +132,15 @@ pub record WritesAllIn (form : OutputForm) (set : TemplateList) (left old new : 
   pub written : Appends old new (output_of form out)
   pub counts : summary ≡ record { lines = counted_by 0 (length (lines_of input)); messages = counted_by 0 (length made.messages); written = counted_by 0 (length out) }
 
--- It stopped behind some of the lines, and their canonical recording was written.
-pub record WritesBeforeIn (form : OutputForm) (set : TemplateList) (old new : Option (List ℕ)) (input : List ℕ) (f : WriteFault) : Type 0 where
+-- It stopped behind some of the lines, whatever may still follow, and their canonical recording was written.
+pub record WritesBeforeIn (form : OutputForm) (set : TemplateList) (left old new : Option (List ℕ)) (input : List ℕ) (f : WriteFault) : Type 0 where
   pub lines : List (List ℕ)
-  pub rest : List (List ℕ)
   pub out : List ℕ
   pub packets : Packets
   pub entries : Dictionary
-  pub cut : lines_of input ≡ lines ++ rest
   pub made : MakePackets set lines out packets entries
   pub written : Appends old new (output_of form out)
-  pub why : StopsForIn set packets entries lines rest f
+  pub stops : (more : List ℕ) → MayFollow left more → (rest : List (List ℕ)) × (lines_of (input ++ more) ≡ lines ++ rest) × StopsForIn set packets entries lines rest f
 
 -- A write failed or memory was refused: of the canonical recording of some of the lines a front was written.
 pub record WritesFrontIn (form : OutputForm) (set : TemplateList) (old new : Option (List ℕ)) (input : List ℕ) : Type 0 where
@@ -160,7 +158,7 @@ abbrev pub WritesPackets : OutputForm → TemplateList → Option (List ℕ) →
 WritesPackets form set left old new input (Ok summary) = WritesAllIn form set left old new input summary
 WritesPackets form set left old new input (Err WriteFault.Write) = WritesFrontIn form set old new input
 WritesPackets form set left old new input (Err WriteFault.Memory) = WritesFrontIn form set old new input
-WritesPackets form set left old new input (Err f) = WritesBeforeIn form set old new input f
+WritesPackets form set left old new input (Err f) = WritesBeforeIn form set left old new input f
 
 -- one flush before anything but a failed write or want of memory is answered
 abbrev pub FlushesIn : Result WrittenSummary WriteFault → ℕ → ℕ → Type 0

@@ -28,7 +28,7 @@ use Rattle.fast_spelled.specs.Numbered.{SpellIn, SpellsIn}
 use Rattle.fast_spelled.specs.declared.fault.LineFault.{LineFault}
 use Rattle.fast_spelled.specs.declared.fault.LineCause.TheVariants.{Limit, Line}
 use Rattle.fast_write.specs.Packets.{AreInOrder, MakePackets, Numbered, Packets, StopsForIn, WritesPackets, packets_of}
-use Rattle.fast_write.specs.Written.{HasNoForm, IsNoLine, IsShort, Make, StopsFor, Writes, is_no_feed, line_limit}
+use Rattle.fast_write.specs.Written.{HasNoForm, IsNoLine, IsShort, Make, MayFollow, StopsFor, Writes, is_no_feed, line_limit}
 
 -- how far lines have come: the entries that their messages left, the canonical bytes that wait, the line that has not
 -- ended, and what was counted
@@ -276,14 +276,12 @@ pub record GoesOn (here : Here) (old new : Option (List ℕ)) (input : List ℕ)
   pub is_cut : IsCut input lines here.begun
   pub stands : Stands here here.entries old new lines
 
--- It stops within these bytes, and the canonical bytes before wait.
-pub record StopsIn (here : Here) (old new : Option (List ℕ)) (input : List ℕ) (f : WriteFault) : Type 0 where
+-- It stops within these bytes, whatever may still follow, and the canonical bytes before wait.
+pub record StopsIn (here : Here) (left old new : Option (List ℕ)) (input : List ℕ) (f : WriteFault) : Type 0 where
   pub lines : List (List ℕ)
-  pub rest : List (List ℕ)
-  pub cut : lines_of input ≡ lines ++ rest
   pub entries : Dictionary
   pub stands : Stands here entries old new lines
-  pub why : StopsIf here.numbered here.set stands.packets entries lines rest f
+  pub stops : (more : List ℕ) → MayFollow left more → (rest : List (List ℕ)) × (lines_of (input ++ more) ≡ lines ++ rest) × StopsIf here.numbered here.set stands.packets entries lines rest f
 
 -- or a write failed
 pub record StopsAtWrite (here : Here) (old new : Option (List ℕ)) (input : List ℕ) : Type 0 where
@@ -292,14 +290,14 @@ pub record StopsAtWrite (here : Here) (old new : Option (List ℕ)) (input : Lis
   pub cut : lines_of input ≡ lines ++ rest
   pub breaks : Breaks here old new lines
 
-abbrev pub Stops : Here → Option (List ℕ) → Option (List ℕ) → List ℕ → WriteFault → Type 0
-Stops here old new input WriteFault.Write = StopsAtWrite here old new input
-Stops here old new input f = StopsIn here old new input f
+abbrev pub Stops : Here → Option (List ℕ) → Option (List ℕ) → Option (List ℕ) → List ℕ → WriteFault → Type 0
+Stops here left old new input WriteFault.Write = StopsAtWrite here old new input
+Stops here left old new input f = StopsIn here left old new input f
 
 -- What is answered of bytes behind others: it goes on behind them, or stops within them.
-abbrev pub Comes : Here → Option (List ℕ) → Option (List ℕ) → List ℕ → Result (Unit {0}) WriteFault → Type 0
-Comes here old new input (Ok x) = GoesOn here old new input
-Comes here old new input (Err f) = Stops here old new input f
+abbrev pub Comes : Here → Option (List ℕ) → Option (List ℕ) → Option (List ℕ) → List ℕ → Result (Unit {0}) WriteFault → Type 0
+Comes here left old new input (Ok x) = GoesOn here old new input
+Comes here left old new input (Err f) = Stops here left old new input f
 
 -- the input has ended, and all its lines were taken
 pub record Ends (here : Here) (left old new : Option (List ℕ)) (input : List ℕ) : Type 0 where
@@ -309,7 +307,7 @@ pub record Ends (here : Here) (left old new : Option (List ℕ)) (input : List �
 -- or it stops
 abbrev pub Finishes : Here → Option (List ℕ) → Option (List ℕ) → Option (List ℕ) → List ℕ → Result (Unit {0}) WriteFault → Type 0
 Finishes here left old new input (Ok x) = Ends here left old new input
-Finishes here left old new input (Err f) = Stops here old new input f
+Finishes here left old new input (Err f) = Stops here left old new input f
 
 -- the answer stays, but where a write fails or memory is refused
 abbrev pub Answers : Result (Unit {0}) WriteFault → Result WrittenSummary WriteFault → Type 0

@@ -1,5 +1,5 @@
 -- What is written of lines, and what is answered (our own).
-use Rattle.std.specs.Prelude.{◌≡◌, ◌⊎◌, ◌≤◌, ◌<◌, ◌+◌, ◌==◌, not, ℕ, Bool, false, List, ◌∷◌, ◌++◌, length, filter, Option, Some, Result, Ok, Err}
+use Rattle.std.specs.Prelude.{◌≡◌, ◌⊎◌, ◌≤◌, ◌<◌, ◌+◌, ◌==◌, not, ℕ, Bool, false, List, [], ◌∷◌, ◌++◌, length, filter, Option, Some, Result, Ok, Err}
 use Rattle.std.specs.List.{list_all, AllByRecursion}
 use Rattle.std.specs.FinMap as map
 use Rattle.std.specs.Io.KnownBytes.{Appends, IsAtEnd}
@@ -85,16 +85,18 @@ pub record WritesAll (form : OutputForm) (set : TemplateList) (left old new : Op
   pub written : Appends old new (output_of form out)
   pub counts : summary ≡ record { lines = counted_by 0 (length (lines_of input)); messages = counted_by 0 (length messages); written = counted_by 0 (length out) }
 
--- It stopped behind some of the lines, and the canonical bytes of their messages were written.
-pub record WritesBefore (form : OutputForm) (set : TemplateList) (old new : Option (List ℕ)) (input : List ℕ) (f : WriteFault) : Type 0 where
+-- these bytes may still follow those that were read: none where the reader has ended
+abbrev pub MayFollow : Option (List ℕ) → List ℕ → Type 0
+MayFollow left more = IsAtEnd left → more ≡ []
+
+-- It stopped behind some of the lines, whatever may still follow, and the canonical bytes of their messages were written.
+pub record WritesBefore (form : OutputForm) (set : TemplateList) (left old new : Option (List ℕ)) (input : List ℕ) (f : WriteFault) : Type 0 where
   pub lines : List (List ℕ)
-  pub rest : List (List ℕ)
   pub out : List ℕ
   pub entries : Dictionary
-  pub cut : lines_of input ≡ lines ++ rest
   pub made : Make set lines out entries
   pub written : Appends old new (output_of form out)
-  pub why : StopsFor set entries lines rest f
+  pub stops : (more : List ℕ) → MayFollow left more → (rest : List (List ℕ)) × (lines_of (input ++ more) ≡ lines ++ rest) × StopsFor set entries lines rest f
 
 -- A write failed: of the canonical bytes of the messages of some of the lines a front was written.
 pub record WritesFront (form : OutputForm) (set : TemplateList) (old new : Option (List ℕ)) (input : List ℕ) : Type 0 where
@@ -110,7 +112,7 @@ pub record WritesFront (form : OutputForm) (set : TemplateList) (old new : Optio
 abbrev pub Writes : OutputForm → TemplateList → Option (List ℕ) → Option (List ℕ) → Option (List ℕ) → List ℕ → Result WrittenSummary WriteFault → Type 0
 Writes form set left old new input (Ok summary) = WritesAll form set left old new input summary
 Writes form set left old new input (Err WriteFault.Write) = WritesFront form set old new input
-Writes form set left old new input (Err f) = WritesBefore form set old new input f
+Writes form set left old new input (Err f) = WritesBefore form set left old new input f
 
 -- a failed write is answered exactly where a call of the writer failed
 abbrev pub errors_by : WriteFault → ℕ → ℕ

@@ -91,7 +91,7 @@ fn finish_before<W: ByteOutput, E: Entries>(
     writer: &mut W,
 ) -> Result<WrittenSummary, WriteFault>
     ensures answer { (left before : Option (List ℕ)) (input : List ℕ)
-        → Stops (here way.old) before (W.taken writer.old) input fault
+        → Stops (here way.old) left before (W.taken writer.old) input fault
         → WritesIf (here way.old).numbered (here way.old).form (here way.old).set left before
         (W.taken writer.new) input result }
     ensures answers { Answers (Err fault) result }

@@ -158,11 +158,11 @@ impl<'a, E: Entries> Way<'a, E> {
         writer: &mut W,
     ) -> Result<usize, WriteFault>
         requires { 0 < length bytes.now }
-        ensures comes { (before : Option (List ℕ)) (input : List ℕ)
+        ensures comes { (left before : Option (List ℕ)) (input : List ℕ)
             → GoesOn (here self.old) before (W.taken writer.old) input
             → MatchResult result
             (λ count. GoesOn (here self.new) before (W.taken writer.new) (input ++ take count bytes.now))
-            (λ f. Stops (here self.new) before (W.taken writer.new) (input ++ bytes.now) f) }
+            (λ f. Stops (here self.new) left before (W.taken writer.new) (input ++ bytes.now) f) }
         ensures some { IfOk result (λ count. (0 < count) × (count ≤ length bytes.now)) }
         ensures of_line { IfErr result IsOfLine }
         ensures same { IsSameWay (here self.old) (here self.new) }
@@ -193,9 +193,9 @@ impl<'a, E: Entries> Way<'a, E> {
         bytes: &[u8],
         writer: &mut W,
     ) -> Result<(), WriteFault>
-        ensures comes { (before : Option (List ℕ)) (input : List ℕ)
+        ensures comes { (left before : Option (List ℕ)) (input : List ℕ)
             → GoesOn (here self.old) before (W.taken writer.old) input
-            → Comes (here self.new) before (W.taken writer.new) (input ++ bytes.now) result }
+            → Comes (here self.new) left before (W.taken writer.new) (input ++ bytes.now) result }
         ensures of_line { IfErr result IsOfLine }
         ensures same { IsSameWay (here self.old) (here self.new) }
         ensures failed { W.errors writer.new ≡ errors_behind result (W.errors writer.old) }

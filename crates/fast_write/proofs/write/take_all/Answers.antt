@@ -1,4 +1,4 @@
-use Rattle.std.proofs.Common.{◌≡◌, ◌+◌, ◌<◌, ◌++◌, ◌∙◌, [], length, take, refl, ap, arith}
+use Rattle.std.proofs.Common.{◌≡◌, ◌+◌, ◌<◌, ◌++◌, ◌∙◌, [], None, length, take, refl, ap, arith}
 use Rattle.fast_io.specs.Counts.{counted}
 use Rattle.fast_decoder.proofs.Inputs.{empty_read, failed_read, more_read, none_read, one_read}
 use Rattle.fast_write.specs.Ways.{Here, here}
@@ -39,7 +39,7 @@ loop-reads-preserved g c =
           let i = v.goes before go in (
             i.0 ++ take c.in-Ok.count c.pull.new.buf,
             more_read _ _ _ c.loop-reads.reads i.0 _ i.1 (one_read _ _ c.in-Ok.count c.pull.new.buf c.pull.ensures.call p.bytes.1 (omega (arith, room))),
-            goes_handed (t.comes before i.0 i.2) (here c.hand_on.new.self) _ h.hands,
+            goes_handed (t.comes None before i.0 i.2) (here c.hand_on.new.self) _ h.hands,
           );
     }
 
@@ -52,7 +52,7 @@ returns-in-Err-clause-answer g c = λ before go.
       i.0,
       more_none _ _ _ c.loop-reads.reads i.0 i.1 (failed_read _ _ c.pull.ensures.call p.bytes),
       omega arith,
-      (read_stops i.2).0,
+      (read_stops i.2 _).0,
       p.error ∙ ap counted v.no_error,
     )
 
@@ -83,7 +83,7 @@ returns-in-Err-take_bytes-clause-answer g c = λ before go.
       i.0 ++ take c.in-Ok.count c.pull.new.buf,
       more_read _ _ _ c.loop-reads.reads i.0 _ i.1 (one_read _ _ c.in-Ok.count c.pull.new.buf c.pull.ensures.call p.bytes.1 (omega (arith, room))),
       omega arith,
-      t.comes before i.0 i.2,
+      t.comes _ before i.0 i.2,
       caused_by_line c.in-Err-take_bytes.fault _ _ _ t.of_line,
     )
 
@@ -99,7 +99,7 @@ returns-in-Err-hand_on-clause-answer g c = λ before go.
       i.0 ++ take c.in-Ok.count c.pull.new.buf,
       more_read _ _ _ c.loop-reads.reads i.0 _ i.1 (one_read _ _ c.in-Ok.count c.pull.new.buf c.pull.ensures.call p.bytes.1 (omega (arith, room))),
       omega arith,
-      write_stops (t.comes before i.0 i.2) (here c.hand_on.new.self) _ c.in-Err-hand_on.fault h,
+      write_stops (t.comes None before i.0 i.2) (here c.hand_on.new.self) _ _ c.in-Err-hand_on.fault h,
       caused_by_line c.in-Err-hand_on.fault _ _ _ (of_write _ h.0),
     )
 
@@ -107,4 +107,4 @@ pub returns-clause-answer : goal.returns-clause-answer
 returns-clause-answer g c = λ before go.
     let v = c.loop-reads.invariant in
     let few = v.few in
-    let i = v.goes before go in (c.loop-reads.reads, i.0, i.1, few, (read_stops i.2).1, (omega (arith, few, c.loop-reads-test.false), v.no_end))
+    let i = v.goes before go in (c.loop-reads.reads, i.0, i.1, few, (read_stops i.2 _).1, (omega (arith, few, c.loop-reads-test.false), v.no_end))
