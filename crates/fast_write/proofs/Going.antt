@@ -59,8 +59,8 @@ why_still : (h k : Here) (d : Dictionary) (p : Packets) (lines rest : List (List
 why_still h k d p lines rest f same why = subst (λ s. StopsIf k.numbered s p d lines rest f) (sym same.set) (subst (λ b. StopsIf b h.set p d lines rest f) (sym same.numbered) why)
 
 -- what follows stands behind what is behind
-behind_too : {whole front behind : List ℕ} → whole ≡ front ++ behind → (more : List ℕ) → whole ++ more ≡ front ++ (behind ++ more)
-behind_too {front = front} {behind = behind} w more = ap (λ (l : List ℕ). l ++ more) w ∙ append_assoc front behind more
+behind_too : (whole front behind : List ℕ) → whole ≡ front ++ behind → (more : List ℕ) → whole ++ more ≡ front ++ (behind ++ more)
+behind_too whole front behind w more = ap (λ (l : List ℕ). l ++ more) w ∙ append_assoc front behind more
 
 -- the open line is one of what was read, whatever may follow
 abbrev IsWhole : Here → Option (List ℕ) → List (List ℕ) → List ℕ → Type 0
@@ -93,7 +93,7 @@ pub line_stops : {h : Here} {old new : Option (List ℕ)} {input : List ℕ} →
     → whole ≡ (input ++ 10 ∷ []) ++ behind → EndsLine (record h { begun = begun }) k old newer g.lines (Err f) → Stops k left old newer whole f
 line_stops {h = h} {old = old} {input = input} g begun is k left newer behind whole f same w e =
     stops_before (record h { begun = begun }) k left old newer g.lines whole f same
-    (λ more may. (lines_of (behind ++ more), ap lines_of (behind_too w more) ∙ next_line g.is_cut (behind ++ more) ∙ ap (λ (line : List ℕ). g.lines ++ line ∷ lines_of (behind ++ more)) (sym is))) e
+    (λ more may. (lines_of (behind ++ more), ap lines_of (behind_too whole (input ++ 10 ∷ []) behind w more) ∙ next_line g.is_cut (behind ++ more) ∙ ap (λ (line : List ℕ). g.lines ++ line ∷ lines_of (behind ++ more)) (sym is))) e
 
 -- memory was refused for it
 why_of_memory : (b : Bool) (set : TemplateList) (p : Packets) (d : Dictionary) (lines rest : List (List ℕ)) → StopsIf b set p d lines rest refusal.Memory × StopsIf b set p d lines rest refusal.Read × StopsIf b set p d lines rest refusal.Turns
@@ -101,13 +101,13 @@ why_of_memory false set p d lines rest = (tt, tt, tt)
 why_of_memory true set p d lines rest = (tt, tt, tt)
 
 pub memory_stops : {h : Here} {old new : Option (List ℕ)} {input : List ℕ} → GoesOn h old new input → (left : Option (List ℕ)) (begun behind whole : List ℕ) → whole ≡ input ++ behind → Stops (record h { begun = begun }) left old new whole refusal.Memory
-memory_stops {h = h} g left begun behind whole w = record {
+memory_stops {h = h} {input = input} g left begun behind whole w = record {
   lines = g.lines;
   entries = h.entries;
   stands = stands_closed g.stands begun;
   stops = λ more may. (
     lines_of (h.begun ++ (behind ++ more)),
-    ap lines_of (behind_too w more) ∙ g.is_cut.cut (behind ++ more),
+    ap lines_of (behind_too whole input behind w more) ∙ g.is_cut.cut (behind ++ more),
     (why_of_memory h.numbered h.set g.stands.packets h.entries g.lines (lines_of (h.begun ++ (behind ++ more)))).0,
   );
 }
@@ -126,7 +126,7 @@ long_stops {h = h} {input = input} g left bytes behind whole f clean long limit 
   stops = λ more may.
       let t = too_long g.is_cut bytes (behind ++ more) clean long in (
         t.0 ∷ t.1,
-        ap lines_of (behind_too w more ∙ ap (λ (l : List ℕ). input ++ l) (append_assoc bytes behind more)) ∙ t.2,
+        ap lines_of (behind_too whole input (bytes ++ behind) w more ∙ ap (λ (l : List ℕ). input ++ l) (append_assoc bytes behind more)) ∙ t.2,
         why_of_long h.numbered h.set g.stands.packets h.entries g.lines t.0 t.1 _ f (ap (λ (c : WrittenSummary). counted c.lines) g.stands.counts ∙ one_counted (length g.lines)) limit t.3,
       );
 }
