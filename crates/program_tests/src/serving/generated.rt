@@ -1,4 +1,4 @@
-//! Generated streams that are shown in JSON and written back: plain, strictly, in blocks and in packets, and in hex.
+//! Generated streams that are shown in JSON and written back: plain, strictly, in blocks and in packets.
 
 use crate::same::same_of;
 use crate::serving::back::{ended, is_written_back};
