@@ -1,13 +1,15 @@
 #!/usr/bin/env python3
-"""Measures how much the program takes of input that was made to cost much: memory, and of strings that come in few
-bytes at a time, processor time.
+"""Holds the program to how much it may take of input that was made to cost much: memory, and of strings that come in
+few bytes at a time, processor time.
 
-usage: bench/bounds.py [PROGRAM]
+usage: bench/bounds.py [PROGRAM] [--long]
 
-PROGRAM is crates/fastcat/out/fastcat if left out (`rt run` in crates/fastcat builds it). Each line of the table is one
+PROGRAM is crates/fastcat/out/fastcat if left out (`rt run` in crates/fastcat builds it). Each line of the tables is one
 run: the command, how many bytes it reads, how many it writes, its processor time and the greatest memory that it had.
-The status is 1 where a run is refused, or takes more memory than is said here to be enough.
+A run fails that is refused, or takes more than is said here to be enough; the last line is 'N passed, M failed'. With
+--long some inputs are larger, so that what they take can be seen to grow with nothing but them.
 """
+import argparse
 import json
 import os
 import subprocess
@@ -36,8 +38,20 @@ REPEATED = {
 FIRST = bytes.fromhex("e081017fff")
 AGAIN = b"\x80"
 
-# (command, messages, the memory in MB that is enough)
-RUNS = [("show", 1, 10), ("show", 100, 10), ("show", 4089, 10), ("check", 4089, 24)]
+
+def packet(stream):
+    """One packet of a stream, behind a size of two bytes."""
+    return bytes([len(stream) >> 7, len(stream) & 127 | 128]) + stream
+
+
+# (command, what stands around the messages, how many, those of --long, the memory in MB that is enough: the lines of one read
+# take 213 MB and more)
+RUNS = [
+    ("show", bytes, 1, 1, 16),
+    ("show", bytes, 100, 4089, 16),
+    ("show --packets", packet, 200, 4089, 16),
+    ("check", bytes, 400, 4089, 24),
+]
 
 # Lines of one message that are gigabytes: a string that is copied, and a constant each unit of which takes four bytes.
 COPIED = {
@@ -72,11 +86,23 @@ CONSTANT = {
         }
     ]
 }
-# (what, templates, the stream, the memory in MB that is enough beside the bytes of the message)
-LINES = [
-    ("a copied string", COPIED, b"\xc0\x81\x01\x7f\xff\xc0" + b"A" * 65534 + b"\xc1" + b"\x80" * 32766, 10),
-    ("a constant", CONSTANT, b"\xc0\x81\x01\x7f\xff", 10),
-]
+
+def copied(elements):
+    return b"\xc0\x81" + length_of(elements) + b"\xc0" + b"A" * 65534 + b"\xc1" + b"\x80" * (elements - 1)
+
+
+def constants(elements):
+    return b"\xc0\x81" + length_of(elements)
+
+
+def length_of(elements):
+    """A length of three bytes."""
+    return bytes([elements >> 14, elements >> 7 & 127, elements & 127 | 128])
+
+
+# (what, templates, the stream, elements, those of --long, the memory in MB that is enough beside the bytes of the message:
+# the line takes 1,074 MB and more)
+LINES = [("a copied string", COPIED, copied, 16384, 32767, 16), ("a constant", CONSTANT, constants, 4096, 32767, 16)]
 
 # A string, a byte vector and a Unicode string of 65,535 bytes.
 STRINGS = {
@@ -86,11 +112,23 @@ STRINGS = {
         {"name": "Unicode", "id": 3, "instructions": [{"kind": "string", "charset": "unicode", "name": "S"}]},
     ]
 }
+
+
+def short(template, text):
+    """As many bytes, in messages of this text each."""
+    return b"\xc0" + template + text + (b"\x80" + text) * (65535 // (len(text) + 1))
+
+
+# (what, a stream of the longest, one of short ones)
 LONGEST = [
-    ("string", b"\xc0\x81" + b"A" * 65534 + b"\xc1"),
-    ("byte vector", b"\xc0\x82\x03\x7f\xff" + b"A" * 65535),
-    ("Unicode string", b"\xc0\x83\x03\x7f\xff" + b"A" * 65535),
+    ("string", b"\xc0\x81" + b"A" * 65534 + b"\xc1", short(b"\x81", b"A" * 15 + b"\xc1")),
+    ("byte vector", b"\xc0\x82\x03\x7f\xff" + b"A" * 65535, short(b"\x82", b"\x90" + b"A" * 16)),
+    ("Unicode string", b"\xc0\x83\x03\x7f\xff" + b"A" * 65535, short(b"\x83", b"\x90" + b"A" * 16)),
 ]
+
+# How many times the seconds of short ones are enough for the longest, and how many seconds more, as no clock is exact. Were what
+# is held read again with each byte, it would take more.
+TIMES, MORE = 2.0, 0.05
 
 
 def memory_of(pid):
@@ -109,7 +147,7 @@ def counted(command, program, templates, stream):
     own start takes 14 MB.
     """
     with open(stream, "rb") as read:
-        run = subprocess.Popen([program, command, "--templates", templates], stdin=read, stdout=subprocess.PIPE)
+        run = subprocess.Popen([program, *command.split(), "--templates", templates], stdin=read, stdout=subprocess.PIPE)
         written = 0
         memory = 0
         while chunk := run.stdout.read(1 << 20):
@@ -132,43 +170,52 @@ def trickled(program, templates, stream, step):
     return os.waitstatus_to_exitcode(status), used.ru_utime + used.ru_stime
 
 
+def write_to(path, templates):
+    with open(path, "w", encoding="utf-8") as file:
+        json.dump(templates, file)
+
+
 def main():
-    program = os.path.abspath(sys.argv[1] if len(sys.argv) > 1 else f"{TOP}/crates/fastcat/out/fastcat")
-    failed = False
+    words = argparse.ArgumentParser()
+    words.add_argument("program", nargs="?", default=f"{TOP}/crates/fastcat/out/fastcat")
+    words.add_argument("--long", action="store_true")
+    words = words.parse_args()
+    program = os.path.abspath(words.program)
+    are_enough = []
     print("| Command | Bytes read | Bytes written | Seconds | Memory, MB |")
     print("|---|---|---|---|---|")
     with tempfile.TemporaryDirectory() as folder:
         templates, stream = f"{folder}/templates.json", f"{folder}/stream"
-        with open(templates, "w", encoding="utf-8") as file:
-            json.dump(REPEATED, file)
-        for command, messages, enough in RUNS:
+        write_to(templates, REPEATED)
+        for command, framed, few, many, enough in RUNS:
             with open(stream, "wb") as file:
-                file.write(FIRST + AGAIN * (messages - 1))
+                file.write(framed(FIRST + AGAIN * ((many if words.long else few) - 1)))
             status, written, seconds, memory = counted(command, program, templates, stream)
             print(f"| `{command}` | {os.path.getsize(stream):,} | {written:,} | {seconds:.1f} | {memory:.1f} |")
-            failed = failed or status != 0 or memory > enough
+            are_enough.append(status == 0 and memory <= enough)
         print()
         print("| A line of | Bytes read | Bytes written | Seconds | Memory, MB |")
         print("|---|---|---|---|---|")
-        for name, written_templates, message, enough in LINES:
-            with open(templates, "w", encoding="utf-8") as file:
-                json.dump(written_templates, file)
+        for name, written_templates, stream_of, few, many, enough in LINES:
+            write_to(templates, written_templates)
+            message = stream_of(many if words.long else few)
             with open(stream, "wb") as file:
                 file.write(message)
             status, written, seconds, memory = counted("show", program, templates, stream)
             print(f"| {name} | {len(message):,} | {written:,} | {seconds:.1f} | {memory:.1f} |")
-            failed = failed or status != 0 or memory > enough + len(message) / 1e6
+            are_enough.append(status == 0 and memory <= enough + len(message) / 1e6)
         print()
-        print("| 65,535 bytes of a | Bytes a read | Seconds |")
-        print("|---|---|---|")
-        with open(templates, "w", encoding="utf-8") as file:
-            json.dump(STRINGS, file)
-        for name, stream in LONGEST:
-            for step in (4096, 1):
-                status, seconds = trickled(program, templates, stream, step)
-                print(f"| {name} | {step:,} | {seconds:.2f} |")
-                failed = failed or status != 0
-    return int(failed)
+        print("| 65,535 bytes of a | Seconds, 4,096 bytes a read | one a read | of 16 characters each, one a read |")
+        print("|---|---|---|---|")
+        write_to(templates, STRINGS)
+        for name, longest, shorter in LONGEST:
+            runs = [trickled(program, templates, *it) for it in ((longest, 4096), (longest, 1), (shorter, 1))]
+            at_once, trickling, in_short = (seconds for _, seconds in runs)
+            print(f"| {name} | {at_once:.2f} | {trickling:.2f} | {in_short:.2f} |")
+            are_enough.append(not any(status for status, _ in runs) and max(at_once, trickling) <= TIMES * in_short + MORE)
+    failed = are_enough.count(False)
+    print(f"{are_enough.count(True)} passed, {failed} failed")
+    return failed > 0
 
 
 if __name__ == "__main__":

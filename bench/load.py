@@ -73,6 +73,8 @@ CASES = [
      ACCEPTED),
     ("65,535 templates whose names differ at their ends", lambda: [template(f"{n:x>80}", field("F")) for n in range(MOST)],
      ACCEPTED),
+    ("65,535 templates of one field", lambda: [template(f"T{n}", field("F", operator="copy")) for n in range(MOST)], ACCEPTED),
+    ("2,390,000 objects that are no templates", lambda: [{"": 0}] * 2_390_000, "templates refused S1 template=1 instruction=0"),
     ("names of 255 characters", long_text, ACCEPTED),
     ("20,000 references to a value of 65,535 characters", lambda: [refers("T", *("S" for _ in range(20_000))), long_value()],
      ACCEPTED),

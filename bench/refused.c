@@ -1,9 +1,10 @@
-/* Runs a program once for each number of REFUSED, each time with the allocation of that number refused; 0 refuses none.
+/* Runs a program once for each number of REFUSED, each time with the allocation of that number refused; 0 refuses none, and
+ * 1-9 is nine numbers. Those between the two marks of crates/template_tests/src/growths.rt, and the marks, have no number.
  *
  * Preloaded, it is there before the program begins, and forks for each run: so many at once as JOBS has. On the descriptor
- * that TOLD has, it tells a line of each: the number, how the run ended, and how many allocations it asked for, which a run
- * that was ended does not say (0). A run ends `well`, for want of memory where it says one of the lines of SAID, or with
- * the status that waitpid has of it. */
+ * that TOLD has, it tells a line of each: the number, how the run ended, how many allocations it asked for, and how many marks
+ * it set, which a run that was ended does not say (0 0). A run ends `well`, for want of memory where it says one of the lines
+ * of SAID, or with the status that waitpid has of it. */
 #define _GNU_SOURCE
 #include <dlfcn.h>
 #include <stdio.h>
@@ -15,26 +16,40 @@
 
 enum { WIDEST = 1 << 16 };
 
-static long asked, refused;
-static long *told;
+/* The sizes that are marks: what is asked for behind the one is spared, behind the other it is not. */
+enum { SPARED = 7368787, REFUSED = 7368791 };
+
+struct counts {
+    long asked, marks;
+};
+
+static struct counts so_far;
+static long refused;
+static int is_spared;
+static struct counts *told;
 static void *(*next_malloc)(size_t);
 static void *(*next_realloc)(void *, size_t);
 
-static int is_refused(void) {
+static int is_refused(size_t size) {
     if (!next_malloc) {
         next_malloc = dlsym(RTLD_NEXT, "malloc");
         next_realloc = dlsym(RTLD_NEXT, "realloc");
     }
-    return ++asked == refused;
+    if (size == SPARED || size == REFUSED) {
+        is_spared = size == SPARED;
+        so_far.marks++;
+        return 0;
+    }
+    return !is_spared && ++so_far.asked == refused;
 }
 
-void *malloc(size_t size) { return is_refused() ? NULL : next_malloc(size); }
+void *malloc(size_t size) { return is_refused(size) ? NULL : next_malloc(size); }
 
-void *realloc(void *block, size_t size) { return is_refused() ? NULL : next_realloc(block, size); }
+void *realloc(void *block, size_t size) { return is_refused(size) ? NULL : next_realloc(block, size); }
 
 __attribute__((destructor)) static void tell(void) {
     if (told) {
-        *told = asked;
+        *told = so_far;
     }
 }
 
@@ -57,7 +72,7 @@ static int is_the_run(long number, const char *said, int answers) {
     if (pipe(ends)) {
         _exit(2);
     }
-    *told = 0;
+    *told = (struct counts){0, 0};
     pid_t run = fork();
     if (run < 0) {
         _exit(2);
@@ -67,7 +82,7 @@ static int is_the_run(long number, const char *said, int answers) {
         dup2(ends[1], 2);
         close(ends[0]);
         close(ends[1]);
-        asked = 0;
+        so_far = (struct counts){0, 0};
         refused = number;
         return 1;
     }
@@ -84,11 +99,11 @@ static int is_the_run(long number, const char *said, int answers) {
         _exit(2);
     }
     if (!status) {
-        dprintf(answers, "%ld well %ld\n", number, *told);
+        dprintf(answers, "%ld well %ld %ld\n", number, told->asked, told->marks);
     } else if (has_line_of(text, length, said)) {
-        dprintf(answers, "%ld want %ld\n", number, *told);
+        dprintf(answers, "%ld want %ld %ld\n", number, told->asked, told->marks);
     } else {
-        dprintf(answers, "%ld %d %ld\n", number, status, *told);
+        dprintf(answers, "%ld %d %ld %ld\n", number, status, told->asked, told->marks);
     }
     return 0;
 }
@@ -111,10 +126,13 @@ __attribute__((constructor)) static void begin(void) {
             _exit(2);
         }
         char *end;
-        int at = 0;
-        for (long number = strtol(numbers, &end, 10); end != numbers; number = strtol(numbers = end, &end, 10), at++) {
-            if (at % all == job && is_the_run(number, said, atoi(answers))) {
-                return;
+        long at = 0;
+        for (long number = strtol(numbers, &end, 10); end != numbers; number = strtol(numbers = end, &end, 10)) {
+            long last = *end == '-' ? strtol(end + 1, &end, 10) : number;
+            for (; number <= last; number++, at++) {
+                if (at % all == job && is_the_run(number, said, atoi(answers))) {
+                    return;
+                }
             }
         }
         _exit(0);

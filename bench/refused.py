@@ -4,10 +4,11 @@
 usage: bench/refused.py CRATE.. [--only WORD] [--skip WORD].. [--most N]
 
 `rt test` in a crate, or `rt ci` at the top, has built its tests; with --only, only those whose names have the word are
-run, and with --skip those that have none of its words. Each run must end well or with want of memory. Of a test that
-asks more than N times (1,000, if left out) the first half of N are refused in turn, and of the others as many, evenly
-spread. A line for each test says how many were refused, of how many, and how the runs ended; the last line is 'N
-passed, M failed', a test each.
+run, and with --skip those that have none of its words. Each run must end well or with want of memory. A test that
+spares what it only stands on, by the marks of crates/template_tests/src/growths.rt, has all others refused, if they are
+no more than 8,000. Of one that asks more often, or has no marks and asks more than N times (1,000, if left out), the
+first half of them are refused in turn, and of the others as many, evenly spread. A line for each test says how many were refused, of how many, and how the runs ended; the last line is
+'N passed, M failed', a test each.
 """
 import argparse
 import collections
@@ -18,6 +19,9 @@ import tempfile
 
 WELL, WANT_OF_MEMORY = "well", "want"
 
+# How many are refused of a test that spares what it only stands on: one load of templates asks for hundreds.
+MOST_BEHIND_MARKS = 8_000
+
 # How a test says that it ended for want of memory: an allocation, a call's own answer, a decoder, serde_json, or the
 # test itself, where there is no memory to keep what another one said.
 SAID = ("rror: AllocError", "rror: Memory", "rror: Fault { cause: Memory", "rror: Error(out of memory)",
@@ -25,10 +29,12 @@ SAID = ("rror: AllocError", "rror: Memory", "rror: Fault { cause: Memory", "rror
 
 
 def runs(program, test, library, refused):
-    """How a test ends with each of these allocations refused, and how many it asked for then: by number."""
+    """How a test ends with each of these allocations refused, how many it asked for then, and its marks: by number."""
     reader, writer = os.pipe()
     os.set_inheritable(writer, True)
-    environment = {"LD_PRELOAD": library, "REFUSED": " ".join(map(str, refused)), "SAID": "\n".join(SAID),
+    # (of many in turn their list would be too long for an environment)
+    listed = f"{refused[0]}-{refused[-1]}" if isinstance(refused, range) else " ".join(map(str, refused))
+    environment = {"LD_PRELOAD": library, "REFUSED": listed, "SAID": "\n".join(SAID),
                    "JOBS": str(os.cpu_count()), "TOLD": str(writer)}
     started = subprocess.Popen([program, test], env=environment, pass_fds=[writer])
     os.close(writer)
@@ -36,7 +42,7 @@ def runs(program, test, library, refused):
         lines = [line.split() for line in told]
     if started.wait():
         sys.exit(f"{program} {test}: could not be run with allocations refused")
-    return {int(number): (end, int(asked)) for number, end, asked in lines}
+    return {int(number): (end, int(asked), int(marks)) for number, end, asked, marks in lines}
 
 
 def numbers(asked, most):
@@ -67,8 +73,8 @@ def main():
             for test in [line.removesuffix(": test") for line in listed if line.endswith(": test")]:
                 if words.only not in test or any(word in test for word in words.skip):
                     continue
-                end, asked = runs(program, test, library, [0])[0]
-                refused = numbers(asked, words.most)
+                end, asked, marks = runs(program, test, library, [0])[0]
+                refused = numbers(asked, max(words.most, MOST_BEHIND_MARKS) if marks else words.most)
                 ended = runs(program, test, library, refused) if refused else {}
                 ends = [ended[number][0] for number in refused]
                 counts = collections.Counter(ends)

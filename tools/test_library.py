@@ -1,6 +1,7 @@
 """Tests of the library as Python calls it, over the examples. Expected values are those of README.md, of docs/FORMAT.md
 and of the files of examples/."""
 
+import ctypes
 import decimal
 import json
 import os
@@ -287,6 +288,18 @@ class Causes(unittest.TestCase):
         self.assertEqual({name_in_c(it.name): str(it.value) for it in fastcat.Cause}, header)
         statuses = dict(re.findall(r"FASTCAT_(\w+) = (\d+)", HEADER.split("enum fastcat_status")[1].split("};")[0]))
         self.assertEqual({it.name: str(it.value) for it in fastcat.Status}, statuses)
+
+    def test_modes(self):
+        """Each bit of a mode has the number of fastcat.h, by its name."""
+        modes = dict(re.findall(r"FASTCAT_(\w+) = (\d+)", HEADER.split("enum fastcat_status")[0]))
+        names = ("strict", "blocks", "packets", "json")
+        self.assertEqual(modes, {it.upper(): str(fastcat._mode(*(it == other for other in names))) for it in names})
+
+    def test_answer(self):
+        """The parts of an answer stand in the order of fastcat.h, and are as wide."""
+        parts = re.findall(r"uint(\d+)_t (\w+);", HEADER.split("struct fastcat_answer {")[1].split("};")[0])
+        self.assertEqual([(name.removesuffix("_id"), int(bits)) for bits, name in parts],
+                         [(name, 8 * ctypes.sizeof(kind)) for name, kind in fastcat._Answer._fields_])
 
     def test_rows(self):
         over = next(row[4] for row in self.ROWS if row[0] == "over")

@@ -18,204 +18,56 @@ use std::process::Abort;
 use stream_rows::long::{MANY, stream_of};
 use stream_rows::modes::{BLOCKS, STRICT_BLOCKS};
 use stream_rows::quotes::{QUOTE, TWO_SHORT};
+use test_rows::{Tried, rows};
 
 #[test]
-fn blocks_of_messages(rt: HostRuntime) -> Result<(), AllocError> {
-    const STREAMS: &[Row] = &[
-        Row {
-            stream: b"",
-            messages: 0,
-            lines: "",
-            told: "ok messages=0 bytes=0 canonical=0\n",
-            canonical: b"",
-        },
-        Row {
-            stream: b"\x88\xf0\x81\x81\x41\xc2\xfe\x00\xe4",
-            messages: 1,
-            lines: QUOTE_LINE,
-            told: "ok messages=1 bytes=9 canonical=8\n",
-            canonical: QUOTE,
-        },
-        Row {
-            stream: b"\x8b\xf0\x81\x81\x41\xc2\xfe\x00\xe4\x80\x80\x81",
-            messages: 2,
-            lines: TWO_LINES,
-            told: "ok messages=2 bytes=12 canonical=11\n",
-            canonical: TWO_SHORT,
-        },
-        Row {
-            stream: b"\x88\xf0\x81\x81\x41\xc2\xfe\x00\xe4\x83\x80\x80\x81",
-            messages: 2,
-            lines: TWO_LINES,
-            told: "ok messages=2 bytes=13 canonical=11\n",
-            canonical: TWO_SHORT,
-        },
-        Row {
-            stream: b"\x00\x88\xf0\x81\x81\x41\xc2\xfe\x00\xe4",
-            messages: 1,
-            lines: QUOTE_LINE,
-            told: "ok messages=1 bytes=10 canonical=8\n",
-            canonical: QUOTE,
-        },
-        Row {
-            stream: b"\x90\xf0\x81\x81\x41\xc2\xfe\x00\xe4\xf8\x81\x82\x41\xc2\x80\x81\x80",
-            messages: 2,
-            lines: TWO_LINES,
-            told: "ok messages=2 bytes=17 canonical=11\n",
-            canonical: TWO_SHORT,
-        },
-    ];
+fn blocks_of_messages(rt: HostRuntime) -> Tried {
+    const STREAMS: &[Row] = rows! { Row { stream, messages, lines, told, canonical }:
+        b"", 0, "", "ok messages=0 bytes=0 canonical=0\n", b"";
+        b"\x88\xf0\x81\x81\x41\xc2\xfe\x00\xe4", 1, QUOTE_LINE, "ok messages=1 bytes=9 canonical=8\n", QUOTE;
+        b"\x8b\xf0\x81\x81\x41\xc2\xfe\x00\xe4\x80\x80\x81", 2, TWO_LINES, "ok messages=2 bytes=12 canonical=11\n",
+            TWO_SHORT;
+        b"\x88\xf0\x81\x81\x41\xc2\xfe\x00\xe4\x83\x80\x80\x81", 2, TWO_LINES, "ok messages=2 bytes=13 canonical=11\n",
+            TWO_SHORT;
+        b"\x00\x88\xf0\x81\x81\x41\xc2\xfe\x00\xe4", 1, QUOTE_LINE, "ok messages=1 bytes=10 canonical=8\n", QUOTE;
+        b"\x90\xf0\x81\x81\x41\xc2\xfe\x00\xe4\xf8\x81\x82\x41\xc2\x80\x81\x80", 2, TWO_LINES,
+            "ok messages=2 bytes=17 canonical=11\n", TWO_SHORT;
+    };
     all_end(&rt, rt.alloc(), BLOCKS, STREAMS)
 }
 
 #[test]
-fn blocks_that_are_refused(rt: HostRuntime) -> Result<(), AllocError> {
-    const USUALLY: &[Refusal] = &[
-        Refusal {
-            stream: b"\x80",
-            messages: 0,
-            lines: "",
-            canonical: b"",
-            cause: Cause::D12,
-            at: At(0, 0, 0),
-        },
-        Refusal {
-            stream: b"\x88\xf0\x81\x81\x41\xc2\xfe\x00\xe4\x80",
-            messages: 1,
-            lines: QUOTE_LINE,
-            canonical: QUOTE,
-            cause: Cause::D12,
-            at: At(9, 0, 0),
-        },
-        Refusal {
-            stream: b"\x87\xf0\x81\x81\x41\xc2\xfe\x00\xe4",
-            messages: 0,
-            lines: "",
-            canonical: b"",
-            cause: Cause::BlockEnd,
-            at: At(6, 1, 3),
-        },
-        Refusal {
-            stream: b"\x88\xf0\x81\x81\x41\xc2\xfe\x00",
-            messages: 0,
-            lines: "",
-            canonical: b"",
-            cause: Cause::Truncated,
-            at: At(6, 1, 3),
-        },
-        Refusal {
-            stream: b"\x89\xf0\x81\x81\x41\xc2\xfe\x00\xe4",
-            messages: 1,
-            lines: QUOTE_LINE,
-            canonical: QUOTE,
-            cause: Cause::Truncated,
-            at: At(9, 0, 0),
-        },
-        Refusal {
-            stream: b"\x89\xf0\x81\x81\x41\xc2\xfe\x00\xe4\x80",
-            messages: 1,
-            lines: QUOTE_LINE,
-            canonical: QUOTE,
-            cause: Cause::BlockEnd,
-            at: At(10, 1, 3),
-        },
-        Refusal {
-            stream: b"\x81\xc0",
-            messages: 0,
-            lines: "",
-            canonical: b"",
-            cause: Cause::BlockEnd,
-            at: At(2, 0, 0),
-        },
-        Refusal {
-            stream: b"\x81\x80",
-            messages: 0,
-            lines: "",
-            canonical: b"",
-            cause: Cause::D5,
-            at: At(2, 0, 0),
-        },
-        Refusal {
-            stream: b"\x88\xf0\x81\x81\x41\xc2\xfe\x00\xe4\x00\x00\x00\x00\x00\x00\x00\x00\x00\x00",
-            messages: 1,
-            lines: QUOTE_LINE,
-            canonical: QUOTE,
-            cause: Cause::Limit,
-            at: At(9, 0, 0),
-        },
-        Refusal {
-            stream: b"\x85\x00\x00\x00\x00\x00\x00\x00\x00\x00\x00",
-            messages: 0,
-            lines: "",
-            canonical: b"",
-            cause: Cause::BlockEnd,
-            at: At(1, 0, 0),
-        },
-        Refusal {
-            stream: b"\x84\xf0\x81\x81\x41\x84\xc2\xfe\x00\xe4",
-            messages: 0,
-            lines: "",
-            canonical: b"",
-            cause: Cause::BlockEnd,
-            at: At(4, 1, 2),
-        },
-        Refusal {
-            stream: b"\x02\x00\x00\x00\x00\x00\x00\x00\x00\x80\xf0\x81\x81\x41\xc2\xfe\x00\xe4",
-            messages: 1,
-            lines: QUOTE_LINE,
-            canonical: QUOTE,
-            cause: Cause::Truncated,
-            at: At(18, 0, 0),
-        },
-        Refusal {
-            stream: b"\x40\x00\x00\x00\x00\x00\x00\x00\x00\x80\xf0\x81\x81\x41\xc2\xfe\x00\xe4",
-            messages: 1,
-            lines: QUOTE_LINE,
-            canonical: QUOTE,
-            cause: Cause::Truncated,
-            at: At(18, 0, 0),
-        },
-    ];
-    const STRICTLY: &[Refusal] = &[
-        Refusal {
-            stream: b"\x00\x88\xf0\x81\x81\x41\xc2\xfe\x00\xe4",
-            messages: 0,
-            lines: "",
-            canonical: b"",
-            cause: Cause::R6,
-            at: At(0, 0, 0),
-        },
-        Refusal {
-            stream: b"\x00\x80",
-            messages: 0,
-            lines: "",
-            canonical: b"",
-            cause: Cause::R6,
-            at: At(0, 0, 0),
-        },
-        Refusal {
-            stream: b"\x88\xf1\x81\x81\x41\xc2\xfe\x00\xe4",
-            messages: 0,
-            lines: "",
-            canonical: b"",
-            cause: Cause::R8,
-            at: At(9, 1, 0),
-        },
-        Refusal {
-            stream: b"\x88\xf0\x81\x81\x41\xc2\xfe\x00\xe4\x00\x83\x80\x80\x81",
-            messages: 1,
-            lines: QUOTE_LINE,
-            canonical: QUOTE,
-            cause: Cause::R6,
-            at: At(9, 0, 0),
-        },
-    ];
+fn blocks_that_are_refused(rt: HostRuntime) -> Tried {
+    const USUALLY: &[Refusal] = rows! { Refusal { stream, messages, lines, canonical, cause, at }:
+        b"\x80", 0, "", b"", Cause::D12, At(0, 0, 0);
+        b"\x88\xf0\x81\x81\x41\xc2\xfe\x00\xe4\x80", 1, QUOTE_LINE, QUOTE, Cause::D12, At(9, 0, 0);
+        b"\x87\xf0\x81\x81\x41\xc2\xfe\x00\xe4", 0, "", b"", Cause::BlockEnd, At(6, 1, 3);
+        b"\x88\xf0\x81\x81\x41\xc2\xfe\x00", 0, "", b"", Cause::Truncated, At(6, 1, 3);
+        b"\x89\xf0\x81\x81\x41\xc2\xfe\x00\xe4", 1, QUOTE_LINE, QUOTE, Cause::Truncated, At(9, 0, 0);
+        b"\x89\xf0\x81\x81\x41\xc2\xfe\x00\xe4\x80", 1, QUOTE_LINE, QUOTE, Cause::BlockEnd, At(10, 1, 3);
+        b"\x81\xc0", 0, "", b"", Cause::BlockEnd, At(2, 0, 0);
+        b"\x81\x80", 0, "", b"", Cause::D5, At(2, 0, 0);
+        b"\x88\xf0\x81\x81\x41\xc2\xfe\x00\xe4\x00\x00\x00\x00\x00\x00\x00\x00\x00\x00", 1, QUOTE_LINE, QUOTE,
+            Cause::Limit, At(9, 0, 0);
+        b"\x85\x00\x00\x00\x00\x00\x00\x00\x00\x00\x00", 0, "", b"", Cause::BlockEnd, At(1, 0, 0);
+        b"\x84\xf0\x81\x81\x41\x84\xc2\xfe\x00\xe4", 0, "", b"", Cause::BlockEnd, At(4, 1, 2);
+        b"\x02\x00\x00\x00\x00\x00\x00\x00\x00\x80\xf0\x81\x81\x41\xc2\xfe\x00\xe4", 1, QUOTE_LINE, QUOTE,
+            Cause::Truncated, At(18, 0, 0);
+        b"\x40\x00\x00\x00\x00\x00\x00\x00\x00\x80\xf0\x81\x81\x41\xc2\xfe\x00\xe4", 1, QUOTE_LINE, QUOTE,
+            Cause::Truncated, At(18, 0, 0);
+    };
+    const STRICTLY: &[Refusal] = rows! { Refusal { stream, messages, lines, canonical, cause, at }:
+        b"\x00\x88\xf0\x81\x81\x41\xc2\xfe\x00\xe4", 0, "", b"", Cause::R6, At(0, 0, 0);
+        b"\x00\x80", 0, "", b"", Cause::R6, At(0, 0, 0);
+        b"\x88\xf1\x81\x81\x41\xc2\xfe\x00\xe4", 0, "", b"", Cause::R8, At(9, 1, 0);
+        b"\x88\xf0\x81\x81\x41\xc2\xfe\x00\xe4\x00\x83\x80\x80\x81", 1, QUOTE_LINE, QUOTE, Cause::R6, At(9, 0, 0);
+    };
     all_stop(&rt, rt.alloc(), BLOCKS, USUALLY)?;
     all_stop(&rt, rt.alloc(), STRICT_BLOCKS, STRICTLY)
 }
 
 /// A stream in one block, whose size has one byte.
-fn in_block(alloc: Global, size: usize, stream: &[u8]) -> Result<Vec<u8>, AllocError> {
+fn in_block(alloc: Global, size: usize, stream: &[u8]) -> Tried<Vec<u8>> {
     let mut block = Vec::new(alloc);
     match u8::try_from(size) {
         Ok(size) if size < 128 => {
@@ -236,7 +88,7 @@ fn ends_in_block(
     row: &Row,
     stream: &[u8],
     step: usize,
-) -> Result<(), AllocError>
+) -> Tried
     requires { 1 ≤ step }
 {
     if stream.is_empty() {
@@ -256,10 +108,10 @@ fn ends_in_block(
 }
 
 #[test]
-fn worked_streams_in_blocks(rt: HostRuntime) -> Result<(), AllocError> {
+fn worked_streams_in_blocks(rt: HostRuntime) -> Tried {
     let alloc = rt.alloc();
     let set = worked(&rt, alloc)?;
-    for row in &ROWS {
+    for row in ROWS {
         ends_in_block(&rt, alloc, &set, BLOCKS, row, row.stream, 1)?;
         ends_in_block(&rt, alloc, &set, BLOCKS, row, row.stream, 4096)?;
         ends_in_block(&rt, alloc, &set, STRICT_BLOCKS, row, row.canonical, 2)?;
@@ -274,7 +126,7 @@ fn stops_in_block(
     set: &TemplateSet,
     row: &Refusal,
     step: usize,
-) -> Result<(), AllocError>
+) -> Tried
     requires { 1 ≤ step }
 {
     let block = in_block(alloc, row.stream.len().saturating_add(1), row.stream)?;
@@ -286,10 +138,10 @@ fn stops_in_block(
 }
 
 #[test]
-fn worked_refusals_in_blocks(rt: HostRuntime) -> Result<(), AllocError> {
+fn worked_refusals_in_blocks(rt: HostRuntime) -> Tried {
     let alloc = rt.alloc();
     let set = worked(&rt, alloc)?;
-    for row in &REFUSALS {
+    for row in REFUSALS {
         stops_in_block(&rt, alloc, &set, row, 1)?;
         stops_in_block(&rt, alloc, &set, row, 4096)?;
     }
@@ -298,7 +150,7 @@ fn worked_refusals_in_blocks(rt: HostRuntime) -> Result<(), AllocError> {
 
 // As many elements as there may be, each empty, in a block.
 #[test]
-fn a_long_message_in_a_block(rt: HostRuntime) -> Result<(), AllocError> {
+fn a_long_message_in_a_block(rt: HostRuntime) -> Tried {
     let alloc = rt.alloc();
     let set = worked(&rt, alloc)?;
     let reader = ScriptInput::new(b"\x85\xc0\x86\x03\x7f\xff", 2, 0);
@@ -324,7 +176,7 @@ fn is_long_in_blocks(
     step: usize,
     read: usize,
     plain: &[u8],
-) -> Result<(), AllocError>
+) -> Tried
     requires { 1 ≤ step }
 {
     let stream = stream_of(alloc, pieces)?;
@@ -340,12 +192,7 @@ fn is_long_in_blocks(
     )
 }
 
-fn are_long_in_blocks(
-    rt: &impl Abort,
-    alloc: Global,
-    set: &TemplateSet,
-    plain: &[u8],
-) -> Result<(), AllocError> {
+fn are_long_in_blocks(rt: &impl Abort, alloc: Global, set: &TemplateSet, plain: &[u8]) -> Tried {
     // a block whose size has three bytes, and one for each message
     const ONE: &[(&[u8], usize)] = &[(b"\x01\x6a\xb8", 1), (QUOTE, 1), (b"\x80\x80\x81", 10_000)];
     const EACH: &[(&[u8], usize)] = &[(b"\x88", 1), (QUOTE, 1), (b"\x83\x80\x80\x81", 10_000)];
@@ -354,7 +201,7 @@ fn are_long_in_blocks(
 }
 
 #[test]
-fn long_streams_in_blocks(rt: HostRuntime) -> Result<(), AllocError> {
+fn long_streams_in_blocks(rt: HostRuntime) -> Tried {
     let plain = stream_of(rt.alloc(), MANY)?;
     let set = worked(&rt, rt.alloc())?;
     are_long_in_blocks(&rt, rt.alloc(), &set, &plain)

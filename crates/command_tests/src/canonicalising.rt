@@ -7,13 +7,14 @@ use fast_decoder::Mode;
 use fast_io::{Counted, ScriptInput, ScriptOutput};
 use fast_stream::{Cause, Fault, Place};
 use fast_template::TemplateSet;
-use std::alloc::{AllocError, Global};
+use std::alloc::Global;
 use std::process::Abort;
 use stream_rows::cuts::{CUTS, Cut};
 use stream_rows::long::{LONG, LONG_BARE, LONG_SEQUENCES, Long, MANY, stream_of};
 use stream_rows::modes::{InMode, PLAIN, in_each_mode};
 use stream_rows::quotes::{TWO, TWO_SHORT};
 use template_tests::texts::{BARE, WORKED};
+use test_rows::{Tried, rows};
 
 // A stream in a mode, how much of it one read gives, and which of its reads fails.
 #[derive(Clone, Copy)]
@@ -55,7 +56,7 @@ fn is_checked(
     rt: &impl Abort,
     given: Result<Summary, CanonFault>,
     wanted: Result<Summary, CanonFault>,
-) -> Result<(), AllocError> {
+) -> Tried {
     answers(rt, given, wanted, b"", b"")
 }
 
@@ -79,7 +80,7 @@ fn is_canonicalised(
     mut out: ScriptOutput,
     written: &[u8],
     answer: Result<Summary, CanonFault>,
-) -> Result<(), AllocError> {
+) -> Tried {
     let got = canonical(alloc, set, given, &mut out);
     answers(rt, got, answer, out.bytes(), written)
 }
@@ -95,13 +96,13 @@ fn gives(
     given: Given<'_>,
     written: &[u8],
     answer: Result<Summary, CanonFault>,
-) -> Result<(), AllocError> {
+) -> Tried {
     let out = ScriptOutput::new(alloc, 100_000, false, false);
     is_canonicalised(rt, alloc, set, given, out, written, answer)?;
     is_checked(rt, checked(alloc, set, given, 100), answer)
 }
 
-fn rows_are_given(rt: &impl Abort, alloc: Global, rows: &[Row]) -> Result<(), AllocError> {
+fn rows_are_given(rt: &impl Abort, alloc: Global, rows: &[Row]) -> Tried {
     let set = worked(rt, alloc)?;
     for Row(stream, step, written, messages, read, out) in rows {
         let answer = Ok(Summary {
@@ -115,14 +116,14 @@ fn rows_are_given(rt: &impl Abort, alloc: Global, rows: &[Row]) -> Result<(), Al
 }
 
 #[test]
-fn streams_to_their_end(rt: HostRuntime) -> Result<(), AllocError> {
-    const ROWS: &[Row] = &[
-        Row(TWO, 1, TWO_SHORT, 2, 16, 11),
-        Row(TWO, 3, TWO_SHORT, 2, 16, 11),
-        Row(TWO, 4096, TWO_SHORT, 2, 16, 11),
-        Row(TWO_SHORT, 2, TWO_SHORT, 2, 11, 11),
-        Row(b"", 1, b"", 0, 0, 0),
-    ];
+fn streams_to_their_end(rt: HostRuntime) -> Tried {
+    const ROWS: &[Row] = rows! { Row:
+        TWO, 1, TWO_SHORT, 2, 16, 11;
+        TWO, 3, TWO_SHORT, 2, 16, 11;
+        TWO, 4096, TWO_SHORT, 2, 16, 11;
+        TWO_SHORT, 2, TWO_SHORT, 2, 11, 11;
+        b"", 1, b"", 0, 0, 0;
+    };
     rows_are_given(&rt, rt.alloc(), ROWS)
 }
 
@@ -137,7 +138,7 @@ fn refused(cause: Cause, message: u64, offset: u64, template: u32, instruction: 
 }
 
 #[test]
-fn streams_that_are_refused(rt: HostRuntime) -> Result<(), AllocError> {
+fn streams_that_are_refused(rt: HostRuntime) -> Tried {
     let alloc = rt.alloc();
     let set = worked(&rt, alloc)?;
     let first = Err(CanonFault::Stream(refused(Cause::D5, 1, 1, 0, 0)));
@@ -156,12 +157,7 @@ fn streams_that_are_refused(rt: HostRuntime) -> Result<(), AllocError> {
 
 // A writer for two quotes fails behind each number of bytes; it has room for all of them; it takes none; it fails at the
 // flush.
-fn breaks(
-    rt: &impl Abort,
-    alloc: Global,
-    set: &TemplateSet,
-    given: Given<'_>,
-) -> Result<(), AllocError> {
+fn breaks(rt: &impl Abort, alloc: Global, set: &TemplateSet, given: Given<'_>) -> Tried {
     const WRITE: Result<Summary, CanonFault> = Err(CanonFault::Write);
     for room in 0..11 {
         let out = ScriptOutput::new(alloc, room as u64, false, false);
@@ -181,7 +177,7 @@ fn breaks(
 }
 
 #[test]
-fn a_writer_that_fails(rt: HostRuntime) -> Result<(), AllocError> {
+fn a_writer_that_fails(rt: HostRuntime) -> Tried {
     let alloc = rt.alloc();
     let set = worked(&rt, alloc)?;
     for stream in &in_each_mode(alloc, TWO, false)? {
@@ -204,7 +200,7 @@ fn fails_behind(
     row: &Cut,
     stream: &InMode,
     count: usize,
-) -> Result<(), AllocError> {
+) -> Tried {
     let front = row.front(count);
     let written = &row.stream[..front.bytes.min(row.stream.len())];
     let call = stream.front.saturating_add(count).saturating_add(1);
@@ -222,7 +218,7 @@ fn fails_behind(
 }
 
 #[test]
-fn a_reader_that_fails(rt: HostRuntime) -> Result<(), AllocError> {
+fn a_reader_that_fails(rt: HostRuntime) -> Tried {
     let alloc = rt.alloc();
     let set = worked(&rt, alloc)?;
     for row in CUTS {
@@ -237,7 +233,7 @@ fn a_reader_that_fails(rt: HostRuntime) -> Result<(), AllocError> {
 }
 
 #[test]
-fn reads_that_are_used_up(rt: HostRuntime) -> Result<(), AllocError> {
+fn reads_that_are_used_up(rt: HostRuntime) -> Tried {
     let alloc = rt.alloc();
     let set = worked(&rt, alloc)?;
     let turns = Err(CanonFault::Stream(refused(Cause::Turns, 2, 8, 0, 0)));
@@ -252,7 +248,7 @@ fn stays(
     plain: &[u8],
     messages: u64,
     fault: Option<Fault>,
-) -> Result<(), AllocError> {
+) -> Tried {
     for stream in &in_each_mode(alloc, plain, fault.is_some())? {
         let given = Given {
             mode: stream.mode,
@@ -276,12 +272,7 @@ fn stays(
     Ok(())
 }
 
-fn each_stays(
-    rt: &impl Abort,
-    alloc: Global,
-    set: &TemplateSet,
-    rows: &[Long],
-) -> Result<(), AllocError> {
+fn each_stays(rt: &impl Abort, alloc: Global, set: &TemplateSet, rows: &[Long]) -> Tried {
     for row in rows {
         let plain = stream_of(alloc, row.pieces)?;
         let messages = row.want.len() as u64;
@@ -291,28 +282,28 @@ fn each_stays(
 }
 
 // The same of each stream of the templates of a text.
-fn all_stay(rt: &impl Abort, alloc: Global, text: &str, rows: &[Long]) -> Result<(), AllocError> {
+fn all_stay(rt: &impl Abort, alloc: Global, text: &str, rows: &[Long]) -> Tried {
     let set = loaded(rt, alloc, text)?;
     each_stays(rt, alloc, &set, rows)
 }
 
 #[test]
-fn long_streams(rt: HostRuntime) -> Result<(), AllocError> {
+fn long_streams(rt: HostRuntime) -> Tried {
     all_stay(&rt, rt.alloc(), WORKED, LONG)
 }
 
 #[test]
-fn long_streams_of_elements(rt: HostRuntime) -> Result<(), AllocError> {
+fn long_streams_of_elements(rt: HostRuntime) -> Tried {
     all_stay(&rt, rt.alloc(), WORKED, LONG_SEQUENCES)
 }
 
 #[test]
-fn long_streams_of_empty_elements(rt: HostRuntime) -> Result<(), AllocError> {
+fn long_streams_of_empty_elements(rt: HostRuntime) -> Tried {
     all_stay(&rt, rt.alloc(), BARE, LONG_BARE)
 }
 
 #[test]
-fn long_streams_of_many_messages(rt: HostRuntime) -> Result<(), AllocError> {
+fn long_streams_of_many_messages(rt: HostRuntime) -> Tried {
     let set = worked(&rt, rt.alloc())?;
     let stream = stream_of(rt.alloc(), MANY)?;
     stays(&rt, rt.alloc(), &set, &stream, 10_001, None)
@@ -320,61 +311,20 @@ fn long_streams_of_many_messages(rt: HostRuntime) -> Result<(), AllocError> {
 
 // Streams that are longer than their canonical bytes, and two that are as long and not the same.
 #[test]
-fn no_stream_is_shorter(rt: HostRuntime) -> Result<(), AllocError> {
+fn no_stream_is_shorter(rt: HostRuntime) -> Tried {
     const QUOTE: &[u8] = b"\xf0\x81\x81\x41\xc2\xfe\x00\xe4";
-    const ROWS: &[Row] = &[
-        Row(
-            b"\xf0\x81\x00\x00\x81\x41\xc2\xfe\x00\xe4",
-            4,
-            QUOTE,
-            1,
-            10,
-            8,
-        ),
+    const ROWS: &[Row] = rows! { Row:
+        b"\xf0\x81\x00\x00\x81\x41\xc2\xfe\x00\xe4", 4, QUOTE, 1, 10, 8;
         // a map that is too wide, and a bit that is not asked for
-        Row(
-            b"\x70\x00\x80\x81\x81\x41\xc2\xfe\x00\xe4",
-            4,
-            QUOTE,
-            1,
-            10,
-            8,
-        ),
-        Row(b"\xf1\x81\x81\x41\xc2\xfe\x00\xe4", 4, QUOTE, 1, 8, 8),
+        b"\x70\x00\x80\x81\x81\x41\xc2\xfe\x00\xe4", 4, QUOTE, 1, 10, 8;
+        b"\xf1\x81\x81\x41\xc2\xfe\x00\xe4", 4, QUOTE, 1, 8, 8;
         // a decimal in parts
-        Row(
-            b"\xf0\x83\x80\x85\xb0\x83\x39\x45\xa3",
-            4,
-            b"\xf0\x83\x80\x85\x90\x39\x45\xa3",
-            2,
-            9,
-            8,
-        ),
+        b"\xf0\x83\x80\x85\xb0\x83\x39\x45\xa3", 4, b"\xf0\x83\x80\x85\x90\x39\x45\xa3", 2, 9, 8;
         // tails and a delta
-        Row(
-            b"\xe0\x88\x78\x61\xe2\xa0\x00\x00\x00\xe2",
-            4,
-            b"\xe0\x88\x78\x61\xe2\xa0\x78\x00\xe2",
-            2,
-            10,
-            9,
-        ),
-        Row(
-            b"\xe0\x89\x80\xa0\x00\x80",
-            4,
-            b"\xe0\x89\x80\xa0\xe2",
-            2,
-            6,
-            5,
-        ),
-        Row(
-            b"\xc0\x8a\x80\x47\x45\x48\xb6\x80\x82\x4d\xb6\x80\xfd\x45\xd3\x80\xff\x80",
-            4,
-            b"\xc0\x8a\x80\x47\x45\x48\xb6\x80\x82\x4d\xb6\x80\xfd\x45\xd3\x80\x80\x80",
-            4,
-            18,
-            18,
-        ),
-    ];
+        b"\xe0\x88\x78\x61\xe2\xa0\x00\x00\x00\xe2", 4, b"\xe0\x88\x78\x61\xe2\xa0\x78\x00\xe2", 2, 10, 9;
+        b"\xe0\x89\x80\xa0\x00\x80", 4, b"\xe0\x89\x80\xa0\xe2", 2, 6, 5;
+        b"\xc0\x8a\x80\x47\x45\x48\xb6\x80\x82\x4d\xb6\x80\xfd\x45\xd3\x80\xff\x80", 4,
+            b"\xc0\x8a\x80\x47\x45\x48\xb6\x80\x82\x4d\xb6\x80\xfd\x45\xd3\x80\x80\x80", 4, 18, 18;
+    };
     rows_are_given(&rt, rt.alloc(), ROWS)
 }

@@ -17,6 +17,7 @@ use std::process::Abort;
 use std::test::Fail;
 use stream_rows::long::stream_of;
 use stream_rows::modes::PLAIN;
+use test_rows::{Tried, rows};
 
 // Elements of a copied string; and behind them a number; elements of texts of each operator; and of a long label.
 const GAPPED: &str = r#"{"templates":[
@@ -109,7 +110,7 @@ fn is_shown(
     answer: Result<Summary, CanonFault>,
     came: Came,
     wanted: Came,
-) -> Result<(), AllocError> {
+) -> Tried {
     match answer {
         Ok(_) => {
             same(rt, came, wanted);
@@ -133,7 +134,7 @@ struct Row {
     most: usize,
 }
 
-fn line_of(alloc: Global, groups: &[Group]) -> Result<Vec<u8>, AllocError> {
+fn line_of(alloc: Global, groups: &[Group]) -> Tried<Vec<u8>> {
     let mut line = Vec::new(alloc);
     for (pieces, count) in groups {
         let part = stream_of(alloc, pieces)?;
@@ -144,13 +145,7 @@ fn line_of(alloc: Global, groups: &[Group]) -> Result<Vec<u8>, AllocError> {
     Ok(line)
 }
 
-fn is_shown_in(
-    rt: &impl Abort,
-    alloc: Global,
-    set: &TemplateSet,
-    row: &Row,
-    read: usize,
-) -> Result<(), AllocError>
+fn is_shown_in(rt: &impl Abort, alloc: Global, set: &TemplateSet, row: &Row, read: usize) -> Tried
     requires { 1 ≤ read }
 {
     let stream = stream_of(alloc, row.stream)?;
@@ -171,107 +166,30 @@ const HEAD: Group = (&[(b"2 Ten L=[", 1)], 1);
 
 // Behind them one whose line has 1,048,575 bytes, 1,048,576 and 1,048,577. No text begins behind the limit, and each line
 // is one write.
-const AROUND: [Row; 3] = [
-    Row {
-        stream: &[
-            (b"\xC0\x82\x91\xC0", 1),
-            (b"\x41", 64_999),
-            (b"\xC1", 1),
-            (b"\x80", 15),
-            (b"\xC0", 1),
-            (b"\x44", 8_445),
-            (b"\xC4", 1),
-        ],
-        line: &[
-            HEAD,
-            SIXTEEN,
-            (&[(b"{S=\"", 1), (b"D", 8_446), (b"\"}]\n", 1)], 1),
-        ],
-        most: 1_048_575,
-    },
-    Row {
-        stream: &[
-            (b"\xC0\x82\x91\xC0", 1),
-            (b"\x41", 64_999),
-            (b"\xC1", 1),
-            (b"\x80", 15),
-            (b"\xC0", 1),
-            (b"\x44", 8_446),
-            (b"\xC4", 1),
-        ],
-        line: &[
-            HEAD,
-            SIXTEEN,
-            (&[(b"{S=\"", 1), (b"D", 8_447), (b"\"}]\n", 1)], 1),
-        ],
-        most: 1_048_576,
-    },
-    Row {
-        stream: &[
-            (b"\xC0\x82\x91\xC0", 1),
-            (b"\x41", 64_999),
-            (b"\xC1", 1),
-            (b"\x80", 15),
-            (b"\xC0", 1),
-            (b"\x44", 8_447),
-            (b"\xC4", 1),
-        ],
-        line: &[
-            HEAD,
-            SIXTEEN,
-            (&[(b"{S=\"", 1), (b"D", 8_448), (b"\"}]\n", 1)], 1),
-        ],
-        most: 1_048_577,
-    },
-];
+const AROUND: &[Row] = rows! { Row { stream, line, most }:
+    &[(b"\xC0\x82\x91\xC0", 1), (b"\x41", 64_999), (b"\xC1", 1), (b"\x80", 15), (b"\xC0", 1), (b"\x44", 8_445),
+        (b"\xC4", 1)], &[HEAD, SIXTEEN, (&[(b"{S=\"", 1), (b"D", 8_446), (b"\"}]\n", 1)], 1)], 1_048_575;
+    &[(b"\xC0\x82\x91\xC0", 1), (b"\x41", 64_999), (b"\xC1", 1), (b"\x80", 15), (b"\xC0", 1), (b"\x44", 8_446),
+        (b"\xC4", 1)], &[HEAD, SIXTEEN, (&[(b"{S=\"", 1), (b"D", 8_447), (b"\"}]\n", 1)], 1)], 1_048_576;
+    &[(b"\xC0\x82\x91\xC0", 1), (b"\x41", 64_999), (b"\xC1", 1), (b"\x80", 15), (b"\xC0", 1), (b"\x44", 8_447),
+        (b"\xC4", 1)], &[HEAD, SIXTEEN, (&[(b"{S=\"", 1), (b"D", 8_448), (b"\"}]\n", 1)], 1)], 1_048_577;
+};
 
 // Behind them one in front of whose successor's text 1,048,576 bytes are written, and one with a byte more: that text is a
 // gap, and what is behind it is a write of its own.
-const BORDER: [Row; 2] = [
-    Row {
-        stream: &[
-            (b"\xC0\x82\x92\xC0", 1),
-            (b"\x41", 64_999),
-            (b"\xC1", 1),
-            (b"\x80", 15),
-            (b"\xC0", 1),
-            (b"\x44", 8_444),
-            (b"\xC4\xC0", 1),
-            (b"\x42", 79),
-            (b"\xC2", 1),
-        ],
-        line: &[
-            HEAD,
-            SIXTEEN,
-            (&[(b"{S=\"", 1), (b"D", 8_445), (b"\"} {S=\"", 1)], 1),
-            (&[(b"B", 80), (b"\"}]\n", 1)], 1),
-        ],
-        most: 1_048_661,
-    },
-    Row {
-        stream: &[
-            (b"\xC0\x82\x92\xC0", 1),
-            (b"\x41", 64_999),
-            (b"\xC1", 1),
-            (b"\x80", 15),
-            (b"\xC0", 1),
-            (b"\x44", 8_445),
-            (b"\xC4\xC0", 1),
-            (b"\x42", 79),
-            (b"\xC2", 1),
-        ],
-        line: &[
-            HEAD,
-            SIXTEEN,
-            (&[(b"{S=\"", 1), (b"D", 8_446), (b"\"} {S=\"", 1)], 1),
-            (&[(b"B", 80), (b"\"}]\n", 1)], 1),
-        ],
-        most: 1_048_659,
-    },
-];
+const BORDER: &[Row] = rows! { Row { stream, line, most }:
+    &[(b"\xC0\x82\x92\xC0", 1), (b"\x41", 64_999), (b"\xC1", 1), (b"\x80", 15), (b"\xC0", 1), (b"\x44", 8_444),
+        (b"\xC4\xC0", 1), (b"\x42", 79), (b"\xC2", 1)],
+        &[HEAD, SIXTEEN, (&[(b"{S=\"", 1), (b"D", 8_445), (b"\"} {S=\"", 1)], 1), (&[(b"B", 80), (b"\"}]\n", 1)], 1)],
+        1_048_661;
+    &[(b"\xC0\x82\x92\xC0", 1), (b"\x41", 64_999), (b"\xC1", 1), (b"\x80", 15), (b"\xC0", 1), (b"\x44", 8_445),
+        (b"\xC4\xC0", 1), (b"\x42", 79), (b"\xC2", 1)],
+        &[HEAD, SIXTEEN, (&[(b"{S=\"", 1), (b"D", 8_446), (b"\"} {S=\"", 1)], 1), (&[(b"B", 80), (b"\"}]\n", 1)], 1)],
+        1_048_659;
+};
 
 // Each row is shown in reads of so many bytes.
-fn all_shown_in(rt: &impl Abort, alloc: Global, rows: &[Row], read: usize) -> Result<(), AllocError>
+fn all_shown_in(rt: &impl Abort, alloc: Global, rows: &[Row], read: usize) -> Tried
     requires { 1 ≤ read }
 {
     let set = loaded(rt, alloc, GAPPED)?;
@@ -282,15 +200,15 @@ fn all_shown_in(rt: &impl Abort, alloc: Global, rows: &[Row], read: usize) -> Re
 }
 
 #[test]
-fn lines_around_the_limit(rt: HostRuntime) -> Result<(), AllocError> {
-    all_shown_in(&rt, rt.alloc(), &AROUND, 4096)?;
-    all_shown_in(&rt, rt.alloc(), &BORDER, 4096)
+fn lines_around_the_limit(rt: HostRuntime) -> Tried {
+    all_shown_in(&rt, rt.alloc(), AROUND, 4096)?;
+    all_shown_in(&rt, rt.alloc(), BORDER, 4096)
 }
 
 #[test]
-fn long_streams_are_cut_around_the_limit(rt: HostRuntime) -> Result<(), AllocError> {
+fn long_streams_are_cut_around_the_limit(rt: HostRuntime) -> Tried {
     for read in 1..6 {
-        all_shown_in(&rt, rt.alloc(), &BORDER, read)?;
+        all_shown_in(&rt, rt.alloc(), BORDER, read)?;
     }
     Ok(())
 }
@@ -333,21 +251,21 @@ const TEN_MILLION: Row = Row {
 };
 
 #[test]
-fn long_streams_of_a_hundred_times_the_limit(rt: HostRuntime) -> Result<(), AllocError> {
+fn long_streams_of_a_hundred_times_the_limit(rt: HostRuntime) -> Tried {
     all_shown_in(&rt, rt.alloc(), &[TEN_MILLION, HUNDRED], 4096)
 }
 
 // Behind 18 elements of 65,535 units a number that is none of its type.
-const REFUSED: &[(&[u8], usize)] = &[
-    (b"\xC0\x84\x92\xC0", 1),
-    (b"\x41", 65_534),
-    (b"\xC1", 1),
-    (b"\x80", 17),
-    (b"\x10\x00\x00\x00\x80", 1),
-];
+const REFUSED: &[(&[u8], usize)] = rows! {
+    b"\xC0\x84\x92\xC0", 1;
+    b"\x41", 65_534;
+    b"\xC1", 1;
+    b"\x80", 17;
+    b"\x10\x00\x00\x00\x80", 1;
+};
 
 #[test]
-fn nothing_of_a_refused_line_is_written(rt: HostRuntime) -> Result<(), AllocError> {
+fn nothing_of_a_refused_line_is_written(rt: HostRuntime) -> Tried {
     let set = loaded(&rt, rt.alloc(), GAPPED)?;
     let stream = stream_of(rt.alloc(), REFUSED)?;
     let (answer, came) = show_over(rt.alloc(), &set, Form::Text, &stream, 4096, b"");
@@ -366,37 +284,13 @@ fn nothing_of_a_refused_line_is_written(rt: HostRuntime) -> Result<(), AllocErro
 
 // Texts of each kind, as they stand whole, by bit 0, by deltas at both ends and by tails; and a label that is no short
 // piece.
-const EVERY: [&[(&[u8], usize)]; 2] = [
-    &[
-        (b"\xC0\x83\x8D\xF0\x80", 1),
-        (b"\x41", 65_000),
-        (b"\xC2", 1),
-        (b"\x54", 99),
-        (b"\xD4\x03\x54\xE0", 1),
-        (b"\xC3\xA9", 30_000),
-        (b"\x01\x1C\xA0", 1),
-        (b"\xAB", 20_000),
-        (b"\x80\x81\xC3", 4),
-        (b"\x80\xFE\xC4", 2),
-        (b"\xC0\x80\x80\x58\xD9", 1),
-        (b"\xA0\x80\x80\x94", 1),
-        (b"\xF0\x9F\x99\x82", 5),
-        (b"\x90\x80\x80\x91", 1),
-        (b"\x01", 17),
-        (b"\x88\x80\x80", 1),
-        (b"\x64", 17),
-        (b"\xE4", 1),
-        (b"\x80\x81\xC3", 2),
-    ],
-    &[
-        (b"\xC0\x85\x92\xF0", 1),
-        (b"\x41", 65_534),
-        (b"\xC1\x85", 1),
-        (b"\x42", 16),
-        (b"\xC2", 1),
-        (b"\x80", 17),
-    ],
-];
+const EVERY: &[&[(&[u8], usize)]] = rows! {
+    &[(b"\xC0\x83\x8D\xF0\x80", 1), (b"\x41", 65_000), (b"\xC2", 1), (b"\x54", 99), (b"\xD4\x03\x54\xE0", 1),
+        (b"\xC3\xA9", 30_000), (b"\x01\x1C\xA0", 1), (b"\xAB", 20_000), (b"\x80\x81\xC3", 4), (b"\x80\xFE\xC4", 2),
+        (b"\xC0\x80\x80\x58\xD9", 1), (b"\xA0\x80\x80\x94", 1), (b"\xF0\x9F\x99\x82", 5), (b"\x90\x80\x80\x91", 1),
+        (b"\x01", 17), (b"\x88\x80\x80", 1), (b"\x64", 17), (b"\xE4", 1), (b"\x80\x81\xC3", 2)];
+    &[(b"\xC0\x85\x92\xF0", 1), (b"\x41", 65_534), (b"\xC1\x85", 1), (b"\x42", 16), (b"\xC2", 1), (b"\x80", 17)];
+};
 
 fn is_shown_as_told(
     rt: &impl Abort,

@@ -6,6 +6,7 @@ use fast_canon::{CanonFault, Summary};
 use fast_stream::Cause;
 use std::alloc::AllocError;
 use std::process::Abort;
+use test_rows::Tried;
 
 /// Whether a command may answer so where memory is refused, to it or to the writer of a test.
 pub(crate) fn may_be_refused(answer: Result<Summary, CanonFault>) -> bool {
@@ -23,7 +24,7 @@ pub(crate) fn answers(
     wanted: Result<Summary, CanonFault>,
     out: &[u8],
     written: &[u8],
-) -> Result<(), AllocError> {
+) -> Tried {
     if may_be_refused(given) && (given != wanted || out != written) {
         same(rt, written.starts_with(out), true);
         return Err(AllocError);

@@ -12,11 +12,12 @@ use fast_io::{ScriptInput, ScriptOutput};
 use fast_stream::Node;
 use fast_template::TemplateSet;
 use serde_json::Value;
-use std::alloc::{AllocError, Global};
+use std::alloc::Global;
 use std::process::Abort;
 use std::test::Fail;
 use stream_rows::modes::PLAIN;
 use template_tests::texts::WORKED;
+use test_rows::{Tried, rows};
 
 /// A stream of one message, its line, and another spelling of what that stands for.
 pub(crate) struct Row {
@@ -25,50 +26,25 @@ pub(crate) struct Row {
     read_as: &'static str,
 }
 
-pub(crate) const WORKED_ROWS: [Row; 8] = [
-    Row {
-        stream: b"\xf0\x81\x81\x41\xc2\xfe\x00\xe4",
-        line: "{\"template\":\"Quote\",\"id\":1,\"fields\":\
-            {\"Seq\":1,\"Sym\":\"AB\",\"Px\":100e-2,\"Qty\":null}}\n",
-        read_as: r#"{"id": 1, "template": "Quote",
-            "fields": {"Qty": null, "Px": 1.0, "Sym": "AB", "Seq": 1}}"#,
-    },
-    Row {
-        stream: b"\xf0\x83\x80\x85",
-        line: "{\"template\":\"Opt\",\"id\":3,\"fields\":{\"Px\":null,\"Flag\":5}}\n",
-        read_as: r#"{"id": 3, "template": "Opt", "fields": {"Flag": 5, "Px": null}}"#,
-    },
-    Row {
-        stream: b"\xc0\x84\x80",
-        line: "{\"template\":\"Legs\",\"id\":4,\"fields\":{\"L\":null}}\n",
-        read_as: r#"{"id": 4, "template": "Legs", "fields": {"L": null}}"#,
-    },
-    Row {
-        stream: b"\xc0\x84\x81",
-        line: "{\"template\":\"Legs\",\"id\":4,\"fields\":{\"L\":[]}}\n",
-        read_as: r#"{"id": 4, "template": "Legs", "fields": {"L": []}}"#,
-    },
-    Row {
-        stream: b"\xc0\x84\x83\x85\x86",
-        line: "{\"template\":\"Legs\",\"id\":4,\"fields\":{\"L\":[{\"P\":5},{\"P\":6}]}}\n",
-        read_as: r#"{"id": 4, "template": "Legs", "fields": {"L": [{"P": 5}, {"P": 6}]}}"#,
-    },
-    Row {
-        stream: b"\xf0\x8b\xc0\x85\x86",
-        line: "{\"template\":\"Grp\",\"id\":11,\"fields\":{\"Hd\":{\"A\":5},\"B\":6}}\n",
-        read_as: r#"{"id": 11, "template": "Grp", "fields": {"B": 6, "Hd": {"A": 5}}}"#,
-    },
-    Row {
-        stream: b"\xd0\x8b\x86",
-        line: "{\"template\":\"Grp\",\"id\":11,\"fields\":{\"Hd\":null,\"B\":6}}\n",
-        read_as: r#"{"id": 11, "template": "Grp", "fields": {"B": 6, "Hd": null}}"#,
-    },
-    Row {
-        stream: b"\xe0\x8f\x00\xe4\x83\x0a\xff",
-        line: "{\"template\":\"Fixed\",\"id\":15,\"fields\":{\"Px\":100e-2,\"Raw\":\"0aff\"}}\n",
-        read_as: r#"{"id": 15, "template": "Fixed", "fields": {"Raw": "0aff", "Px": 1.0}}"#,
-    },
-];
+pub(crate) const WORKED_ROWS: &[Row] = rows! { Row { stream, line, read_as }:
+    b"\xf0\x81\x81\x41\xc2\xfe\x00\xe4", "{\"template\":\"Quote\",\"id\":1,\"fields\":\
+            {\"Seq\":1,\"Sym\":\"AB\",\"Px\":100e-2,\"Qty\":null}}\n", r#"{"id": 1, "template": "Quote",
+            "fields": {"Qty": null, "Px": 1.0, "Sym": "AB", "Seq": 1}}"#;
+    b"\xf0\x83\x80\x85", "{\"template\":\"Opt\",\"id\":3,\"fields\":{\"Px\":null,\"Flag\":5}}\n",
+        r#"{"id": 3, "template": "Opt", "fields": {"Flag": 5, "Px": null}}"#;
+    b"\xc0\x84\x80", "{\"template\":\"Legs\",\"id\":4,\"fields\":{\"L\":null}}\n",
+        r#"{"id": 4, "template": "Legs", "fields": {"L": null}}"#;
+    b"\xc0\x84\x81", "{\"template\":\"Legs\",\"id\":4,\"fields\":{\"L\":[]}}\n",
+        r#"{"id": 4, "template": "Legs", "fields": {"L": []}}"#;
+    b"\xc0\x84\x83\x85\x86", "{\"template\":\"Legs\",\"id\":4,\"fields\":{\"L\":[{\"P\":5},{\"P\":6}]}}\n",
+        r#"{"id": 4, "template": "Legs", "fields": {"L": [{"P": 5}, {"P": 6}]}}"#;
+    b"\xf0\x8b\xc0\x85\x86", "{\"template\":\"Grp\",\"id\":11,\"fields\":{\"Hd\":{\"A\":5},\"B\":6}}\n",
+        r#"{"id": 11, "template": "Grp", "fields": {"B": 6, "Hd": {"A": 5}}}"#;
+    b"\xd0\x8b\x86", "{\"template\":\"Grp\",\"id\":11,\"fields\":{\"Hd\":null,\"B\":6}}\n",
+        r#"{"id": 11, "template": "Grp", "fields": {"B": 6, "Hd": null}}"#;
+    b"\xe0\x8f\x00\xe4\x83\x0a\xff", "{\"template\":\"Fixed\",\"id\":15,\"fields\":{\"Px\":100e-2,\"Raw\":\"0aff\"}}\n",
+        r#"{"id": 15, "template": "Fixed", "fields": {"Raw": "0aff", "Px": 1.0}}"#;
+};
 
 /// A template with a field of each type, two of one name, names that are escaped, and a group in a group.
 pub(crate) const KINDS: &str = r#"{"templates":[
@@ -88,40 +64,35 @@ pub(crate) const KINDS: &str = r#"{"templates":[
  {"kind":"sequence","name":"s","instructions":[
   {"kind":"int32","name":"\\"}]}]}]}"#;
 
-pub(crate) const KIND_ROWS: [Row; 2] = [
+pub(crate) const KIND_ROWS: &[Row] = rows! { Row { stream, line, read_as }:
     // what is farthest from nought, and strings that are escaped
-    Row {
-        stream: b"\xc0\x0f\x7f\x7f\x7f\xff\x0f\x7f\x7f\x7f\xff\x78\x00\x00\x00\x80\x01\x7f\x7f\x7f\x7f\x7f\
+    b"\xc0\x0f\x7f\x7f\x7f\xff\x0f\x7f\x7f\x7f\xff\x78\x00\x00\x00\x80\x01\x7f\x7f\x7f\x7f\x7f\
             \x7f\x7f\x7f\xff\x7f\x00\x00\x00\x00\x00\x00\x00\x00\x80\xc1\x00\x7f\x7f\x7f\x7f\x7f\x7f\
             \x7f\x7f\xff\x22\x5c\x7e\x7f\x00\x9f\x88\x22\x0a\xc3\xa9\xf0\x9f\x99\x82\x82\x0a\xff\x86\
-            \x80\x82\xff\x80",
-        line: "{\"template\":\"K\\\"\\\\\",\"id\":4294967295,\"fields\":{\"u32\":4294967295,\
+            \x80\x82\xff\x80", "{\"template\":\"K\\\"\\\\\",\"id\":4294967295,\"fields\":{\"u32\":4294967295,\
             \"i32\":-2147483648,\"u64\":18446744073709551615,\"i64\":-9223372036854775808,\
             \"d\":9223372036854775807e-63,\"a\":\"\\\"\\\\~\\u007f\\u0000\\u001f\",\
             \"t\":\"\\\"\\u000aé🙂\",\"b\":\"0aff\",\"twice\":5,\"twice\":null,\
             \"g\":{\"\\\"\":{}},\"s\":[{\"\\\\\":-1},{\"\\\\\":0}]}}\n",
-        read_as: r#"{"template": "\u004b\u0022\u005c", "id": 4294967295, "fields": {
+        r#"{"template": "\u004b\u0022\u005c", "id": 4294967295, "fields": {
             "u32": 4294967295, "i32": -2147483648, "u64": 18446744073709551615,
             "i64": -9223372036854775808, "d": 9.223372036854775807e-45,
             "a": "\u0022\u005c\u007e\u007f\u0000\u001f", "t": "\u0022\n\u00e9\ud83d\ude42",
             "b": "0aff", "twice": null, "g": {"\u0022": {}},
-            "s": [{"\u005c": -1}, {"\u005c": 0}]}}"#,
-    },
+            "s": [{"\u005c": -1}, {"\u005c": 0}]}}"#;
     // what is empty, and a string that is looked at in several steps
-    Row {
-        stream: b"\xc0\x0f\x7f\x7f\x7f\xff\x80\x07\x7f\x7f\x7f\xff\x80\x00\x7f\x7f\x7f\x7f\x7f\x7f\x7f\x7f\
+    b"\xc0\x0f\x7f\x7f\x7f\xff\x80\x07\x7f\x7f\x7f\xff\x80\x00\x7f\x7f\x7f\x7f\x7f\x7f\x7f\x7f\
             \xff\xbf\xfb\x61\x62\x63\x64\x65\x66\x67\x68\x22\x6a\x6b\x6c\x6d\x6e\x6f\x70\x71\x72\x73\
             \xf4\x80\x80\x80\x10\x00\x00\x00\x80\x80",
-        line: "{\"template\":\"K\\\"\\\\\",\"id\":4294967295,\"fields\":{\"u32\":0,\
+        "{\"template\":\"K\\\"\\\\\",\"id\":4294967295,\"fields\":{\"u32\":0,\
             \"i32\":2147483647,\"u64\":0,\"i64\":9223372036854775807,\"d\":-5e63,\
             \"a\":\"abcdefgh\\\"jklmnopqrst\",\"t\":\"\",\"b\":\"\",\
             \"twice\":null,\"twice\":4294967295,\"g\":{\"\\\"\":{}},\"s\":[]}}\n",
-        read_as: r#"{"template": "\u004b\u0022\u005c", "id": 4294967295, "fields": {
+        r#"{"template": "\u004b\u0022\u005c", "id": 4294967295, "fields": {
             "u32": 0, "i32": 2147483647, "u64": 0, "i64": 9223372036854775807,
             "d": -50e62, "a": "abcdefgh\u0022jklmnopqrst", "t": "", "b": "",
-            "twice": 4294967295, "g": {"\u0022": {}}, "s": []}}"#,
-    },
-];
+            "twice": 4294967295, "g": {"\u0022": {}}, "s": []}}"#;
+};
 
 /// This is what `show` writes of a stream in JSON, in steps of one size.
 fn is_written(
@@ -131,7 +102,7 @@ fn is_written(
     stream: &[u8],
     step: usize,
     line: &[u8],
-) -> Result<(), AllocError>
+) -> Tried
     requires { 1 ≤ step }
 {
     let mut out = ScriptOutput::new(alloc, 1_000_000, false, false);
@@ -175,7 +146,7 @@ fn are_shown(rt: &impl Abort, alloc: Global, text: &str, rows: &[Row]) -> Result
 }
 
 /// A mandatory sequence that is absent has no line.
-fn absent_is_refused(rt: &impl Abort, alloc: Global) -> Result<(), AllocError> {
+fn absent_is_refused(rt: &impl Abort, alloc: Global) -> Tried {
     let set = worked(rt, alloc)?;
     one_is_refused(rt, alloc, &set, Form::Json, 6, Node::Absent)
 }
@@ -183,7 +154,7 @@ fn absent_is_refused(rt: &impl Abort, alloc: Global) -> Result<(), AllocError> {
 #[test]
 fn each_line_is_read_as_its_message(rt: HostRuntime) -> Result<(), Fail> {
     let alloc = rt.alloc();
-    are_shown(&rt, alloc, WORKED, &WORKED_ROWS)?;
-    are_shown(&rt, alloc, KINDS, &KIND_ROWS)?;
+    are_shown(&rt, alloc, WORKED, WORKED_ROWS)?;
+    are_shown(&rt, alloc, KINDS, KIND_ROWS)?;
     Ok(absent_is_refused(&rt, alloc)?)
 }

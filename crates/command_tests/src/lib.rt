@@ -6,6 +6,8 @@ mod blocks;
 #[cfg(test)]
 mod canonicalising;
 #[cfg(test)]
+mod extremes;
+#[cfg(test)]
 mod gaps;
 #[cfg(test)]
 mod granted;

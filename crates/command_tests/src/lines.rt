@@ -13,6 +13,7 @@ use std::alloc::{AllocError, Global};
 use std::process::Abort;
 use std::test::Fail;
 use stream_rows::modes::PLAIN;
+use test_rows::{Tried, rows};
 
 /// A stream, and the lines of its messages.
 struct Row {
@@ -20,61 +21,23 @@ struct Row {
     lines: &'static str,
 }
 
-const ROWS: [Row; 13] = [
-    Row {
-        stream: b"\xf0\x81\x81\x41\xc2\xfe\x00\xe4\xf8\x81\x82\x41\xc2\x80\x81\x80",
-        lines: "1 Quote Seq=1 Sym=\"AB\" Px=100e-2 Qty=-\n\
-            1 Quote Seq=2 Sym=\"AB\" Px=101e-2 Qty=-\n",
-    },
-    Row {
-        stream: b"\xe0\x88\x78\x61\xe2\xa0\x00\x00\x00\xe2",
-        lines: "8 Tail S=\"xab\"\n8 Tail S=\"x\\x00b\"\n",
-    },
-    Row {
-        stream: b"\xe0\x89\x80\xa0\x00\x80",
-        lines: "9 Init S=-\n9 Init S=\"ab\"\n",
-    },
-    Row {
-        stream: b"\xe0\x82\x0f\x7f\x7f\x7f\xff\x0f\x7f\x7f\x7f\xff\x80\x80",
-        lines: "2 Wrap A=4294967295 B=4294967295\n2 Wrap A=0 B=4294967295\n",
-    },
-    Row {
-        stream: b"\xf0\x83\x80\x85\x90\x39\x45\xa3",
-        lines: "3 Opt Px=- Flag=5\n3 Opt Px=942755e2 Flag=5\n",
-    },
-    Row {
-        stream: b"\xc0\x84\x80\x80\x81\x80\x83\x85\x86",
-        lines: "4 Legs L=-\n4 Legs L=[]\n4 Legs L=[{P=5} {P=6}]\n",
-    },
-    Row {
-        stream: b"\xc0\x85\x82\xc0\x85\x80",
-        lines: "5 Marks L=[{Q=5} {Q=5}]\n",
-    },
-    Row {
-        stream: b"\xf0\x87\x85\xc1\xb0\x86\xc1",
-        lines: "7 Clash A=5 B=\"A\"\n7 Clash A=6 B=\"A\"\n",
-    },
-    Row {
-        stream: b"\xe0\x90\x85\x86\xe0\x90\x87\x86",
-        lines: "16 First A=5 B=6\n16 First A=7 B=6\n",
-    },
-    Row {
-        stream: b"\xf0\x8b\xc0\x85\x86\x80\xa0\x80",
-        lines: "11 Grp Hd={A=5} B=6\n11 Grp Hd=- B=6\n11 Grp Hd={A=5} B=6\n",
-    },
-    Row {
-        stream: b"\xe0\x8c\x82\xc3\xa9\xa0\x81\xa8",
-        lines: "12 Uni S=\"\\xc3\\xa9\"\n12 Uni S=\"\\xc3\\xa8\"\n",
-    },
-    Row {
-        stream: b"\xe0\x8e\x80\x90\x83\x90",
-        lines: "14 Const K=7 O=9 D=3\n14 Const K=7 O=- D=3\n14 Const K=7 O=- D=3\n",
-    },
-    Row {
-        stream: b"\xe0\x8f\x00\xe4\x83\x0a\xff\x80\x81",
-        lines: "15 Fixed Px=100e-2 Raw=x0aff\n15 Fixed Px=101e-2 Raw=x0aff\n",
-    },
-];
+const ROWS: &[Row] = rows! { Row { stream, lines }:
+    b"\xf0\x81\x81\x41\xc2\xfe\x00\xe4\xf8\x81\x82\x41\xc2\x80\x81\x80", "1 Quote Seq=1 Sym=\"AB\" Px=100e-2 Qty=-\n\
+            1 Quote Seq=2 Sym=\"AB\" Px=101e-2 Qty=-\n";
+    b"\xe0\x88\x78\x61\xe2\xa0\x00\x00\x00\xe2", "8 Tail S=\"xab\"\n8 Tail S=\"x\\x00b\"\n";
+    b"\xe0\x89\x80\xa0\x00\x80", "9 Init S=-\n9 Init S=\"ab\"\n";
+    b"\xe0\x82\x0f\x7f\x7f\x7f\xff\x0f\x7f\x7f\x7f\xff\x80\x80",
+        "2 Wrap A=4294967295 B=4294967295\n2 Wrap A=0 B=4294967295\n";
+    b"\xf0\x83\x80\x85\x90\x39\x45\xa3", "3 Opt Px=- Flag=5\n3 Opt Px=942755e2 Flag=5\n";
+    b"\xc0\x84\x80\x80\x81\x80\x83\x85\x86", "4 Legs L=-\n4 Legs L=[]\n4 Legs L=[{P=5} {P=6}]\n";
+    b"\xc0\x85\x82\xc0\x85\x80", "5 Marks L=[{Q=5} {Q=5}]\n";
+    b"\xf0\x87\x85\xc1\xb0\x86\xc1", "7 Clash A=5 B=\"A\"\n7 Clash A=6 B=\"A\"\n";
+    b"\xe0\x90\x85\x86\xe0\x90\x87\x86", "16 First A=5 B=6\n16 First A=7 B=6\n";
+    b"\xf0\x8b\xc0\x85\x86\x80\xa0\x80", "11 Grp Hd={A=5} B=6\n11 Grp Hd=- B=6\n11 Grp Hd={A=5} B=6\n";
+    b"\xe0\x8c\x82\xc3\xa9\xa0\x81\xa8", "12 Uni S=\"\\xc3\\xa9\"\n12 Uni S=\"\\xc3\\xa8\"\n";
+    b"\xe0\x8e\x80\x90\x83\x90", "14 Const K=7 O=9 D=3\n14 Const K=7 O=- D=3\n14 Const K=7 O=- D=3\n";
+    b"\xe0\x8f\x00\xe4\x83\x0a\xff\x80\x81", "15 Fixed Px=100e-2 Raw=x0aff\n15 Fixed Px=101e-2 Raw=x0aff\n";
+};
 
 /// Feeds a decoder that has read nothing, and pushes the messages and their lines.
 fn push_lines(
@@ -137,14 +100,14 @@ pub(crate) fn has_lines(
 fn worked_streams_have_their_lines(rt: HostRuntime) -> Result<(), Fail> {
     let alloc = rt.alloc();
     let set = worked(&rt, alloc)?;
-    for row in &ROWS {
+    for row in ROWS {
         let lines = row.lines.as_bytes();
         has_lines(&rt, alloc, &set, Form::Text, row.stream, lines)?;
     }
     Ok(())
 }
 
-fn one(alloc: Global, template: u32, node: Node) -> Result<Message, AllocError> {
+fn one(alloc: Global, template: u32, node: Node) -> Tried<Message> {
     let fields = vec![in alloc; node]?;
     Ok(Message { template, fields })
 }
@@ -153,7 +116,7 @@ fn number(value: u32) -> Node {
     Node::Value(Scalar::U32(value))
 }
 
-fn text(alloc: Global, characters: &[u8]) -> Result<Node, AllocError> {
+fn text(alloc: Global, characters: &[u8]) -> Tried<Node> {
     let characters = ByteString::from_vec(Vec::from_slice(alloc, characters)?);
     Ok(Node::Value(Scalar::Ascii(characters)))
 }
@@ -165,7 +128,7 @@ fn answers(
     wanted: Result<(), ShowFault>,
     out: &[u8],
     line: &[u8],
-) -> Result<(), AllocError> {
+) -> Tried {
     if given.is_err() {
         same(rt, out, b"before".as_slice());
     }
@@ -186,7 +149,7 @@ fn shows(
     message: &Message,
     wanted: Result<(), ShowFault>,
     line: &[u8],
-) -> Result<(), AllocError> {
+) -> Tried {
     let mut out = Vec::from_slice(alloc, b"before")?;
     let answer = show_line(form, set, message, &mut out);
     answers(rt, answer, wanted, out.as_slice(), line)
@@ -199,7 +162,7 @@ fn refused(
     set: &TemplateSet,
     form: Form,
     message: Message,
-) -> Result<(), AllocError> {
+) -> Tried {
     let mismatch = Err(ShowFault::Mismatch);
     shows(rt, alloc, set, form, &message, mismatch, b"before")
 }
@@ -212,7 +175,7 @@ pub(crate) fn one_is_refused(
     form: Form,
     template: u32,
     node: Node,
-) -> Result<(), AllocError> {
+) -> Tried {
     refused(rt, alloc, set, form, one(alloc, template, node)?)
 }
 
@@ -224,13 +187,13 @@ fn two_are_refused(
     template: u32,
     first: Node,
     second: Node,
-) -> Result<(), AllocError> {
+) -> Tried {
     let fields = vec![in alloc; first, second]?;
     let message = Message { template, fields };
     refused(rt, alloc, set, Form::Text, message)
 }
 
-fn have_no_template(rt: &impl Abort, alloc: Global, set: &TemplateSet) -> Result<(), AllocError> {
+fn have_no_template(rt: &impl Abort, alloc: Global, set: &TemplateSet) -> Tried {
     // no such template
     one_is_refused(rt, alloc, set, Form::Text, 100, number(5))?;
     // too few nodes
@@ -242,12 +205,12 @@ fn have_no_template(rt: &impl Abort, alloc: Global, set: &TemplateSet) -> Result
 }
 
 #[test]
-fn a_message_of_no_template_has_no_line(rt: HostRuntime) -> Result<(), AllocError> {
+fn a_message_of_no_template_has_no_line(rt: HostRuntime) -> Tried {
     let set = worked(&rt, rt.alloc())?;
     have_no_template(&rt, rt.alloc(), &set)
 }
 
-fn have_other_types(rt: &impl Abort, alloc: Global, set: &TemplateSet) -> Result<(), AllocError> {
+fn have_other_types(rt: &impl Abort, alloc: Global, set: &TemplateSet) -> Tried {
     let signed = Node::Value(Scalar::I32(6));
     two_are_refused(rt, alloc, set, 16, number(5), signed)?;
     // no character of ASCII
@@ -259,12 +222,12 @@ fn have_other_types(rt: &impl Abort, alloc: Global, set: &TemplateSet) -> Result
 }
 
 #[test]
-fn a_value_of_another_type_has_no_line(rt: HostRuntime) -> Result<(), AllocError> {
+fn a_value_of_another_type_has_no_line(rt: HostRuntime) -> Tried {
     let set = worked(&rt, rt.alloc())?;
     have_other_types(&rt, rt.alloc(), &set)
 }
 
-fn stands_behind(rt: &impl Abort, alloc: Global, set: &TemplateSet) -> Result<(), AllocError> {
+fn stands_behind(rt: &impl Abort, alloc: Global, set: &TemplateSet) -> Tried {
     // a quote, a backslash, `~` and DEL
     let message = one(alloc, 8, text(alloc, b"\"\\~\x7f")?)?;
     let line = b"before8 Tail S=\"\\x22\\x5c~\\x7f\"\n";
@@ -272,7 +235,7 @@ fn stands_behind(rt: &impl Abort, alloc: Global, set: &TemplateSet) -> Result<()
 }
 
 #[test]
-fn a_line_stands_behind_what_was_there(rt: HostRuntime) -> Result<(), AllocError> {
+fn a_line_stands_behind_what_was_there(rt: HostRuntime) -> Tried {
     let set = worked(&rt, rt.alloc())?;
     stands_behind(&rt, rt.alloc(), &set)
 }

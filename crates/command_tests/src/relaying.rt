@@ -12,6 +12,7 @@ use std::io::{self, Write};
 use std::process::Abort;
 use stream_rows::long::stream_of;
 use stream_rows::modes::PLAIN;
+use test_rows::{Tried, rows};
 
 // How many bytes each write had, of which all are taken.
 #[derive(Drop)]
@@ -65,12 +66,7 @@ fn run_over(
     )
 }
 
-fn is_handed_on(
-    rt: &impl Abort,
-    alloc: Global,
-    set: &TemplateSet,
-    row: &Row,
-) -> Result<(), AllocError> {
+fn is_handed_on(rt: &impl Abort, alloc: Global, set: &TemplateSet, row: &Row) -> Tried {
     let stream = stream_of(alloc, row.pieces)?;
     let mut sizes = Vec::with_capacity(alloc, 16)?;
     match run_over(alloc, set, row.command, &stream, &mut sizes) {
@@ -86,103 +82,26 @@ fn is_handed_on(
 }
 
 #[test]
-fn long_streams_are_handed_on(rt: HostRuntime) -> Result<(), AllocError> {
-    const ROWS: &[Row] = &[
+fn long_streams_are_handed_on(rt: HostRuntime) -> Tried {
+    const ROWS: &[Row] = rows! { Row { command, pieces, sizes }:
         // Lines of 65,535 bytes, the first of which ends in the sixteenth read as the others do: two are handed on at
         // once, and what is left behind the read.
-        Row {
-            command: Command::Show,
-            pieces: &[
-                (b"\xE0\x81", 1),
-                (b"\x41", 65_525),
-                (b"\xC1", 1),
-                (b"\x80", 3),
-            ],
-            sizes: &[131_070, 131_070],
-        },
-        Row {
-            command: Command::Show,
-            pieces: &[
-                (b"\xE0\x81", 1),
-                (b"\x41", 65_525),
-                (b"\xC1", 1),
-                (b"\x80", 2),
-            ],
-            sizes: &[131_070, 65_535],
-        },
+        Command::Show, &[(b"\xE0\x81", 1), (b"\x41", 65_525), (b"\xC1", 1), (b"\x80", 3)], &[131_070, 131_070];
+        Command::Show, &[(b"\xE0\x81", 1), (b"\x41", 65_525), (b"\xC1", 1), (b"\x80", 2)], &[131_070, 65_535];
         // lines of 65,536 bytes
-        Row {
-            command: Command::Show,
-            pieces: &[
-                (b"\xE0\x81", 1),
-                (b"\x41", 65_526),
-                (b"\xC1", 1),
-                (b"\x80", 2),
-            ],
-            sizes: &[65_536, 65_536, 65_536],
-        },
+        Command::Show, &[(b"\xE0\x81", 1), (b"\x41", 65_526), (b"\xC1", 1), (b"\x80", 2)], &[65_536, 65_536, 65_536];
         // Canonical bytes: a message of 65,535 and one of one byte, which end in the same read; one of 65,536, and two
         // in the next read; one of 65,537, and two in the same read.
-        Row {
-            command: Command::Canon,
-            pieces: &[
-                (b"\xE0\x81", 1),
-                (b"\x41", 65_532),
-                (b"\xC1", 1),
-                (b"\x80", 1),
-            ],
-            sizes: &[65_536],
-        },
-        Row {
-            command: Command::Canon,
-            pieces: &[
-                (b"\xE0\x81", 1),
-                (b"\x41", 65_533),
-                (b"\xC1", 1),
-                (b"\x80", 2),
-            ],
-            sizes: &[65_536, 2],
-        },
-        Row {
-            command: Command::Canon,
-            pieces: &[
-                (b"\xE0\x81", 1),
-                (b"\x41", 65_534),
-                (b"\xC1", 1),
-                (b"\x80", 2),
-            ],
-            sizes: &[65_537, 2],
-        },
+        Command::Canon, &[(b"\xE0\x81", 1), (b"\x41", 65_532), (b"\xC1", 1), (b"\x80", 1)], &[65_536];
+        Command::Canon, &[(b"\xE0\x81", 1), (b"\x41", 65_533), (b"\xC1", 1), (b"\x80", 2)], &[65_536, 2];
+        Command::Canon, &[(b"\xE0\x81", 1), (b"\x41", 65_534), (b"\xC1", 1), (b"\x80", 2)], &[65_537, 2];
         // many messages of a read are few bytes
-        Row {
-            command: Command::Canon,
-            pieces: &[
-                (b"\xE0\x81", 1),
-                (b"\x41", 99),
-                (b"\xC1", 1),
-                (b"\x80", 3_994),
-                (b"\x80", 7),
-            ],
-            sizes: &[4_096, 7],
-        },
+        Command::Canon, &[(b"\xE0\x81", 1), (b"\x41", 99), (b"\xC1", 1), (b"\x80", 3_994), (b"\x80", 7)], &[4_096, 7];
         // a check makes no bytes of a message, and its line is written once
-        Row {
-            command: Command::Check,
-            pieces: &[
-                (b"\xE0\x81", 1),
-                (b"\x41", 65_525),
-                (b"\xC1", 1),
-                (b"\x80", 3),
-            ],
-            sizes: &[42],
-        },
+        Command::Check, &[(b"\xE0\x81", 1), (b"\x41", 65_525), (b"\xC1", 1), (b"\x80", 3)], &[42];
         // nothing is written of no message
-        Row {
-            command: Command::Canon,
-            pieces: &[],
-            sizes: &[],
-        },
-    ];
+        Command::Canon, &[], &[];
+    };
     let set = loaded(&rt, rt.alloc(), COPIES)?;
     for row in ROWS {
         is_handed_on(&rt, rt.alloc(), &set, row)?;

@@ -12,12 +12,13 @@ use fast_decoder::Mode;
 use fast_io::{Counted, ScriptInput, ScriptOutput};
 use fast_stream::{Cause, Fault, Place};
 use fast_template::TemplateSet;
-use std::alloc::{AllocError, Global};
+use std::alloc::Global;
 use std::process::Abort;
 use stream_rows::cuts::{CUTS, Cut, Front};
 use stream_rows::long::{MANY, stream_of};
 use stream_rows::modes::{BLOCKS, InMode, PLAIN, in_each_mode};
 use stream_rows::quotes::{QUOTE, TWO, TWO_SHORT};
+use test_rows::{Tried, rows};
 
 /// A stream, how many messages it has, and what each command writes of it.
 #[derive(Clone, Copy)]
@@ -53,252 +54,66 @@ const DELTAS: &[u8] = b"\xc0\x8a\x80\x47\x45\x48\xb6\x80\x82\x4d\xb6\x80\xfd\x45
 
 const DELTA_LINES: &str = "10 Delta S=\"GEH6\"\n10 Delta S=\"GEM6\"\n10 Delta S=\"ESM6\"\n";
 
-pub(crate) const ROWS: [Row; 19] = [
-    Row {
-        stream: QUOTE,
-        messages: 1,
-        lines: QUOTE_LINE,
-        told: "ok messages=1 bytes=8 canonical=8\n",
-        canonical: QUOTE,
-    },
-    Row {
-        stream: TWO,
-        messages: 2,
-        lines: TWO_LINES,
-        told: "ok messages=2 bytes=16 canonical=11\n",
-        canonical: TWO_SHORT,
-    },
-    Row {
-        stream: TWO_SHORT,
-        messages: 2,
-        lines: TWO_LINES,
-        told: "ok messages=2 bytes=11 canonical=11\n",
-        canonical: TWO_SHORT,
-    },
-    Row {
-        stream: b"",
-        messages: 0,
-        lines: "",
-        told: "ok messages=0 bytes=0 canonical=0\n",
-        canonical: b"",
-    },
+pub(crate) const ROWS: &[Row] = rows! { Row { stream, messages, lines, told, canonical }:
+    QUOTE, 1, QUOTE_LINE, "ok messages=1 bytes=8 canonical=8\n", QUOTE;
+    TWO, 2, TWO_LINES, "ok messages=2 bytes=16 canonical=11\n", TWO_SHORT;
+    TWO_SHORT, 2, TWO_LINES, "ok messages=2 bytes=11 canonical=11\n", TWO_SHORT;
+    b"", 0, "", "ok messages=0 bytes=0 canonical=0\n", b"";
     // an integer that is longer than it must be
-    Row {
-        stream: b"\xf0\x81\x00\x00\x81\x41\xc2\xfe\x00\xe4",
-        messages: 1,
-        lines: QUOTE_LINE,
-        told: "ok messages=1 bytes=10 canonical=8\n",
-        canonical: QUOTE,
-    },
-    Row {
-        stream: DELTAS,
-        messages: 3,
-        lines: DELTA_LINES,
-        told: "ok messages=3 bytes=15 canonical=15\n",
-        canonical: DELTAS,
-    },
+    b"\xf0\x81\x00\x00\x81\x41\xc2\xfe\x00\xe4", 1, QUOTE_LINE, "ok messages=1 bytes=10 canonical=8\n", QUOTE;
+    DELTAS, 3, DELTA_LINES, "ok messages=3 bytes=15 canonical=15\n", DELTAS;
     // a delta that takes nothing away, by its longer spelling
-    Row {
-        stream: b"\xc0\x8a\x80\x47\x45\x48\xb6\x80\x82\x4d\xb6\x80\xfd\x45\xd3\x80\xff\x80",
-        messages: 4,
-        lines: "10 Delta S=\"GEH6\"\n10 Delta S=\"GEM6\"\n\
-            10 Delta S=\"ESM6\"\n10 Delta S=\"ESM6\"\n",
-        told: "ok messages=4 bytes=18 canonical=18\n",
-        canonical: b"\xc0\x8a\x80\x47\x45\x48\xb6\x80\x82\x4d\xb6\x80\xfd\x45\xd3\x80\x80\x80",
-    },
-    Row {
-        stream: b"\xe0\x88\x78\x61\xe2\xa0\x00\x00\x00\xe2",
-        messages: 2,
-        lines: "8 Tail S=\"xab\"\n8 Tail S=\"x\\x00b\"\n",
-        told: "ok messages=2 bytes=10 canonical=9\n",
-        canonical: b"\xe0\x88\x78\x61\xe2\xa0\x78\x00\xe2",
-    },
-    Row {
-        stream: b"\xe0\x89\x80\xa0\x00\x80",
-        messages: 2,
-        lines: "9 Init S=-\n9 Init S=\"ab\"\n",
-        told: "ok messages=2 bytes=6 canonical=5\n",
-        canonical: b"\xe0\x89\x80\xa0\xe2",
-    },
-    Row {
-        stream: b"\xf0\x83\x80\x85\x90\x39\x45\xa3",
-        messages: 2,
-        lines: "3 Opt Px=- Flag=5\n3 Opt Px=942755e2 Flag=5\n",
-        told: "ok messages=2 bytes=8 canonical=8\n",
-        canonical: b"\xf0\x83\x80\x85\x90\x39\x45\xa3",
-    },
-    Row {
-        stream: b"\xf0\x83\x80\x85\xb0\x83\x39\x45\xa3",
-        messages: 2,
-        lines: "3 Opt Px=- Flag=5\n3 Opt Px=942755e2 Flag=5\n",
-        told: "ok messages=2 bytes=9 canonical=8\n",
-        canonical: b"\xf0\x83\x80\x85\x90\x39\x45\xa3",
-    },
-    Row {
-        stream: b"\xc0\x84\x80\x80\x81\x80\x83\x85\x86",
-        messages: 3,
-        lines: "4 Legs L=-\n4 Legs L=[]\n4 Legs L=[{P=5} {P=6}]\n",
-        told: "ok messages=3 bytes=9 canonical=9\n",
-        canonical: b"\xc0\x84\x80\x80\x81\x80\x83\x85\x86",
-    },
-    Row {
-        stream: b"\xc0\x85\x82\xc0\x85\x80",
-        messages: 1,
-        lines: "5 Marks L=[{Q=5} {Q=5}]\n",
-        told: "ok messages=1 bytes=6 canonical=6\n",
-        canonical: b"\xc0\x85\x82\xc0\x85\x80",
-    },
-    Row {
-        stream: b"\xf0\x87\x85\xc1\xb0\x86\xc1",
-        messages: 2,
-        lines: "7 Clash A=5 B=\"A\"\n7 Clash A=6 B=\"A\"\n",
-        told: "ok messages=2 bytes=7 canonical=7\n",
-        canonical: b"\xf0\x87\x85\xc1\xb0\x86\xc1",
-    },
+    b"\xc0\x8a\x80\x47\x45\x48\xb6\x80\x82\x4d\xb6\x80\xfd\x45\xd3\x80\xff\x80", 4,
+        "10 Delta S=\"GEH6\"\n10 Delta S=\"GEM6\"\n\
+            10 Delta S=\"ESM6\"\n10 Delta S=\"ESM6\"\n", "ok messages=4 bytes=18 canonical=18\n",
+        b"\xc0\x8a\x80\x47\x45\x48\xb6\x80\x82\x4d\xb6\x80\xfd\x45\xd3\x80\x80\x80";
+    b"\xe0\x88\x78\x61\xe2\xa0\x00\x00\x00\xe2", 2, "8 Tail S=\"xab\"\n8 Tail S=\"x\\x00b\"\n",
+        "ok messages=2 bytes=10 canonical=9\n", b"\xe0\x88\x78\x61\xe2\xa0\x78\x00\xe2";
+    b"\xe0\x89\x80\xa0\x00\x80", 2, "9 Init S=-\n9 Init S=\"ab\"\n", "ok messages=2 bytes=6 canonical=5\n",
+        b"\xe0\x89\x80\xa0\xe2";
+    b"\xf0\x83\x80\x85\x90\x39\x45\xa3", 2, "3 Opt Px=- Flag=5\n3 Opt Px=942755e2 Flag=5\n",
+        "ok messages=2 bytes=8 canonical=8\n", b"\xf0\x83\x80\x85\x90\x39\x45\xa3";
+    b"\xf0\x83\x80\x85\xb0\x83\x39\x45\xa3", 2, "3 Opt Px=- Flag=5\n3 Opt Px=942755e2 Flag=5\n",
+        "ok messages=2 bytes=9 canonical=8\n", b"\xf0\x83\x80\x85\x90\x39\x45\xa3";
+    b"\xc0\x84\x80\x80\x81\x80\x83\x85\x86", 3, "4 Legs L=-\n4 Legs L=[]\n4 Legs L=[{P=5} {P=6}]\n",
+        "ok messages=3 bytes=9 canonical=9\n", b"\xc0\x84\x80\x80\x81\x80\x83\x85\x86";
+    b"\xc0\x85\x82\xc0\x85\x80", 1, "5 Marks L=[{Q=5} {Q=5}]\n", "ok messages=1 bytes=6 canonical=6\n",
+        b"\xc0\x85\x82\xc0\x85\x80";
+    b"\xf0\x87\x85\xc1\xb0\x86\xc1", 2, "7 Clash A=5 B=\"A\"\n7 Clash A=6 B=\"A\"\n",
+        "ok messages=2 bytes=7 canonical=7\n", b"\xf0\x87\x85\xc1\xb0\x86\xc1";
     // a map that is longer than it must be, and one with a bit that no field asked for
-    Row {
-        stream: b"\x70\x00\x80\x81\x81\x41\xc2\xfe\x00\xe4",
-        messages: 1,
-        lines: QUOTE_LINE,
-        told: "ok messages=1 bytes=10 canonical=8\n",
-        canonical: QUOTE,
-    },
-    Row {
-        stream: b"\xf1\x81\x81\x41\xc2\xfe\x00\xe4",
-        messages: 1,
-        lines: QUOTE_LINE,
-        told: "ok messages=1 bytes=8 canonical=8\n",
-        canonical: QUOTE,
-    },
-    Row {
-        stream: b"\xe0\x90\x85\x86\xe0\x90\x87\x86",
-        messages: 2,
-        lines: "16 First A=5 B=6\n16 First A=7 B=6\n",
-        told: "ok messages=2 bytes=8 canonical=6\n",
-        canonical: b"\xe0\x90\x85\x86\x80\x87",
-    },
-    Row {
-        stream: b"\xf0\x8b\xc0\x85\x86\x80\xa0\x80",
-        messages: 3,
-        lines: "11 Grp Hd={A=5} B=6\n11 Grp Hd=- B=6\n11 Grp Hd={A=5} B=6\n",
-        told: "ok messages=3 bytes=8 canonical=8\n",
-        canonical: b"\xf0\x8b\xc0\x85\x86\x80\xa0\x80",
-    },
-    Row {
-        stream: b"\xe0\x8f\x00\xe4\x83\x0a\xff\x80\x81",
-        messages: 2,
-        lines: "15 Fixed Px=100e-2 Raw=x0aff\n15 Fixed Px=101e-2 Raw=x0aff\n",
-        told: "ok messages=2 bytes=9 canonical=9\n",
-        canonical: b"\xe0\x8f\x00\xe4\x83\x0a\xff\x80\x81",
-    },
-];
+    b"\x70\x00\x80\x81\x81\x41\xc2\xfe\x00\xe4", 1, QUOTE_LINE, "ok messages=1 bytes=10 canonical=8\n", QUOTE;
+    b"\xf1\x81\x81\x41\xc2\xfe\x00\xe4", 1, QUOTE_LINE, "ok messages=1 bytes=8 canonical=8\n", QUOTE;
+    b"\xe0\x90\x85\x86\xe0\x90\x87\x86", 2, "16 First A=5 B=6\n16 First A=7 B=6\n",
+        "ok messages=2 bytes=8 canonical=6\n", b"\xe0\x90\x85\x86\x80\x87";
+    b"\xf0\x8b\xc0\x85\x86\x80\xa0\x80", 3, "11 Grp Hd={A=5} B=6\n11 Grp Hd=- B=6\n11 Grp Hd={A=5} B=6\n",
+        "ok messages=3 bytes=8 canonical=8\n", b"\xf0\x8b\xc0\x85\x86\x80\xa0\x80";
+    b"\xe0\x8f\x00\xe4\x83\x0a\xff\x80\x81", 2, "15 Fixed Px=100e-2 Raw=x0aff\n15 Fixed Px=101e-2 Raw=x0aff\n",
+        "ok messages=2 bytes=9 canonical=9\n", b"\xe0\x8f\x00\xe4\x83\x0a\xff\x80\x81";
+};
 
-pub(crate) const REFUSALS: [Refusal; 13] = [
-    Refusal {
-        stream: b"\x80",
-        messages: 0,
-        lines: "",
-        canonical: b"",
-        cause: Cause::D5,
-        at: At(1, 0, 0),
-    },
-    Refusal {
-        stream: b"\xc0\xe4",
-        messages: 0,
-        lines: "",
-        canonical: b"",
-        cause: Cause::D9,
-        at: At(1, 0, 0),
-    },
-    Refusal {
-        stream: b"\xc0\x8a\x80\x47\x45\x48\xb6\x80\x82\x4d\xb6\x80\xfd\x45\xd3\x80\x85\x80",
-        messages: 3,
-        lines: DELTA_LINES,
-        canonical: DELTAS,
-        cause: Cause::D7,
-        at: At(16, 10, 1),
-    },
-    Refusal {
-        stream: b"\xe0\x82\x0f\x7f\x7f\x7f\xff\x0f\x7f\x7f\x7f\xff\x80\x80\x80\x81",
-        messages: 2,
-        lines: "2 Wrap A=4294967295 B=4294967295\n2 Wrap A=0 B=4294967295\n",
-        canonical: b"\xe0\x82\x0f\x7f\x7f\x7f\xff\x0f\x7f\x7f\x7f\xff\x80\x80",
-        cause: Cause::D2,
-        at: At(15, 2, 2),
-    },
-    Refusal {
-        stream: b"\xc0\x84\x04\x00\x81",
-        messages: 0,
-        lines: "",
-        canonical: b"",
-        cause: Cause::Limit,
-        at: At(2, 4, 1),
-    },
-    Refusal {
-        stream: b"\xf0\x87\x85\xc1\x80",
-        messages: 1,
-        lines: "7 Clash A=5 B=\"A\"\n",
-        canonical: b"\xf0\x87\x85\xc1",
-        cause: Cause::D4,
-        at: At(5, 7, 1),
-    },
-    Refusal {
-        stream: b"\xe0\x8c\x82\xc3\xa9\xa0\x81\xa8\xa0\x81\x41",
-        messages: 2,
-        lines: "12 Uni S=\"\\xc3\\xa9\"\n12 Uni S=\"\\xc3\\xa8\"\n",
-        canonical: b"\xe0\x8c\x82\xc3\xa9\xa0\x81\xa8",
-        cause: Cause::R2,
-        at: At(9, 12, 1),
-    },
-    Refusal {
-        stream: b"\xc0\x8d\x85",
-        messages: 0,
-        lines: "",
-        canonical: b"",
-        cause: Cause::D6,
-        at: At(2, 13, 2),
-    },
-    Refusal {
-        stream: b"\xe0\x8e\x80\x90\x83\x90\x10\x00\x00\x00\x80",
-        messages: 3,
-        lines: "14 Const K=7 O=9 D=3\n14 Const K=7 O=- D=3\n14 Const K=7 O=- D=3\n",
-        canonical: b"\xe0\x8e\x80\x80",
-        cause: Cause::D2,
-        at: At(6, 14, 3),
-    },
-    Refusal {
-        stream: b"\xf0\x81\x81\x41\xc2\x00\xc0",
-        messages: 0,
-        lines: "",
-        canonical: b"",
-        cause: Cause::R1,
-        at: At(5, 1, 3),
-    },
-    Refusal {
-        stream: b"\xf0\x81\x81\x41\xc2\xc0",
-        messages: 0,
-        lines: "",
-        canonical: b"",
-        cause: Cause::R1,
-        at: At(5, 1, 3),
-    },
-    Refusal {
-        stream: b"\xf0\x81\0\0\0\0\0\0\0\0\0\0",
-        messages: 0,
-        lines: "",
-        canonical: b"",
-        cause: Cause::Limit,
-        at: At(2, 1, 1),
-    },
-    Refusal {
-        stream: b"\xf0\x81\0\0\0\0\0\0\0\0\0",
-        messages: 0,
-        lines: "",
-        canonical: b"",
-        cause: Cause::Truncated,
-        at: At(2, 1, 1),
-    },
-];
+pub(crate) const REFUSALS: &[Refusal] =
+    rows! { Refusal { stream, messages, lines, canonical, cause, at }:
+    b"\x80", 0, "", b"", Cause::D5, At(1, 0, 0);
+    b"\xc0\xe4", 0, "", b"", Cause::D9, At(1, 0, 0);
+    b"\xc0\x8a\x80\x47\x45\x48\xb6\x80\x82\x4d\xb6\x80\xfd\x45\xd3\x80\x85\x80", 3, DELTA_LINES, DELTAS, Cause::D7,
+        At(16, 10, 1);
+    b"\xe0\x82\x0f\x7f\x7f\x7f\xff\x0f\x7f\x7f\x7f\xff\x80\x80\x80\x81", 2,
+        "2 Wrap A=4294967295 B=4294967295\n2 Wrap A=0 B=4294967295\n",
+        b"\xe0\x82\x0f\x7f\x7f\x7f\xff\x0f\x7f\x7f\x7f\xff\x80\x80", Cause::D2, At(15, 2, 2);
+    b"\xc0\x84\x04\x00\x81", 0, "", b"", Cause::Limit, At(2, 4, 1);
+    b"\xf0\x87\x85\xc1\x80", 1, "7 Clash A=5 B=\"A\"\n", b"\xf0\x87\x85\xc1", Cause::D4, At(5, 7, 1);
+    b"\xe0\x8c\x82\xc3\xa9\xa0\x81\xa8\xa0\x81\x41", 2, "12 Uni S=\"\\xc3\\xa9\"\n12 Uni S=\"\\xc3\\xa8\"\n",
+        b"\xe0\x8c\x82\xc3\xa9\xa0\x81\xa8", Cause::R2, At(9, 12, 1);
+    b"\xc0\x8d\x85", 0, "", b"", Cause::D6, At(2, 13, 2);
+    b"\xe0\x8e\x80\x90\x83\x90\x10\x00\x00\x00\x80", 3,
+        "14 Const K=7 O=9 D=3\n14 Const K=7 O=- D=3\n14 Const K=7 O=- D=3\n", b"\xe0\x8e\x80\x80", Cause::D2,
+        At(6, 14, 3);
+    b"\xf0\x81\x81\x41\xc2\x00\xc0", 0, "", b"", Cause::R1, At(5, 1, 3);
+    b"\xf0\x81\x81\x41\xc2\xc0", 0, "", b"", Cause::R1, At(5, 1, 3);
+    b"\xf0\x81\0\0\0\0\0\0\0\0\0\0", 0, "", b"", Cause::Limit, At(2, 1, 1);
+    b"\xf0\x81\0\0\0\0\0\0\0\0\0", 0, "", b"", Cause::Truncated, At(2, 1, 1);
+};
 
 pub(crate) fn counted(messages: u64, read: usize, written: usize) -> Result<Summary, CanonFault> {
     Ok(Summary {
@@ -356,7 +171,7 @@ fn gives_into(
     mut out: ScriptOutput,
     written: &[u8],
     answer: Result<Summary, CanonFault>,
-) -> Result<(), AllocError> {
+) -> Tried {
     let got = play(
         alloc,
         set,
@@ -380,7 +195,7 @@ pub(crate) fn gives(
     reader: ScriptInput<'_>,
     written: &[u8],
     answer: Result<Summary, CanonFault>,
-) -> Result<(), AllocError> {
+) -> Tried {
     let out = ScriptOutput::new(alloc, 1_000_000, false, false);
     gives_into(rt, alloc, set, mode, command, reader, out, written, answer)
 }
@@ -406,7 +221,7 @@ pub(crate) fn makes(
     step: usize,
     failing: u64,
     made: Made<'_>,
-) -> Result<(), AllocError>
+) -> Tried
     requires { 1 ≤ step }
 {
     let show = ScriptInput::new(stream, step, failing);
@@ -464,19 +279,13 @@ pub(crate) fn ends(
     mode: Mode,
     row: &Row,
     step: usize,
-) -> Result<(), AllocError>
+) -> Tried
     requires { 1 ≤ step }
 {
     makes(rt, alloc, set, mode, row.stream, step, 0, made_of(row))
 }
 
-fn each_ends(
-    rt: &impl Abort,
-    alloc: Global,
-    set: &TemplateSet,
-    mode: Mode,
-    rows: &[Row],
-) -> Result<(), AllocError> {
+fn each_ends(rt: &impl Abort, alloc: Global, set: &TemplateSet, mode: Mode, rows: &[Row]) -> Tried {
     for row in rows {
         ends(rt, alloc, set, mode, row, 1)?;
         ends(rt, alloc, set, mode, row, 2)?;
@@ -486,19 +295,14 @@ fn each_ends(
 }
 
 /// What each command makes of streams of the worked templates that end, in steps of several sizes.
-pub(crate) fn all_end(
-    rt: &impl Abort,
-    alloc: Global,
-    mode: Mode,
-    rows: &[Row],
-) -> Result<(), AllocError> {
+pub(crate) fn all_end(rt: &impl Abort, alloc: Global, mode: Mode, rows: &[Row]) -> Tried {
     let set = worked(rt, alloc)?;
     each_ends(rt, alloc, &set, mode, rows)
 }
 
 #[test]
-fn worked_streams_end(rt: HostRuntime) -> Result<(), AllocError> {
-    all_end(&rt, rt.alloc(), PLAIN, &ROWS)
+fn worked_streams_end(rt: HostRuntime) -> Tried {
+    all_end(&rt, rt.alloc(), PLAIN, ROWS)
 }
 
 /// What is made of a stream that is refused.
@@ -524,7 +328,7 @@ pub(crate) fn stops(
     mode: Mode,
     row: &Refusal,
     step: usize,
-) -> Result<(), AllocError>
+) -> Tried
     requires { 1 ≤ step }
 {
     let answer = refused(row.cause, row.messages.saturating_add(1), row.at);
@@ -538,7 +342,7 @@ fn each_stops(
     set: &TemplateSet,
     mode: Mode,
     rows: &[Refusal],
-) -> Result<(), AllocError> {
+) -> Tried {
     for row in rows {
         stops(rt, alloc, set, mode, row, 1)?;
         stops(rt, alloc, set, mode, row, 2)?;
@@ -548,19 +352,14 @@ fn each_stops(
 }
 
 /// What each command makes of streams of the worked templates that are refused, in steps of several sizes.
-pub(crate) fn all_stop(
-    rt: &impl Abort,
-    alloc: Global,
-    mode: Mode,
-    rows: &[Refusal],
-) -> Result<(), AllocError> {
+pub(crate) fn all_stop(rt: &impl Abort, alloc: Global, mode: Mode, rows: &[Refusal]) -> Tried {
     let set = worked(rt, alloc)?;
     each_stops(rt, alloc, &set, mode, rows)
 }
 
 #[test]
-fn worked_streams_are_refused(rt: HostRuntime) -> Result<(), AllocError> {
-    all_stop(&rt, rt.alloc(), PLAIN, &REFUSALS)
+fn worked_streams_are_refused(rt: HostRuntime) -> Tried {
+    all_stop(&rt, rt.alloc(), PLAIN, REFUSALS)
 }
 
 /// The answer to a stream that is refused.
@@ -579,7 +378,7 @@ fn fails_behind(
     row: &Cut,
     given: &InMode,
     count: usize,
-) -> Result<(), AllocError> {
+) -> Tried {
     let front = row.front(count);
     let lines = &row.lines.as_bytes()[..front.line_bytes.min(row.lines.len())];
     let canonical = &row.stream[..front.bytes.min(row.stream.len())];
@@ -599,12 +398,7 @@ fn fails_behind(
 }
 
 /// The same behind each number of bytes, in each mode.
-fn fails_everywhere(
-    rt: &impl Abort,
-    alloc: Global,
-    set: &TemplateSet,
-    row: &Cut,
-) -> Result<(), AllocError> {
+fn fails_everywhere(rt: &impl Abort, alloc: Global, set: &TemplateSet, row: &Cut) -> Tried {
     let is_refused = row.front(row.missing.len()).truncated().is_some();
     for given in &in_each_mode(alloc, row.stream, is_refused)? {
         for count in 0..=row.missing.len() {
@@ -615,7 +409,7 @@ fn fails_everywhere(
 }
 
 #[test]
-fn a_read_fails(rt: HostRuntime) -> Result<(), AllocError> {
+fn a_read_fails(rt: HostRuntime) -> Tried {
     let alloc = rt.alloc();
     let set = worked(&rt, alloc)?;
     for row in CUTS {
@@ -634,7 +428,7 @@ fn cut_behind(
     row: &Cut,
     given: &InMode,
     front: Front,
-) -> Result<(), AllocError> {
+) -> Tried {
     let read = given.stream.len();
     let lines = &row.lines.as_bytes()[..front.line_bytes.min(row.lines.len())];
     let canonical = &row.stream[..front.bytes.min(row.stream.len())];
@@ -654,13 +448,7 @@ fn cut_behind(
 }
 
 /// The same in each mode.
-fn is_cut(
-    rt: &impl Abort,
-    alloc: Global,
-    set: &TemplateSet,
-    row: &Cut,
-    count: usize,
-) -> Result<(), AllocError> {
+fn is_cut(rt: &impl Abort, alloc: Global, set: &TemplateSet, row: &Cut, count: usize) -> Tried {
     let front = row.front(count);
     let stream = &row.stream[..count.min(row.stream.len())];
     for given in &in_each_mode(alloc, stream, front.truncated().is_some())? {
@@ -670,7 +458,7 @@ fn is_cut(
 }
 
 #[test]
-fn a_stream_is_cut(rt: HostRuntime) -> Result<(), AllocError> {
+fn a_stream_is_cut(rt: HostRuntime) -> Tried {
     let alloc = rt.alloc();
     let set = worked(&rt, alloc)?;
     for row in CUTS {
@@ -698,7 +486,7 @@ fn breaks_at(
     whole: Whole<'_>,
     out: ScriptOutput,
     room: usize,
-) -> Result<(), AllocError> {
+) -> Tried {
     let reader = ScriptInput::new(&given.stream, 4096, 0);
     let written = &whole.written[..room.min(whole.written.len())];
     let answer = if room > whole.written.len() {
@@ -727,7 +515,7 @@ fn breaks(
     set: &TemplateSet,
     given: &InMode,
     whole: Whole<'_>,
-) -> Result<(), AllocError> {
+) -> Tried {
     let size = whole.written.len();
     for room in 0..size {
         let out = ScriptOutput::new(alloc, room as u64, false, false);
@@ -742,12 +530,7 @@ fn breaks(
 }
 
 /// Each command of the two quotes, in one mode.
-fn each_breaks(
-    rt: &impl Abort,
-    alloc: Global,
-    set: &TemplateSet,
-    given: &InMode,
-) -> Result<(), AllocError> {
+fn each_breaks(rt: &impl Abort, alloc: Global, set: &TemplateSet, given: &InMode) -> Tried {
     let read = given.stream.len();
     let told = told(alloc, 2, read, 11)?;
     let commands = [
@@ -768,7 +551,7 @@ fn each_breaks(
 }
 
 #[test]
-fn a_write_fails(rt: HostRuntime) -> Result<(), AllocError> {
+fn a_write_fails(rt: HostRuntime) -> Tried {
     let alloc = rt.alloc();
     let set = worked(&rt, alloc)?;
     for given in &in_each_mode(alloc, TWO, false)? {
@@ -781,15 +564,15 @@ fn a_write_fails(rt: HostRuntime) -> Result<(), AllocError> {
 struct Unflushed(Command, &'static [u8]);
 
 #[test]
-fn a_flush_fails(rt: HostRuntime) -> Result<(), AllocError> {
-    const ROWS: &[Unflushed] = &[
-        Unflushed(Command::Show, b""),
-        Unflushed(Command::Canon, b""),
+fn a_flush_fails(rt: HostRuntime) -> Tried {
+    const ROWS: &[Unflushed] = rows! { Unflushed:
+        Command::Show, b"";
+        Command::Canon, b"";
         // a refused stream
-        Unflushed(Command::Show, b"\x80"),
-        Unflushed(Command::Check, b"\x80"),
-        Unflushed(Command::Canon, b"\x80"),
-    ];
+        Command::Show, b"\x80";
+        Command::Check, b"\x80";
+        Command::Canon, b"\x80";
+    };
     let alloc = rt.alloc();
     let set = worked(&rt, alloc)?;
     for Unflushed(command, stream) in ROWS {
@@ -810,7 +593,7 @@ fn turned(
     turns: u64,
     written: &[u8],
     answer: Result<Summary, CanonFault>,
-) -> Result<(), AllocError>
+) -> Tried
     requires { turns ≤ 2 ^ 40 }
 {
     let mut out = ScriptOutput::new(alloc, 1_000, false, false);
@@ -827,7 +610,7 @@ fn turned(
     answers(rt, got, answer, out.bytes(), written)
 }
 
-fn each_is_turned(rt: &impl Abort, alloc: Global, set: &TemplateSet) -> Result<(), AllocError> {
+fn each_is_turned(rt: &impl Abort, alloc: Global, set: &TemplateSet) -> Tried {
     let two = refused(Cause::Turns, 1, At(2, 1, 1));
     turned(rt, alloc, set, Command::Show, 2, b"", two)?;
     turned(rt, alloc, set, Command::Check, 2, b"", two)?;
@@ -841,7 +624,7 @@ fn each_is_turned(rt: &impl Abort, alloc: Global, set: &TemplateSet) -> Result<(
 }
 
 #[test]
-fn reads_are_used_up(rt: HostRuntime) -> Result<(), AllocError> {
+fn reads_are_used_up(rt: HostRuntime) -> Tried {
     let set = worked(&rt, rt.alloc())?;
     each_is_turned(&rt, rt.alloc(), &set)
 }
@@ -854,7 +637,7 @@ fn stands_between(
     out: &[u8],
     first: &[u8],
     last: &[u8],
-) -> Result<(), AllocError> {
+) -> Tried {
     answers(rt, given, wanted, b"", b"")?;
     same(rt, out.starts_with(first), true);
     same(rt, out.ends_with(last), true);
@@ -870,7 +653,7 @@ fn shows_between(
     answer: Result<Summary, CanonFault>,
     first: &[u8],
     last: &[u8],
-) -> Result<(), AllocError> {
+) -> Tried {
     let mut out = ScriptOutput::new(alloc, 1_000_000, false, false);
     let got = play(
         alloc,
@@ -894,7 +677,7 @@ fn is_canonical(
     steps: (usize, usize),
     told: &[u8],
     answer: Result<Summary, CanonFault>,
-) -> Result<(), AllocError> {
+) -> Tried {
     let reader = ScriptInput::new(stream, steps.0.max(1), 0);
     gives(rt, alloc, set, PLAIN, Command::Check, reader, told, answer)?;
     let reader = ScriptInput::new(stream, steps.1.max(1), 0);
@@ -910,12 +693,7 @@ fn is_canonical(
     )
 }
 
-fn is_long(
-    rt: &impl Abort,
-    alloc: Global,
-    set: &TemplateSet,
-    stream: &[u8],
-) -> Result<(), AllocError> {
+fn is_long(rt: &impl Abort, alloc: Global, set: &TemplateSet, stream: &[u8]) -> Tried {
     let first = QUOTE_LINE.as_bytes();
     let last = b"\n1 Quote Seq=10001 Sym=\"AB\" Px=10100e-2 Qty=-\n";
     let shown = counted(10_001, 30_008, 428_139);
@@ -926,14 +704,14 @@ fn is_long(
 }
 
 #[test]
-fn a_long_stream(rt: HostRuntime) -> Result<(), AllocError> {
+fn a_long_stream(rt: HostRuntime) -> Tried {
     let stream = stream_of(rt.alloc(), MANY)?;
     let set = worked(&rt, rt.alloc())?;
     is_long(&rt, rt.alloc(), &set, &stream)
 }
 
 // As many elements as there may be, each empty: the line has three bytes for each but the first.
-fn has_a_long_line(rt: &impl Abort, alloc: Global, set: &TemplateSet) -> Result<(), AllocError> {
+fn has_a_long_line(rt: &impl Abort, alloc: Global, set: &TemplateSet) -> Tried {
     let stream = b"\xc0\x86\x03\x7f\xff";
     let first = b"6 Bare L=[{} {} {} ";
     let last = b" {} {}]\n";
@@ -944,7 +722,7 @@ fn has_a_long_line(rt: &impl Abort, alloc: Global, set: &TemplateSet) -> Result<
 }
 
 #[test]
-fn a_long_line(rt: HostRuntime) -> Result<(), AllocError> {
+fn a_long_line(rt: HostRuntime) -> Tried {
     let set = worked(&rt, rt.alloc())?;
     has_a_long_line(&rt, rt.alloc(), &set)
 }

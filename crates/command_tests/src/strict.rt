@@ -9,11 +9,12 @@ use crate::streams::{
 use crate::worked::{loaded, worked};
 use fast_stream::Cause;
 use fast_template::TemplateSet;
-use std::alloc::{AllocError, Global};
+use std::alloc::Global;
 use std::process::Abort;
 use stream_rows::modes::{PLAIN, STRICT};
 use stream_rows::quotes::QUOTE;
 use template_tests::texts::KINDS;
+use test_rows::{Tried, rows};
 
 /// A stream that is longer than it must be, what each command makes of it at the usual level, and why its first
 /// message is refused at the strict one.
@@ -23,170 +24,49 @@ struct Overlong {
     at: At,
 }
 
-const OVERLONG: &[Overlong] = &[
+const OVERLONG: &[Overlong] = rows! { Overlong { usual, cause, at }:
     // an integer
-    Overlong {
-        usual: Row {
-            stream: b"\xf0\x81\x00\x00\x81\x41\xc2\xfe\x00\xe4",
-            messages: 1,
-            lines: QUOTE_LINE,
-            told: "ok messages=1 bytes=10 canonical=8\n",
-            canonical: QUOTE,
-        },
-        cause: Cause::R6,
-        at: At(2, 1, 1),
-    },
+    Row { stream: b"\xf0\x81\x00\x00\x81\x41\xc2\xfe\x00\xe4", messages: 1, lines: QUOTE_LINE,
+        told: "ok messages=1 bytes=10 canonical=8\n", canonical: QUOTE }, Cause::R6, At(2, 1, 1);
     // a map
-    Overlong {
-        usual: Row {
-            stream: b"\x70\x00\x80\x81\x81\x41\xc2\xfe\x00\xe4",
-            messages: 1,
-            lines: QUOTE_LINE,
-            told: "ok messages=1 bytes=10 canonical=8\n",
-            canonical: QUOTE,
-        },
-        cause: Cause::R7,
-        at: At(0, 0, 0),
-    },
+    Row { stream: b"\x70\x00\x80\x81\x81\x41\xc2\xfe\x00\xe4", messages: 1, lines: QUOTE_LINE,
+        told: "ok messages=1 bytes=10 canonical=8\n", canonical: QUOTE }, Cause::R7, At(0, 0, 0);
     // a bit that no field asked for
-    Overlong {
-        usual: Row {
-            stream: b"\xf1\x81\x81\x41\xc2\xfe\x00\xe4",
-            messages: 1,
-            lines: QUOTE_LINE,
-            told: "ok messages=1 bytes=8 canonical=8\n",
-            canonical: QUOTE,
-        },
-        cause: Cause::R8,
-        at: At(8, 1, 0),
-    },
+    Row { stream: b"\xf1\x81\x81\x41\xc2\xfe\x00\xe4", messages: 1, lines: QUOTE_LINE,
+        told: "ok messages=1 bytes=8 canonical=8\n", canonical: QUOTE }, Cause::R8, At(8, 1, 0);
     // a string
-    Overlong {
-        usual: Row {
-            stream: b"\xf0\x81\x81\x00\xc1\xfe\x00\xe4",
-            messages: 1,
-            lines: "1 Quote Seq=1 Sym=\"A\" Px=100e-2 Qty=-\n",
-            told: "ok messages=1 bytes=8 canonical=7\n",
-            canonical: b"\xf0\x81\x81\xc1\xfe\x00\xe4",
-        },
-        cause: Cause::R9,
-        at: At(3, 1, 2),
-    },
+    Row { stream: b"\xf0\x81\x81\x00\xc1\xfe\x00\xe4", messages: 1, lines: "1 Quote Seq=1 Sym=\"A\" Px=100e-2 Qty=-\n",
+        told: "ok messages=1 bytes=8 canonical=7\n", canonical: b"\xf0\x81\x81\xc1\xfe\x00\xe4" }, Cause::R9,
+        At(3, 1, 2);
     // NULL
-    Overlong {
-        usual: Row {
-            stream: b"\xf8\x81\x81\x41\xc2\xfe\x00\xe4\x00\x80",
-            messages: 1,
-            lines: QUOTE_LINE,
-            told: "ok messages=1 bytes=10 canonical=8\n",
-            canonical: QUOTE,
-        },
-        cause: Cause::R6,
-        at: At(8, 1, 4),
-    },
+    Row { stream: b"\xf8\x81\x81\x41\xc2\xfe\x00\xe4\x00\x80", messages: 1, lines: QUOTE_LINE,
+        told: "ok messages=1 bytes=10 canonical=8\n", canonical: QUOTE }, Cause::R6, At(8, 1, 4);
     // an exponent
-    Overlong {
-        usual: Row {
-            stream: b"\xf0\x81\x81\x41\xc2\x7f\xfe\x00\xe4",
-            messages: 1,
-            lines: QUOTE_LINE,
-            told: "ok messages=1 bytes=9 canonical=8\n",
-            canonical: QUOTE,
-        },
-        cause: Cause::R6,
-        at: At(5, 1, 3),
-    },
+    Row { stream: b"\xf0\x81\x81\x41\xc2\x7f\xfe\x00\xe4", messages: 1, lines: QUOTE_LINE,
+        told: "ok messages=1 bytes=9 canonical=8\n", canonical: QUOTE }, Cause::R6, At(5, 1, 3);
     // a bit of a mantissa that is left out
-    Overlong {
-        usual: Row {
-            stream: b"\xf8\x83\x80\x85",
-            messages: 1,
-            lines: "3 Opt Px=- Flag=5\n",
-            told: "ok messages=1 bytes=4 canonical=4\n",
-            canonical: b"\xf0\x83\x80\x85",
-        },
-        cause: Cause::R8,
-        at: At(4, 3, 0),
-    },
+    Row { stream: b"\xf8\x83\x80\x85", messages: 1, lines: "3 Opt Px=- Flag=5\n",
+        told: "ok messages=1 bytes=4 canonical=4\n", canonical: b"\xf0\x83\x80\x85" }, Cause::R8, At(4, 3, 0);
     // an identifier
-    Overlong {
-        usual: Row {
-            stream: b"\xf0\x00\x81\x81\x41\xc2\xfe\x00\xe4",
-            messages: 1,
-            lines: QUOTE_LINE,
-            told: "ok messages=1 bytes=9 canonical=8\n",
-            canonical: QUOTE,
-        },
-        cause: Cause::R6,
-        at: At(1, 0, 0),
-    },
+    Row { stream: b"\xf0\x00\x81\x81\x41\xc2\xfe\x00\xe4", messages: 1, lines: QUOTE_LINE,
+        told: "ok messages=1 bytes=9 canonical=8\n", canonical: QUOTE }, Cause::R6, At(1, 0, 0);
     // a length
-    Overlong {
-        usual: Row {
-            stream: b"\xc0\x84\x00\x83\x85\x86",
-            messages: 1,
-            lines: "4 Legs L=[{P=5} {P=6}]\n",
-            told: "ok messages=1 bytes=6 canonical=5\n",
-            canonical: b"\xc0\x84\x83\x85\x86",
-        },
-        cause: Cause::R6,
-        at: At(2, 4, 1),
-    },
+    Row { stream: b"\xc0\x84\x00\x83\x85\x86", messages: 1, lines: "4 Legs L=[{P=5} {P=6}]\n",
+        told: "ok messages=1 bytes=6 canonical=5\n", canonical: b"\xc0\x84\x83\x85\x86" }, Cause::R6, At(2, 4, 1);
     // the map of a group, and a bit of it
-    Overlong {
-        usual: Row {
-            stream: b"\xf0\x8b\x40\x80\x85\x86",
-            messages: 1,
-            lines: "11 Grp Hd={A=5} B=6\n",
-            told: "ok messages=1 bytes=6 canonical=5\n",
-            canonical: b"\xf0\x8b\xc0\x85\x86",
-        },
-        cause: Cause::R7,
-        at: At(2, 11, 1),
-    },
-    Overlong {
-        usual: Row {
-            stream: b"\xf0\x8b\xe0\x85\x86",
-            messages: 1,
-            lines: "11 Grp Hd={A=5} B=6\n",
-            told: "ok messages=1 bytes=5 canonical=5\n",
-            canonical: b"\xf0\x8b\xc0\x85\x86",
-        },
-        cause: Cause::R8,
-        at: At(4, 11, 1),
-    },
+    Row { stream: b"\xf0\x8b\x40\x80\x85\x86", messages: 1, lines: "11 Grp Hd={A=5} B=6\n",
+        told: "ok messages=1 bytes=6 canonical=5\n", canonical: b"\xf0\x8b\xc0\x85\x86" }, Cause::R7, At(2, 11, 1);
+    Row { stream: b"\xf0\x8b\xe0\x85\x86", messages: 1, lines: "11 Grp Hd={A=5} B=6\n",
+        told: "ok messages=1 bytes=5 canonical=5\n", canonical: b"\xf0\x8b\xc0\x85\x86" }, Cause::R8, At(4, 11, 1);
     // the map of an element, and a bit of it
-    Overlong {
-        usual: Row {
-            stream: b"\xc0\x85\x82\x40\x80\x85\x80",
-            messages: 1,
-            lines: "5 Marks L=[{Q=5} {Q=5}]\n",
-            told: "ok messages=1 bytes=7 canonical=6\n",
-            canonical: b"\xc0\x85\x82\xc0\x85\x80",
-        },
-        cause: Cause::R7,
-        at: At(3, 5, 1),
-    },
-    Overlong {
-        usual: Row {
-            stream: b"\xc0\x85\x82\xc0\x85\xa0",
-            messages: 1,
-            lines: "5 Marks L=[{Q=5} {Q=5}]\n",
-            told: "ok messages=1 bytes=6 canonical=6\n",
-            canonical: b"\xc0\x85\x82\xc0\x85\x80",
-        },
-        cause: Cause::R8,
-        at: At(6, 5, 1),
-    },
-];
+    Row { stream: b"\xc0\x85\x82\x40\x80\x85\x80", messages: 1, lines: "5 Marks L=[{Q=5} {Q=5}]\n",
+        told: "ok messages=1 bytes=7 canonical=6\n", canonical: b"\xc0\x85\x82\xc0\x85\x80" }, Cause::R7, At(3, 5, 1);
+    Row { stream: b"\xc0\x85\x82\xc0\x85\xa0", messages: 1, lines: "5 Marks L=[{Q=5} {Q=5}]\n",
+        told: "ok messages=1 bytes=6 canonical=6\n", canonical: b"\xc0\x85\x82\xc0\x85\x80" }, Cause::R8, At(6, 5, 1);
+};
 
 /// What is said of a stream by its messages, its bytes and those that are canonical.
-pub(crate) fn told(
-    alloc: Global,
-    messages: u64,
-    read: usize,
-    written: usize,
-) -> Result<String, AllocError> {
+pub(crate) fn told(alloc: Global, messages: u64, read: usize, written: usize) -> Tried<String> {
     format!(in alloc; "ok messages={messages} bytes={read} canonical={written}\n")
 }
 
@@ -198,7 +78,7 @@ fn stays(
     messages: u64,
     lines: &str,
     canonical: &[u8],
-) -> Result<(), AllocError> {
+) -> Tried {
     let count = canonical.len();
     let told = told(alloc, messages, count, count)?;
     let made = Made {
@@ -211,11 +91,11 @@ fn stays(
     makes(rt, alloc, set, STRICT, canonical, 1, 0, made)
 }
 
-fn each_stays(rt: &impl Abort, alloc: Global, set: &TemplateSet) -> Result<(), AllocError> {
-    for row in &ROWS {
+fn each_stays(rt: &impl Abort, alloc: Global, set: &TemplateSet) -> Tried {
+    for row in ROWS {
         stays(rt, alloc, set, row.messages, row.lines, row.canonical)?;
     }
-    for row in &REFUSALS {
+    for row in REFUSALS {
         stays(rt, alloc, set, row.messages, row.lines, row.canonical)?;
     }
     for row in OVERLONG {
@@ -231,7 +111,7 @@ fn each_stays(rt: &impl Abort, alloc: Global, set: &TemplateSet) -> Result<(), A
 }
 
 #[test]
-fn canonical_streams_are_taken(rt: HostRuntime) -> Result<(), AllocError> {
+fn canonical_streams_are_taken(rt: HostRuntime) -> Tried {
     let set = worked(&rt, rt.alloc())?;
     each_stays(&rt, rt.alloc(), &set)
 }
@@ -243,7 +123,7 @@ fn is_overlong(
     set: &TemplateSet,
     row: &Overlong,
     step: usize,
-) -> Result<(), AllocError>
+) -> Tried
     requires { 1 ≤ step }
 {
     ends(rt, alloc, set, PLAIN, &row.usual, step)?;
@@ -259,7 +139,7 @@ fn is_overlong(
 }
 
 #[test]
-fn overlong_streams(rt: HostRuntime) -> Result<(), AllocError> {
+fn overlong_streams(rt: HostRuntime) -> Tried {
     let alloc = rt.alloc();
     let set = worked(&rt, alloc)?;
     for row in OVERLONG {
@@ -271,49 +151,20 @@ fn overlong_streams(rt: HostRuntime) -> Result<(), AllocError> {
 }
 
 #[test]
-fn streams_that_are_just_not_overlong(rt: HostRuntime) -> Result<(), AllocError> {
-    const TAKEN: &[Row] = &[
+fn streams_that_are_just_not_overlong(rt: HostRuntime) -> Tried {
+    const TAKEN: &[Row] = rows! { Row { stream, messages, lines, told, canonical }:
         // bit 1 of an exponent is given by bit 0, its initial value
-        Row {
-            stream: b"\xf8\x83\x83\x39\x45\xa3\x85",
-            messages: 1,
-            lines: "3 Opt Px=942755e2 Flag=5\n",
-            told: "ok messages=1 bytes=7 canonical=6\n",
-            canonical: b"\xd8\x83\x39\x45\xa3\x85",
-        },
-        Row {
-            stream: b"\xf8\x83\x83\x00\x40\x81\x85",
-            messages: 1,
-            lines: "3 Opt Px=8193e2 Flag=5\n",
-            told: "ok messages=1 bytes=7 canonical=6\n",
-            canonical: b"\xd8\x83\x00\x40\x81\x85",
-        },
-        Row {
-            stream: b"\xe0\x88\x78\x61\xe2\xa0\x00\x00\x00\xe2",
-            messages: 2,
-            lines: "8 Tail S=\"xab\"\n8 Tail S=\"x\\x00b\"\n",
-            told: "ok messages=2 bytes=10 canonical=9\n",
-            canonical: b"\xe0\x88\x78\x61\xe2\xa0\x78\x00\xe2",
-        },
-    ];
-    const STOPPED: &[Refusal] = &[
-        Refusal {
-            stream: b"\xf0\x81\x81\x41\xc2\xfe\x00\xe4\x80\x80\x00\x81",
-            messages: 1,
-            lines: QUOTE_LINE,
-            canonical: QUOTE,
-            cause: Cause::R6,
-            at: At(9, 1, 3),
-        },
-        Refusal {
-            stream: b"\xf0\x81\x81\x41\xc2\xfe\x00\xe4\x81\x80\x81",
-            messages: 1,
-            lines: QUOTE_LINE,
-            canonical: QUOTE,
-            cause: Cause::R8,
-            at: At(11, 1, 0),
-        },
-    ];
+        b"\xf8\x83\x83\x39\x45\xa3\x85", 1, "3 Opt Px=942755e2 Flag=5\n", "ok messages=1 bytes=7 canonical=6\n",
+            b"\xd8\x83\x39\x45\xa3\x85";
+        b"\xf8\x83\x83\x00\x40\x81\x85", 1, "3 Opt Px=8193e2 Flag=5\n", "ok messages=1 bytes=7 canonical=6\n",
+            b"\xd8\x83\x00\x40\x81\x85";
+        b"\xe0\x88\x78\x61\xe2\xa0\x00\x00\x00\xe2", 2, "8 Tail S=\"xab\"\n8 Tail S=\"x\\x00b\"\n",
+            "ok messages=2 bytes=10 canonical=9\n", b"\xe0\x88\x78\x61\xe2\xa0\x78\x00\xe2";
+    };
+    const STOPPED: &[Refusal] = rows! { Refusal { stream, messages, lines, canonical, cause, at }:
+        b"\xf0\x81\x81\x41\xc2\xfe\x00\xe4\x80\x80\x00\x81", 1, QUOTE_LINE, QUOTE, Cause::R6, At(9, 1, 3);
+        b"\xf0\x81\x81\x41\xc2\xfe\x00\xe4\x81\x80\x81", 1, QUOTE_LINE, QUOTE, Cause::R8, At(11, 1, 0);
+    };
     all_end(&rt, rt.alloc(), STRICT, TAKEN)?;
     all_stop(&rt, rt.alloc(), STRICT, STOPPED)
 }
@@ -322,40 +173,40 @@ fn streams_that_are_just_not_overlong(rt: HostRuntime) -> Result<(), AllocError>
 struct Refused(&'static [u8], Cause, At);
 
 #[test]
-fn overlong_entities_of_each_kind(rt: HostRuntime) -> Result<(), AllocError> {
-    const STREAMS: &[Refused] = &[
+fn overlong_entities_of_each_kind(rt: HostRuntime) -> Tried {
+    const STREAMS: &[Refused] = rows! { Refused:
         // the length of a vector and of a Unicode string
-        Refused(b"\xc0\x81\x00\x82\xc3\xa9", Cause::R6, At(2, 1, 1)),
-        Refused(b"\xc0\x81\x00\x80", Cause::R6, At(2, 1, 1)),
-        Refused(b"\xc0\x82\x00\x83\xc3\xa9", Cause::R6, At(2, 2, 1)),
-        Refused(b"\xc0\x82\x00\x80", Cause::R6, At(2, 2, 1)),
-        Refused(b"\xc0\x83\x00\x81\x41", Cause::R6, At(2, 3, 1)),
+        b"\xc0\x81\x00\x82\xc3\xa9", Cause::R6, At(2, 1, 1);
+        b"\xc0\x81\x00\x80", Cause::R6, At(2, 1, 1);
+        b"\xc0\x82\x00\x83\xc3\xa9", Cause::R6, At(2, 2, 1);
+        b"\xc0\x82\x00\x80", Cause::R6, At(2, 2, 1);
+        b"\xc0\x83\x00\x81\x41", Cause::R6, At(2, 3, 1);
         // a number of units to be removed
-        Refused(b"\xc0\x84\x00\x80\x81\x41", Cause::R6, At(2, 4, 1)),
-        Refused(b"\xc0\x84\x7f\xff\x81\x41", Cause::R6, At(2, 4, 1)),
-        Refused(b"\xc0\x85\x00\x80", Cause::R6, At(2, 5, 1)),
+        b"\xc0\x84\x00\x80\x81\x41", Cause::R6, At(2, 4, 1);
+        b"\xc0\x84\x7f\xff\x81\x41", Cause::R6, At(2, 4, 1);
+        b"\xc0\x85\x00\x80", Cause::R6, At(2, 5, 1);
         // a new part
-        Refused(b"\xc0\x84\x80\x00\x81\x41", Cause::R6, At(2, 4, 1)),
-        Refused(b"\xc0\x85\x81\x00\xc1", Cause::R9, At(2, 5, 1)),
+        b"\xc0\x84\x80\x00\x81\x41", Cause::R6, At(2, 4, 1);
+        b"\xc0\x85\x81\x00\xc1", Cause::R9, At(2, 5, 1);
         // a tail
-        Refused(b"\xe0\x86\x00\xc1", Cause::R9, At(2, 6, 1)),
-        Refused(b"\xe0\x87\x00\xc1", Cause::R9, At(2, 7, 1)),
-        Refused(b"\xe0\x87\x00\x00\xc1", Cause::R9, At(2, 7, 1)),
-        Refused(b"\xe0\x88\x00\x83\xc3\xa9", Cause::R6, At(2, 8, 1)),
-        Refused(b"\xe0\x88\x00\x80", Cause::R6, At(2, 8, 1)),
+        b"\xe0\x86\x00\xc1", Cause::R9, At(2, 6, 1);
+        b"\xe0\x87\x00\xc1", Cause::R9, At(2, 7, 1);
+        b"\xe0\x87\x00\x00\xc1", Cause::R9, At(2, 7, 1);
+        b"\xe0\x88\x00\x83\xc3\xa9", Cause::R6, At(2, 8, 1);
+        b"\xe0\x88\x00\x80", Cause::R6, At(2, 8, 1);
         // a decimal in one piece
-        Refused(b"\xc0\x89\x00\x80", Cause::R6, At(2, 9, 1)),
-        Refused(b"\xc0\x89\x00\x83\x39\x45\xa3", Cause::R6, At(2, 9, 1)),
-        Refused(b"\xc0\x89\x83\x00\x39\x45\xa3", Cause::R6, At(2, 9, 1)),
+        b"\xc0\x89\x00\x80", Cause::R6, At(2, 9, 1);
+        b"\xc0\x89\x00\x83\x39\x45\xa3", Cause::R6, At(2, 9, 1);
+        b"\xc0\x89\x83\x00\x39\x45\xa3", Cause::R6, At(2, 9, 1);
         // and in two
-        Refused(b"\xc0\x8a\x00\x82\x81", Cause::R6, At(2, 10, 1)),
-        Refused(b"\xc0\x8a\x82\x00\xbf", Cause::R6, At(3, 10, 1)),
-        Refused(b"\xc0\x8a\x82\x7f\xc0", Cause::R6, At(3, 10, 1)),
+        b"\xc0\x8a\x00\x82\x81", Cause::R6, At(2, 10, 1);
+        b"\xc0\x8a\x82\x00\xbf", Cause::R6, At(3, 10, 1);
+        b"\xc0\x8a\x82\x7f\xc0", Cause::R6, At(3, 10, 1);
         // a signed integer
-        Refused(b"\xc0\x8d\x00\xbf", Cause::R6, At(2, 13, 1)),
-        Refused(b"\xc0\x8d\x7f\xc0", Cause::R6, At(2, 13, 1)),
-        Refused(b"\xc0\x8d\x00\x80", Cause::R6, At(2, 13, 1)),
-    ];
+        b"\xc0\x8d\x00\xbf", Cause::R6, At(2, 13, 1);
+        b"\xc0\x8d\x7f\xc0", Cause::R6, At(2, 13, 1);
+        b"\xc0\x8d\x00\x80", Cause::R6, At(2, 13, 1);
+    };
     let alloc = rt.alloc();
     let set = loaded(&rt, alloc, KINDS)?;
     for Refused(stream, cause, at) in STREAMS {

@@ -5,15 +5,16 @@ use fast_build::{Load, LoadCause};
 use fast_template::TemplateSet;
 use std::alloc::{AllocError, Global};
 use std::process::Abort;
+use template_tests::growths::{refuse_growths, spare_growths};
 use template_tests::texts::WORKED;
+use test_rows::Tried;
 
-// The set of these templates.
-pub(crate) fn loaded(
-    rt: &impl Abort,
-    alloc: Global,
-    text: &str,
-) -> Result<TemplateSet, AllocError> {
-    match TemplateSet::from_json(alloc, text.as_bytes()) {
+// The set of these templates. What its load asks for is not refused: the tests of loads do that.
+pub(crate) fn loaded(rt: &impl Abort, alloc: Global, text: &str) -> Tried<TemplateSet> {
+    spare_growths(alloc)?;
+    let loaded = TemplateSet::from_json(alloc, text.as_bytes());
+    refuse_growths(alloc)?;
+    match loaded {
         Ok(set) => Ok(set),
         Err(fault) => {
             same(rt, fault.cause, LoadCause::Memory);
@@ -23,6 +24,6 @@ pub(crate) fn loaded(
 }
 
 // The set of the worked templates.
-pub(crate) fn worked(rt: &impl Abort, alloc: Global) -> Result<TemplateSet, AllocError> {
+pub(crate) fn worked(rt: &impl Abort, alloc: Global) -> Tried<TemplateSet> {
     loaded(rt, alloc, WORKED)
 }

@@ -11,6 +11,7 @@ use fast_write::{OutputForm, WriteFault, WrittenSummary, write_lines, write_pack
 use line_rows::{ROWS, TEMPLATES, row_of};
 use std::alloc::{AllocError, Global};
 use std::process::Abort;
+use test_rows::{Tried, rows};
 
 /// What is answered of lines: how many there are or which one is refused, and what is said of that.
 #[derive(Drop)]
@@ -24,7 +25,7 @@ fn answered(
     rt: &impl Abort,
     alloc: Global,
     answer: Result<WrittenSummary, WriteFault>,
-) -> Result<Answer, AllocError> {
+) -> Tried<Answer> {
     match answer {
         Ok(counts) => Ok(Answer {
             line: counts.lines,
@@ -79,7 +80,7 @@ fn written(
     form: OutputForm,
     text: &[u8],
     step: usize,
-) -> Result<(Answer, Vec<u8>), AllocError>
+) -> Tried<(Answer, Vec<u8>)>
     requires { 1 ≤ step }
 {
     let mut out = ScriptOutput::new(alloc, 1_000_000, false, false);
@@ -92,12 +93,7 @@ fn written(
 }
 
 /// The line that `show` writes of a message is written as that message, whatever a read gives.
-fn is_written_back(
-    rt: &impl Abort,
-    alloc: Global,
-    set: &TemplateSet,
-    row: &Shown,
-) -> Result<(), AllocError> {
+fn is_written_back(rt: &impl Abort, alloc: Global, set: &TemplateSet, row: &Shown) -> Tried {
     for step in 1..row.line.len() {
         let (answer, bytes) = written(
             rt,
@@ -115,26 +111,21 @@ fn is_written_back(
 }
 
 #[test]
-fn lines_that_show_writes(rt: HostRuntime) -> Result<(), AllocError> {
+fn lines_that_show_writes(rt: HostRuntime) -> Tried {
     let alloc = rt.alloc();
     let set = worked(&rt, alloc)?;
-    for row in &WORKED_ROWS {
+    for row in WORKED_ROWS {
         is_written_back(&rt, alloc, &set, row)?;
     }
     let set = loaded(&rt, alloc, KINDS)?;
-    for row in &KIND_ROWS {
+    for row in KIND_ROWS {
         is_written_back(&rt, alloc, &set, row)?;
     }
     Ok(())
 }
 
 /// A row's line is answered as it says.
-fn is_answered(
-    rt: &impl Abort,
-    alloc: Global,
-    set: &TemplateSet,
-    row: &str,
-) -> Result<(), AllocError> {
+fn is_answered(rt: &impl Abort, alloc: Global, set: &TemplateSet, row: &str) -> Tried {
     let row = row_of(row);
     let (answer, bytes) = written(
         rt,
@@ -151,7 +142,7 @@ fn is_answered(
 }
 
 #[test]
-fn lines_and_what_is_answered(rt: HostRuntime) -> Result<(), AllocError> {
+fn lines_and_what_is_answered(rt: HostRuntime) -> Tried {
     let alloc = rt.alloc();
     let set = loaded(&rt, alloc, TEMPLATES)?;
     for row in ROWS.split_inclusive('\n') {
@@ -162,43 +153,21 @@ fn lines_and_what_is_answered(rt: HostRuntime) -> Result<(), AllocError> {
 
 /// Lines that say their packets, how many there are or which one is refused, what is said of that, and the digits of what is
 /// written.
-const PACKETS: &[(&str, u64, &str, &str)] = &[
-    ("", 0, "", "\n"),
-    ("{\"packet\":1,\"id\":9,\"fields\":{}}", 1, "", "82c089\n"),
-    (
-        "{\"packet\":1,\"id\":9,\"fields\":{}}\n{\"id\":9,\"packet\":1,\"fields\":{}}\n\n{\"packet\":3,\"id\":9,\"fields\":{}}\n",
-        4,
-        "",
-        "83c0898082c089\n",
-    ),
-    (
-        "{\"packet\":2,\"id\":9,\"fields\":{}}\n{\"packet\":1,\"id\":9,\"fields\":{}}\n",
-        2,
-        "refused Line line=2 template=0 instruction=0\n",
-        "82c089\n",
-    ),
-    (
-        "{\"packet\":2,\"id\":9,\"fields\":{}}\n{\"id\":9,\"fields\":{}}\n",
-        2,
-        "refused Line line=2 template=0 instruction=0\n",
-        "82c089\n",
-    ),
-    (
-        "{\"packet\":0,\"id\":9,\"fields\":{}}\n",
-        1,
-        "refused Line line=1 template=0 instruction=0\n",
-        "\n",
-    ),
-    (
-        "{\"packet\":\"1\",\"id\":9,\"fields\":{}}\n",
-        1,
-        "refused Line line=1 template=0 instruction=0\n",
-        "\n",
-    ),
-];
+const PACKETS: &[(&str, u64, &str, &str)] = rows! {
+    "", 0, "", "\n";
+    "{\"packet\":1,\"id\":9,\"fields\":{}}", 1, "", "82c089\n";
+    "{\"packet\":1,\"id\":9,\"fields\":{}}\n{\"id\":9,\"packet\":1,\"fields\":{}}\n\n{\"packet\":3,\"id\":9,\"fields\":{}}\n",
+        4, "", "83c0898082c089\n";
+    "{\"packet\":2,\"id\":9,\"fields\":{}}\n{\"packet\":1,\"id\":9,\"fields\":{}}\n", 2,
+        "refused Line line=2 template=0 instruction=0\n", "82c089\n";
+    "{\"packet\":2,\"id\":9,\"fields\":{}}\n{\"id\":9,\"fields\":{}}\n", 2,
+        "refused Line line=2 template=0 instruction=0\n", "82c089\n";
+    "{\"packet\":0,\"id\":9,\"fields\":{}}\n", 1, "refused Line line=1 template=0 instruction=0\n", "\n";
+    "{\"packet\":\"1\",\"id\":9,\"fields\":{}}\n", 1, "refused Line line=1 template=0 instruction=0\n", "\n";
+};
 
 #[test]
-fn lines_that_say_their_packets(rt: HostRuntime) -> Result<(), AllocError> {
+fn lines_that_say_their_packets(rt: HostRuntime) -> Tried {
     let alloc = rt.alloc();
     let set = loaded(&rt, alloc, TEMPLATES)?;
     for (text, line, said, digits) in PACKETS {
@@ -259,7 +228,7 @@ fn is_cut(
     cut: &Cut,
     front: &[u8],
     (answer, bytes): (Answer, Vec<u8>),
-) -> Result<(), AllocError> {
+) -> Tried {
     let ended = line_feeds(front);
     let (count, said) = if front.is_empty() || front.ends_with(b"\n") {
         (ended, String::new(alloc))
@@ -276,7 +245,7 @@ fn is_cut(
 }
 
 #[test]
-fn lines_that_are_cut(rt: HostRuntime) -> Result<(), AllocError> {
+fn lines_that_are_cut(rt: HostRuntime) -> Tried {
     let alloc = rt.alloc();
     let set = loaded(&rt, alloc, TEMPLATES)?;
     for end in 0..=CUT.text.len() {

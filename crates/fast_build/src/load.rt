@@ -1,6 +1,6 @@
 //! Template sets from templates as they are written, and from template texts.
 
-ghost use Rattle.std.specs.Prelude.{◌≡◌, ◌⊎◌, None, Some, IsUtf8, MatchResult, map};
+ghost use Rattle.std.specs.Prelude.{◌≡◌, ◌⊎◌, Err, None, Some, IsUtf8, MatchResult, map};
 ghost use Rattle.serde_json.specs.Data.{Data};
 ghost use Rattle.serde_json.specs.Read.{read};
 ghost use Rattle.serde_json.specs.Errors.{IsMemory};
@@ -9,7 +9,7 @@ ghost use Rattle.fast_load.specs.JsonLoads.{IsNoText, Loads};
 ghost use Rattle.fast_load.specs.LoadChecks.{IsAccepted, IsFirstFault};
 ghost use Rattle.fast_template.specs.TemplateSets.{templates_in};
 ghost use Rattle.fast_written.specs.declared.fault.LoadCause.TheVariants as cause;
-ghost use Rattle.fast_written.specs.JsonTemplates.{templates_of};
+ghost use Rattle.fast_written.specs.JsonTemplates.{ReadsTemplates, templates_of};
 ghost use Rattle.fast_written.specs.LoadFaults.{fault_at as fault_at_of, want_of_memory as want_of_memory_of};
 ghost use Rattle.fast_written.specs.Written.{written_template_of};
 
@@ -60,11 +60,21 @@ impl Load for TemplateSet {
         ensures unread { ¬ (IsUtf8 text.now) → IsNoText result }
         ensures no_json { read text.now ≡ None → IsNoText result }
     {
-        let value = match Value::from_slice(alloc, text) {
-            Ok(value) => value,
-            Err(error) => return Err(fault_of(&error)),
-        };
-        TemplateSet::build(alloc, templates_in_data(alloc, &value)?)
+        TemplateSet::build(alloc, templates_in_text(alloc, text)?)
+    }
+}
+
+// The templates that a text stands for. Its data, which takes more memory than they, is let go with the end of this call.
+fn templates_in_text(alloc: Global, text: &[u8]) -> Result<Vec<Template>, LoadFault>
+    ensures read { (d : Data) → IsUtf8 text.now → read text.now ≡ Some d
+        → ReadsTemplates result (templates_of d) }
+    ensures unread { ¬ (IsUtf8 text.now) → ReadsTemplates result (Err (fault_at_of cause.S1 0 0)) }
+    ensures no_json { read text.now ≡ None
+        → ReadsTemplates result (Err (fault_at_of cause.S1 0 0)) }
+{
+    match Value::from_slice(alloc, text) {
+        Ok(value) => templates_in_data(alloc, &value),
+        Err(error) => Err(fault_of(&error)),
     }
 }
 

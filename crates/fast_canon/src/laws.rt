@@ -135,11 +135,14 @@ pub fn refusal_stays()
         → FirstFault mode (templates_in set) (stream ++ more) place cause }
 {}
 
-/// What a stream carries in blocks it carries in plain framing once its sizes are left out, and has then no more bytes.
+/// What a stream carries in blocks it carries in plain framing once its sizes are left out. There is one such stream, and
+/// it has no more bytes.
 pub fn sizes_can_be_left_out()
     ensures carried { (level : Level) (set : List Resolved) (stream : List ℕ) (messages : List Content)
         → Carries (in_blocks level) set stream messages
         → (plain : List ℕ) × IsWithoutSizes level stream plain × Carries (plainly level) set plain messages }
+    ensures one { (level other : Level) (stream plain others : List ℕ) → IsWithoutSizes level stream plain
+        → IsWithoutSizes other stream others → plain ≡ others }
     ensures shorter { (level : Level) (stream plain : List ℕ) → IsWithoutSizes level stream plain
         → length plain ≤ length stream }
 {}

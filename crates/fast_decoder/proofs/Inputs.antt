@@ -66,13 +66,16 @@ refused_by_turns f mode set turns left bytes messages is cut many =
 pub caused_by_feed : (at : Reached) (old new : Reader) → at ≢ Reached.End → OnFault at (λ c. (c ≢ Cause.Truncated) × (c ≢ Cause.Read) × (c ≢ Cause.Turns)) → new.errors ≡ old.errors → new.ends ≡ old.ends → IsCaused at ⊥ old new
 caused_by_feed Reached.Open old new some of same none = (same, none)
 caused_by_feed Reached.End old new some of same none = absurd (some refl)
-caused_by_feed (Reached.Fault f) old new some of same none = ((λ e. absurd (of.1 e)), (λ e. absurd (of.0 e)), (λ e. absurd (of.2 e)))
+caused_by_feed (Reached.Fault f) old new some of same none = record { read = λ e. absurd (of.1 e); unfailed = λ e. same; met = λ e. absurd (of.0 e); unmet = λ e. none; turns = λ e. absurd (of.2 e) }
 
-pub caused_by_end : (f : Fault) (old new : Reader) → f.cause ≡ Cause.Truncated → new.ends ≡ counted old.ends → IsCaused (Reached.Fault f) ⊥ old new
-caused_by_end f old new of met = ((λ e. absurd cc), (λ e. met), (λ e. absurd cc))
+pub caused_by_end : (f : Fault) (old new : Reader) → f.cause ≡ Cause.Truncated → new.ends ≡ counted old.ends → new.errors ≡ old.errors → IsCaused (Reached.Fault f) ⊥ old new
+caused_by_end f old new of met same = record { read = λ e. absurd cc; unfailed = λ e. same; met = λ e. met; unmet = λ e. absurd (e of); turns = λ e. absurd cc }
 
-pub caused_by_read : (f : Fault) (old new : Reader) → f.cause ≡ Cause.Read → new.errors ≡ counted old.errors → IsCaused (Reached.Fault f) ⊥ old new
-caused_by_read f old new is failed = ((λ e. failed), (λ e. absurd cc), (λ e. absurd cc))
+pub caused_by_read : (f : Fault) (old new : Reader) → f.cause ≡ Cause.Read → new.errors ≡ counted old.errors → new.ends ≡ old.ends → IsCaused (Reached.Fault f) ⊥ old new
+caused_by_read f old new is failed none = record { read = λ e. failed; unfailed = λ e. absurd (e is); met = λ e. absurd cc; unmet = λ e. none; turns = λ e. absurd cc }
+
+pub caused_by_turns : (f : Fault) (P : Type 0) (old new : Reader) → f.cause ≡ Cause.Turns → new.errors ≡ old.errors → new.ends ≡ old.ends → P → IsCaused (Reached.Fault f) P old new
+caused_by_turns f P old new is same none p = record { read = λ e. absurd cc; unfailed = λ e. same; met = λ e. absurd cc; unmet = λ e. none; turns = λ e. p }
 
 -- ---- what was answered
 
@@ -122,7 +125,8 @@ causes_none at a = (refl, refl)
 caused_from : (at : Reached) (P Q : Type 0) (a b c : Reader) → (P → Q) → b.errors ≡ a.errors → b.ends ≡ a.ends → IsCaused at P b c → IsCaused at Q a c
 caused_from Reached.Open P Q a b c f same none h = (h.0 ∙ same, h.1 ∙ none)
 caused_from Reached.End P Q a b c f same none h = (h.0 ∙ ap counted none, h.1 ∙ same)
-caused_from (Reached.Fault g) P Q a b c f same none h = ((λ e. h.0 e ∙ ap counted same), (λ e. h.1 e ∙ ap counted none), (λ e. (f (h.2 e).0, (h.2 e).1 ∙ none)))
+caused_from (Reached.Fault g) P Q a b c f same none h =
+    record { read = λ e. h.read e ∙ ap counted same; unfailed = λ e. h.unfailed e ∙ same; met = λ e. h.met e ∙ ap counted none; unmet = λ e. h.unmet e ∙ none; turns = λ e. f (h.turns e) }
 
 pub causes_on : (before now next : Reached) (a b c : Reader) → now ≡ Reached.Open → Causes before now ⊥ a b → IsCaused next ⊥ b c → Causes before next ⊥ a c
 causes_on Reached.Open now next a b c is h one = let both = rw is at h in caused_from next ⊥ ⊥ a b c (λ e. e) both.0 both.1 one
@@ -133,7 +137,7 @@ causes_weaker Reached.Open now P a b h = caused_from now ⊥ P a a b (λ e. absu
 causes_weaker before now P a b h = h
 
 used_from : (before next : Reached) (P : Type 0) (a b : Reader) → Causes before Reached.Open ⊥ a b → IsFaultOf Cause.Turns next → P → Causes before next P a b
-used_from Reached.Open (Reached.Fault f) P a b h is p = ((λ e. absurd cc), (λ e. absurd cc), (λ e. (p, h.1)))
+used_from Reached.Open (Reached.Fault f) P a b h is p = caused_by_turns f P a b is h.0 h.1 p
 used_from Reached.Open next P a b h is p = absurd is
 used_from before next P a b h is p = absurd cc
 

@@ -1,5 +1,5 @@
 -- What a reader gave to a stream of messages, and what the stream answered.
-use Rattle.std.specs.Prelude.{◌≡◌, ◌⊎◌, ◌≤◌, ℕ, ◌+◌, ◌*◌, List, [], ◌∷◌, ◌++◌, length, map, reverse, Option, Some, None, Result, Ok, Err}
+use Rattle.std.specs.Prelude.{◌≡◌, ◌≢◌, ◌⊎◌, ◌≤◌, ℕ, ◌+◌, ◌*◌, List, [], ◌∷◌, ◌++◌, length, map, reverse, Option, Some, None, Result, Ok, Err}
 use Rattle.std.specs.Io.KnownBytes.{Consumes, IsAtEnd}
 use Rattle.fast_io.specs.Counts.{counted, counted_by}
 use Rattle.fast_io.specs.declared.input.ByteInput.{Ghosts as Giving}
@@ -104,14 +104,21 @@ Tells (Ok (Some m)) mode set turns left bytes answered = Carried mode set bytes 
 Tells (Ok None) mode set turns left bytes answered = EndsWith mode set left bytes answered
 Tells (Err f) mode set turns left bytes answered = Refuses mode set turns left bytes answered f
 
--- What the counts of a reader show of a stream that was open: none failed or met the end while it is open; and there
--- is a cause where it is not: a failed read, one that met the end with none that failed, or all reads made of which none met it.
+-- A read failed where the cause is Read, and none where it is another; one met the end where it is Truncated, and none
+-- where it is another; and it is Turns only where all reads were made.
+pub record IsFaultBy (cause : Cause) (UsedUp : Type 0) (old new : Reader) : Type 0 where
+  pub read : cause ≡ Cause.Read → new.errors ≡ counted old.errors
+  pub unfailed : cause ≢ Cause.Read → new.errors ≡ old.errors
+  pub met : cause ≡ Cause.Truncated → new.ends ≡ counted old.ends
+  pub unmet : cause ≢ Cause.Truncated → new.ends ≡ old.ends
+  pub turns : cause ≡ Cause.Turns → UsedUp
+
+-- What the counts of a reader show of a stream that was open: none failed or met the end while it is open; one met it
+-- where it ended, and none failed; and where it is refused, they show the cause.
 abbrev pub IsCaused : Reached → Type 0 → Reader → Reader → Type 0
 IsCaused Reached.Open UsedUp old new = (new.errors ≡ old.errors) × (new.ends ≡ old.ends)
 IsCaused Reached.End UsedUp old new = (new.ends ≡ counted old.ends) × (new.errors ≡ old.errors)
-IsCaused (Reached.Fault f) UsedUp old new =
-    (f.cause ≡ Cause.Read → new.errors ≡ counted old.errors) × (f.cause ≡ Cause.Truncated → new.ends ≡ counted old.ends)
-    × (f.cause ≡ Cause.Turns → UsedUp × (new.ends ≡ old.ends))
+IsCaused (Reached.Fault f) UsedUp old new = IsFaultBy f.cause UsedUp old new
 
 -- The same of a call on any stream: one that is not open reads nothing more, and stays.
 abbrev pub Causes : Reached → Reached → Type 0 → Reader → Reader → Type 0

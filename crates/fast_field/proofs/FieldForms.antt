@@ -6,7 +6,7 @@ use Rattle.fast_field.proofs.BaseForms.{deltas, tails}
 abbrev done : {A : Type 0} → A → Result A FieldFault
 done x = Ok x
 
-abbrev Row : (level : Level) → Operator → FieldPart → Entry → Bool → List ℕ → Option Scalar → Type 0
+abbrev pub Row : (level : Level) → Operator → FieldPart → Entry → Bool → List ℕ → Option Scalar → Type 0
 Row level o i e bit b v = (cut : Cut) × FormOf level o i e bit cut b v
 
 -- ---- the rows
@@ -53,7 +53,7 @@ initial_from : (i : FieldPart) (v : Option Scalar) → InitialOrAbsent i v → i
 initial_from i None h = h.0
 initial_from i (Some v) h = h
 
-row : (level : Level) → (o : Operator) (i : FieldPart) (e : Entry) (bit : Bool) → (operator_needs_bit o i.presence ≡ false → bit ≡ true) → (o ≡ Operator.Default → i.presence ≡ Mandatory → IsSome i.initial) → IsReader FieldFault.NeedMore (row_at level o i e bit) (Row level o i e bit)
+pub row : (level : Level) → (o : Operator) (i : FieldPart) (e : Entry) (bit : Bool) → (operator_needs_bit o i.presence ≡ false → bit ≡ true) → (o ≡ Operator.Default → i.presence ≡ Mandatory → IsSome i.initial) → IsReader FieldFault.NeedMore (row_at level o i e bit) (Row level o i e bit)
 unfolding row_at
 row level Operator.Plain i e false h d = let b = h refl in absurd cc
 row level Operator.Constant i e false h d = given (done None) (λ cut b v. FormOf level Operator.Constant i e false cut b v) (λ v w. (refl, refl, optional_constant i.presence h, made_so None v w)) (λ cut b v w. (w.1, so_made None v w.3))

@@ -39,3 +39,5 @@ pub mod SpelledForms
 pub mod BaseForms
 pub mod FieldForms
 pub mod StrictForms
+pub mod FieldStops
+pub mod FieldFaults

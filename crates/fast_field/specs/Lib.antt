@@ -21,3 +21,4 @@ pub mod Written
 pub mod Numbers
 pub mod Passed
 pub mod AsUsual
+pub mod FieldFaults

@@ -106,7 +106,7 @@ pub(crate) fn predicted_value(instr: &FieldPart, kept: EntryRef) -> Result<Found
 
 /// The value that a delta changes; none stands for 0, or for what is empty.
 #[inline(always)]
-pub(crate) fn base_of_delta<'a>(
+pub fn base_of_delta<'a>(
     instr: &'a FieldPart,
     kept: EntryRef<'a>,
 ) -> Result<Option<&'a Scalar>, FieldFault>
@@ -169,7 +169,7 @@ pub(crate) fn base_units(base: Option<&Scalar>) -> &[u8]
 
 /// The exponent and the mantissa of a base.
 #[tactic(auto, using(crate::proofs::BaseSteps::base_steps))]
-pub(crate) fn base_decimal(base: Option<&Scalar>) -> (i32, i64)
+pub fn base_decimal(base: Option<&Scalar>) -> (i32, i64)
     ensures exponent { (k : kind.Kind)
         → result.0 ≡ exponent_of (base_or_default k (option_copied base.entry)) }
     ensures mantissa { (k : kind.Kind)

@@ -1,6 +1,6 @@
 //! What two strings or vectors have in common, by which a delta is short.
 
-ghost use Rattle.std.specs.Prelude.{◌≤◌, length};
+ghost use Rattle.std.specs.Prelude.{◌≡◌, ◌≤◌, ◌-◌, drop, length, take, true};
 ghost use Rattle.fast_field.specs.Chosen.{CanBeUnits, IsBestCut};
 ghost use Rattle.fast_field.specs.CommonParts.{IsLongestPrefix, IsLongestSuffix};
 ghost use Rattle.fast_field.specs.Removals.{length_of};
@@ -8,13 +8,59 @@ ghost use Rattle.fast_field.specs.Removals.{length_of};
 use crate::delta::{Removal, size_cut};
 use fast_template::{Kind, Presence};
 
+/// How many units are compared in one step.
+const STEP: usize = 16;
+
+/// Whether two lists are the same.
+#[inline(always)]
+fn are_same(a: &[u8], b: &[u8]) -> bool
+    ensures { result ≡ true → a.now ≡ b.now }
+{
+    a == b
+}
+
+/// How many units two lists have in common at their front, as far as steps go.
+#[tactic(auto, using(crate::proofs::Agreeing::agreeing))]
+#[inline(always)]
+fn agreeing_front(a: &[u8], b: &[u8]) -> usize
+    ensures place { (result ≤ length a.now) × (result ≤ length b.now) }
+    ensures common { take result a.now ≡ take result b.now }
+{
+    let end = a.len().min(b.len());
+    let mut i = 0;
+    while end - i >= STEP && are_same(&a[i..i + STEP], &b[i..i + STEP]) {
+        i += STEP;
+    }
+    i
+}
+
+/// The same at their end.
+#[tactic(auto, using(crate::proofs::Agreeing::agreeing))]
+#[inline(always)]
+fn agreeing_end(a: &[u8], b: &[u8]) -> usize
+    ensures place { (result ≤ length a.now) × (result ≤ length b.now) }
+    ensures common { drop (length a.now - result) a.now ≡ drop (length b.now - result) b.now }
+{
+    let end = a.len().min(b.len());
+    let mut i = 0;
+    while end - i >= STEP
+        && are_same(
+            &a[a.len() - i - STEP..a.len() - i],
+            &b[b.len() - i - STEP..b.len() - i],
+        )
+    {
+        i += STEP;
+    }
+    i
+}
+
 /// How many units two lists have in common at their front.
 #[tactic(auto, using(crate::proofs::Agreeing::agreeing))]
 pub(crate) fn common_prefix(a: &[u8], b: &[u8]) -> usize
     ensures { IsLongestPrefix a.now b.now result }
 {
     let end = a.len().min(b.len());
-    for i in 0..end {
+    for i in agreeing_front(a, b)..end {
         if a[i] != b[i] {
             return i;
         }
@@ -28,7 +74,7 @@ pub(crate) fn common_suffix(a: &[u8], b: &[u8]) -> usize
     ensures { IsLongestSuffix a.now b.now result }
 {
     let end = a.len().min(b.len());
-    for i in 0..end {
+    for i in agreeing_end(a, b)..end {
         if a[a.len() - 1 - i] != b[b.len() - 1 - i] {
             return i;
         }

@@ -45,10 +45,10 @@ fn added(base: i128, delta: i128) -> i128
     base + delta
 }
 
-/// What a base and a delta make.
+/// The integer that a base and a delta make.
 #[tactic(auto, using(crate::proofs::CallSteps::call_steps), unfolding(crate::specs::FieldReading::integer_sum))]
 #[inline(always)]
-fn sum(instr: &FieldPart, kept: EntryRef, delta: i128) -> Result<Scalar, FieldFault>
+pub fn sum_of_delta(instr: &FieldPart, kept: EntryRef, delta: i128) -> Result<Scalar, FieldFault>
     requires kind { IsTrue (is_integer instr.now.kind) }
     requires range { IsSentRange delta }
     ensures { Answers (λ v. v) result (integer_sum instr.now (entry_of kept.entry) delta) }
@@ -76,7 +76,7 @@ fn read_integer_delta(
     let (delta, next) = read_integer(false, instr.presence, level, bytes, at)?;
     match delta {
         Nullable::Null => Ok((None, next)),
-        Nullable::Value(delta) => Ok((Some(sum(instr, kept, delta)?), next)),
+        Nullable::Value(delta) => Ok((Some(sum_of_delta(instr, kept, delta)?), next)),
     }
 }
 

@@ -16,6 +16,7 @@ ghost use Rattle.fast_field.specs.Within.{HasRangeOr, HoldsScalar, IsFieldValue}
 ghost use Rattle.fast_field.specs.Best.{CutsNothing, IsBest};
 ghost use Rattle.fast_field.specs.Refusals.{refusal_of};
 ghost use Rattle.fast_field.specs.FieldReading.{field_at, IsFieldFault};
+ghost use Rattle.fast_field.specs.FieldFaults.{FieldStops};
 
 use crate::fault::{FieldFault, FieldRefusal};
 
@@ -64,6 +65,17 @@ pub fn a_fault_where_no_form_begins()
         → (bytes : List ℕ) → IsBytes bytes → ((b rest : List ℕ) (v : Option Scalar)
         → bytes ≡ b ++ rest → Form level i e bit b v → ⊥)
         → (f : FieldFault) × IsFieldFault level i e bit bytes f }
+{}
+
+/// The first fault of a field is that of the first of its checks that fails, in the order of `FieldStops`: what stands
+/// before the check has passed, and no other check comes before it.
+pub fn faults_are_of_the_first_check()
+    ensures stops { (level : Level) (i : FieldPart) (e : Entry) (bit : Bool) → IsBitOf i bit → HasDefault i
+        → (bytes : List ℕ) (f : FieldFault) → IsBytes bytes
+        → IsFieldFault level i e bit bytes f → FieldStops level i e bit bytes f }
+    ensures only { (level : Level) (i : FieldPart) (e : Entry) (bit : Bool) → IsBitOf i bit → HasDefault i
+        → (bytes : List ℕ) (f : FieldFault) → IsBytes bytes
+        → FieldStops level i e bit bytes f → IsFieldFault level i e bit bytes f }
 {}
 
 /// Want of memory is no fault of the bytes.

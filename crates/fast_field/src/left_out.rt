@@ -38,7 +38,7 @@ fn is_predicted(instr: &FieldPart, kept: EntryRef, value: Option<&Scalar>) -> bo
 
 /// Whether bit 0 gives a value, or where there is none that the field is absent.
 #[inline(always)]
-pub(crate) fn is_left_out(instr: &FieldPart, kept: EntryRef, value: Option<&Scalar>) -> bool
+pub fn is_left_out(instr: &FieldPart, kept: EntryRef, value: Option<&Scalar>) -> bool
     ensures { result ≡ left_out_of instr.now.operator instr.now (entry_of kept.entry)
         (option_copied value.entry) }
 {

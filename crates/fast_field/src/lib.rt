@@ -34,19 +34,25 @@ mod whole;
 mod write;
 
 pub use afterwards::next_entry;
-pub use base::units;
+pub use base::{base_decimal, base_of_delta, units};
 pub use cut::best_cut;
 pub use cut_at_end::{
     agrees_no_further, begins_otherwise, goes_on_otherwise, is_cut_at_end, is_vector_cut_at_end,
 };
-pub use delta::Removal;
+pub use delta::{Removal, sum_of_delta};
 pub use fast_wire::Level;
 pub use fault::{FieldFault, FieldRefusal};
 pub use found::Found;
 pub use integers::{is_field_number, kept_number, set_number};
+pub use left_out::is_left_out;
 pub use levels::reads_as_usual;
 pub use passed::{Passed, fits, pass_found, pass_left_out};
 pub use plan::{Plan, plan_field};
 pub use read::{find_field, read_field, read_in_place};
 pub use refuse::is_spellable;
+pub use string::find_units;
+pub use whole::{
+    exponent_within, mantissa_within, read_integer, read_mantissa_entity, value_of_integer,
+    value_of_units,
+};
 pub use write::{write_field, write_found, write_in_place};

@@ -44,7 +44,7 @@ pub(crate) fn find_part(
 /// The same in the form of a presence.
 #[tactic(auto, using(crate::proofs::CallSteps::call_steps), unfolding(crate::specs::FieldReading::units_at, crate::specs::FieldReading::part_at))]
 #[inline(always)]
-pub(crate) fn find_units(
+pub fn find_units(
     kind: Kind,
     presence: Presence,
     level: Level,

@@ -153,7 +153,7 @@ pub(crate) fn judge_units(
 /// A number with a sign that is never NULL, judged.
 #[tactic(auto, using(crate::proofs::CallSteps::call_steps))]
 #[inline(always)]
-pub(crate) fn read_mantissa_entity(
+pub fn read_mantissa_entity(
     level: Level,
     bytes: &[u8],
     at: usize,
@@ -170,7 +170,7 @@ pub(crate) fn read_mantissa_entity(
 /// An integer in the form of a presence, with no sign where `unsigned` is true.
 #[tactic(auto, using(crate::proofs::CallSteps::call_steps), unfolding(crate::specs::FieldReading::integer_at))]
 #[inline(always)]
-pub(crate) fn read_integer(
+pub fn read_integer(
     unsigned: bool,
     presence: Presence,
     level: Level,
@@ -257,7 +257,7 @@ fn range_fault_of(part: Part) -> FieldFault
 /// A number as a value of its type.
 #[tactic(auto, unfolding(crate::specs::FieldReading::integer_value))]
 #[inline(always)]
-pub(crate) fn value_of_integer(part: Part, kind: Kind, number: i128) -> Result<Scalar, FieldFault>
+pub fn value_of_integer(part: Part, kind: Kind, number: i128) -> Result<Scalar, FieldFault>
     requires { IsTrue (is_integer kind) }
     ensures { Answers (λ v. v) result (integer_value part kind number) }
 {
@@ -284,7 +284,7 @@ pub(crate) fn value_of_integer(part: Part, kind: Kind, number: i128) -> Result<S
 
 /// Characters or bytes as a value of their type.
 #[tactic(auto, using(crate::proofs::CallSteps::call_steps), unfolding(crate::specs::FieldReading::unit_value))]
-pub(crate) fn value_of_units(kind: Kind, units: Vec<u8>) -> Result<Scalar, FieldFault>
+pub fn value_of_units(kind: Kind, units: Vec<u8>) -> Result<Scalar, FieldFault>
     ensures { Answers (λ v. v) result (unit_value kind units.items) }
 {
     match kind {
@@ -299,7 +299,7 @@ pub(crate) fn value_of_units(kind: Kind, units: Vec<u8>) -> Result<Scalar, Field
 
 /// An exponent within its limit, -63 to 63; none where it is not.
 #[inline(always)]
-pub(crate) fn exponent_within(exponent: i128) -> Option<i32>
+pub fn exponent_within(exponent: i128) -> Option<i32>
     ensures some { IfSome result (λ e. (e ≡ exponent) × (exponent_in_range exponent ≡ true)) }
     ensures none { IfNone result (exponent_in_range exponent ≡ false) }
 {
@@ -312,7 +312,7 @@ pub(crate) fn exponent_within(exponent: i128) -> Option<i32>
 
 /// A mantissa within its limit, that of an int64; none where it is not.
 #[inline(always)]
-pub(crate) fn mantissa_within(mantissa: i128) -> Option<i64>
+pub fn mantissa_within(mantissa: i128) -> Option<i64>
     ensures some { IfSome result (λ m. (m ≡ mantissa) × (in_range kind.Int64 mantissa ≡ true)) }
     ensures none { IfNone result (in_range kind.Int64 mantissa ≡ false) }
 {

@@ -1,11 +1,11 @@
 //! Reading a text whole.
 
-ghost use Rattle.std.specs.Prelude.{◌≡◌, ◌+◌, ◌≤◌, ◌++◌, ℕ, List, length, take, IfErr, IfOk, OnOk};
+ghost use Rattle.std.specs.Prelude.{◌≤◌, ℕ, List, IfErr, IfOk};
 ghost use Rattle.fast_decoder.specs.Inputs.{Reads, reader_by};
 ghost use Rattle.fast_host.specs.Input.{GivesNoText, IsText};
 
 use fast_io::{ByteInput, Failed};
-use std::alloc::{AllocError, Global};
+use std::alloc::Global;
 
 /// The most bytes of a text: of templates, or of an input in hex, blanks included.
 pub const TEXT_LIMIT: usize = 16_777_216;
@@ -26,21 +26,8 @@ pub enum TextFault {
     Memory,
 }
 
-/// Keeps the next bytes, up to one more than a text may have.
-fn keep(bytes: &[u8], text: &mut Vec<u8>) -> Result<(), AllocError>
-    requires room { length text.now.items ≤ TEXT_LIMIT + 1 }
-    ensures kept { OnOk result (text.new.items
-        ≡ take (TEXT_LIMIT + 1) (text.old.items ++ bytes.now)) }
-{
-    let room = TEXT_LIMIT + 1 - text.len();
-    match text.extend_from_slice(&bytes[..bytes.len().min(room)]) {
-        Ok(()) => Ok(()),
-        Err(refused) => Err(refused),
-    }
-}
-
-/// Reads what the reader has left to its end, in at most `turns` reads of at most 4,096 bytes. No more than the limit
-/// of a text and one byte is kept.
+/// Reads what the reader has left to its end, in at most `turns` reads of at most 4,096 bytes, or until one byte more has
+/// come than a text has.
 pub fn read_text<R: ByteInput>(
     alloc: Global,
     reader: &mut R,
@@ -58,10 +45,11 @@ pub fn read_text<R: ByteInput>(
     let mut text = Vec::new(alloc);
     let mut chunk = [0u8; CHUNK];
     for _ in 0..turns {
-        match reader.pull(&mut chunk) {
-            Ok(0) if text.len() > TEXT_LIMIT => return Err(TextFault::TooLong),
+        let room = TEXT_LIMIT + 1 - text.len();
+        match reader.pull(&mut chunk[..room.min(CHUNK)]) {
             Ok(0) => return Ok(text),
-            Ok(count) => match keep(&chunk[..count], &mut text) {
+            Ok(count) if count == room => return Err(TextFault::TooLong),
+            Ok(count) => match text.extend_from_slice(&chunk[..count]) {
                 Ok(()) => {}
                 Err(_) => return Err(TextFault::Memory),
             },

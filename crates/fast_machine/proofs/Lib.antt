@@ -8,3 +8,4 @@ pub mod MessageEnds
 pub mod Lackings
 pub mod Ends
 pub mod Calls
+pub mod Progress

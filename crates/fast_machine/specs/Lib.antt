@@ -5,3 +5,4 @@ pub mod Following
 pub mod OneProof
 pub mod Ends
 pub mod Calls
+pub mod Progress

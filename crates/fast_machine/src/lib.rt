@@ -1,8 +1,8 @@
 //! The one machine that reads a stream that comes in chunks, whatever is done with what is read.
 //!
 //! The definitions stand in `specs/`: how messages are read one behind the other (`Runs`), how a machine stands in its
-//! stream (`Standing`), how it follows it (`Following`), what its calls answer (`Calls`), how long a piece is at least
-//! (`Ends`), and that its promises are each of one proof (`OneProof`).
+//! stream (`Standing`), how it follows it (`Following`), what that says of the stream alone (`Progress`), what its calls
+//! answer (`Calls`), how long a piece is at least (`Ends`), and that its promises are each of one proof (`OneProof`).
 #![tactic(auto)]
 
 mod blocks;

@@ -119,6 +119,8 @@ fn read_on<O: Output, R: ByteInput, W: ByteOutput, E: Entries>(
         (W.taken writer.old) (W.taken writer.new) got
         (λ at. (at ≡ reached.Open → 0 < length got)
         × IsCaused at ⊥ (told_by R.ByteInput reader.old) (told_by R.ByteInput reader.new)) }
+    // a read that failed is answered as Read, and never as want of memory
+    ensures unread { result ≡ Err Stop.Memory → R.errors reader.new ≡ R.errors reader.old }
     ensures failed { W.errors writer.new ≡ errors_behind result (W.errors writer.old) }
     ensures flushes { W.flushes writer.new ≡ W.flushes writer.old }
     ensures same { IsSameStream machine.old machine.new }

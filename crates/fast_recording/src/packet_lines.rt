@@ -1,6 +1,6 @@
 //! The number of a packet in its lines.
 
-ghost use Rattle.std.specs.Prelude.{◌≡◌, ◌+◌, ◌∷◌, ◌++◌, ◌<◌, ◌≤◌, [], ℕ, List, Bool, true, false, OnOk, OnErr, IfOk, IfErr, length, take, decimal, codes};
+ghost use Rattle.std.specs.Prelude.{◌≡◌, ◌+◌, ◌∷◌, ◌++◌, ◌<◌, ◌≤◌, [], ℕ, List, Bool, true, false, None, OnOk, OnErr, IfOk, IfErr, length, take, decimal, codes};
 ghost use Rattle.std.specs.Io.KnownBytes.{Appends};
 ghost use Rattle.fast_io.specs.Traffic.{CountsError, Taken};
 ghost use Rattle.fast_recording.specs.PacketLines.{IsBegun, IsPiece, LeadsOn, Writes, labelled, packet_label, written_by};
@@ -25,7 +25,10 @@ pub struct PacketLines {
 
 impl PacketLines {
     /// Lines that are written as they are. Takes no memory.
-    pub fn new(alloc: Global) -> PacketLines {
+    pub fn new(alloc: Global) -> PacketLines
+        ensures lines { IsBegun None result }
+        ensures count { result.written ≡ 0 }
+    {
         PacketLines {
             label: Vec::new(alloc),
             begins: true,

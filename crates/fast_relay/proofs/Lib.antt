@@ -1,19 +1,19 @@
 mod Common
 pub mod Ranges
 pub mod Taking
-mod TextRelaying
+pub mod TextRelaying
 mod PlainTexts
-mod DecimalRelaying
-mod NullRelaying
-mod VectorTexts
+pub mod DecimalRelaying
+pub mod NullRelaying
+pub mod VectorTexts
 mod TextTaking
 mod KeptTaking
 pub mod Giving
-mod Standing
-mod Needless
-mod Judging
-mod DecimalJudging
-mod VectorJudging
+pub mod Standing
+pub mod Needless
+pub mod Judging
+pub mod DecimalJudging
+pub mod VectorJudging
 mod OneByte
 mod ShortLengths
 mod StringEnds

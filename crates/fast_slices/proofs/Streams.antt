@@ -72,7 +72,7 @@ refused fault mode set turns stream input rest messages sound fits parts few r m
 not_read : (ran : Result Summary CanonFault) (UsedUp : Type 0) (old new : Reader) → IsCausedBy ran UsedUp old new → old.errors ≡ 0 → new.errors ≡ 0 → (fault : Fault) → ran ≡ Err (CanonFault.Stream fault) → fault.cause ≢ Cause.Read
 not_read ran UsedUp old new h before after fault same is =
     let caused = subst (λ (x : Result Summary CanonFault). IsCausedBy x UsedUp old new) same h in
-    let e : new.errors ≡ counted old.errors = caused.0 is in absurd (omega (arith, before, after, e))
+    let e : new.errors ≡ counted old.errors = caused.read is in absurd (omega (arith, before, after, e))
 
 -- ---- what was written
 

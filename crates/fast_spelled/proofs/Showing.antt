@@ -1,6 +1,7 @@
 -- What is read of a line as it is shown, from its front.
-use Rattle.std.proofs.Common.{◌≡◌, ℕ, ◌+◌, ◌*◌, ◌<◌, ◌≤◌, ◌^◌, nat_lt, true, Bool, List, [], ◌∷◌, ◌++◌, length, drop, get_or, map, suc, Option, Some, None, option_map, IfSome, codes, decimal, refl, sym, ap, ap₂, ◌∙◌, subst, arith, append_assoc}
-use Rattle.std.proofs.lemmas.Bool.{and_parts, and_from, ltb-true}
+use Rattle.std.proofs.Common.{◌≡◌, ℕ, ◌+◌, ◌*◌, ◌<◌, ◌≤◌, ◌^◌, nat_lt, true, Bool, IsAscii, List, [], ◌∷◌, ◌++◌, length, drop, get_or, map, suc, Option, Some, None, option_map, IfSome, codes, decimal, refl, sym, ap, ap₂, ◌∙◌, subst, arith, append_assoc}
+use Rattle.std.proofs.ByRecursion.{All-from_ascii}
+use Rattle.std.proofs.lemmas.Bool.{and_parts, and_from, ltb-true, lt-ltb}
 use Rattle.std.proofs.lemmas.List.{drop_more, drop_all}
 use Rattle.std.specs.Global.{Vec}
 use Rattle.std.specs.List.{AllByRecursion, flat_map, list_all}
@@ -33,14 +34,12 @@ use Rattle.fast_spelled.proofs.Texts.{same_given}
 
 -- ---- strings
 
-characters : (s : List ℕ) → list_all (λ c. nat_lt c 128) s ≡ true → are_characters s ≡ true
-characters [] e = refl
-characters (c ∷ s) e =
-    let p = and_parts (nat_lt c 128) (list_all (λ c. nat_lt c 128) s) e in
-    and_from _ _ p.0 (characters s p.1)
+characters : (s : List ℕ) → AllByRecursion (λ c. c < 128) s → are_characters s ≡ true
+characters [] h = refl
+characters (c ∷ s) h = and_from _ _ (lt-ltb c 128 h.0) (characters s h.1)
 
-pub ascii_shown : (k : Kind) (v s : List ℕ) → k ≡ Kind.Ascii → v ≡ s → list_all is_plain_unit s ≡ true → list_all (λ c. nat_lt c 128) s ≡ true → value_text Json k (Ascii v) ≡ Some (34 ∷ (s ++ (34 ∷ [])))
-ascii_shown k v s kind same plain few = rw (kind, same, characters s few, plain_units s plain) refl
+pub ascii_shown : (k : Kind) (v s : List ℕ) → k ≡ Kind.Ascii → v ≡ s → list_all is_plain_unit s ≡ true → IsAscii s → value_text Json k (Ascii v) ≡ Some (34 ∷ (s ++ (34 ∷ [])))
+ascii_shown k v s kind same plain few = rw (kind, same, characters s (All-from_ascii s few), plain_units s plain) refl
 
 pub unicode_shown : (k : Kind) (v s : List ℕ) → k ≡ Kind.Unicode → v ≡ s → list_all is_plain_unit s ≡ true → value_text Json k (Unicode v) ≡ Some (34 ∷ (s ++ (34 ∷ [])))
 unicode_shown k v s kind same plain = rw (kind, same, plain_units s plain) refl

@@ -1,6 +1,6 @@
 //! Lines as `show --json` writes them, which are read from the front, once.
 
-ghost use Rattle.std.specs.Prelude.{◌≡◌, ◌∷◌, ◌++◌, [], true, Some, IfSome, map, nat_lt};
+ghost use Rattle.std.specs.Prelude.{◌≡◌, ◌∷◌, ◌++◌, [], true, Some, IfSome, map};
 ghost use Rattle.std.specs.Prelude.{decimal as decimal_of};
 ghost use Rattle.std.specs.Fmt.{signed_decimal};
 ghost use Rattle.std.specs.List.{list_all};
@@ -32,14 +32,6 @@ pub(crate) struct Left<'a> {
     nodes: usize,
 }
 
-/// Whether each byte of a text is of ASCII.
-#[inline(always)]
-fn are_ascii(text: &[u8]) -> bool
-    ensures { result ≡ list_all (λ c. nat_lt c 128) text.now }
-{
-    text.iter().all(|unit| unit.is_ascii())
-}
-
 /// The value of a type that the units of a string are, which stand as they are; none also where memory is refused.
 #[inline(always)]
 fn string_value(alloc: Global, kind: Kind, units: &[u8]) -> Option<Scalar>
@@ -52,7 +44,7 @@ fn string_value(alloc: Global, kind: Kind, units: &[u8]) -> Option<Scalar>
     }
     match kind {
         Kind::Ascii => {
-            if !are_ascii(units) {
+            if !units.is_ascii() {
                 return None;
             }
             match units.to_vec(alloc) {

@@ -10,7 +10,7 @@ map_usually Strict bits left bytes h = h.0.1
 in_template_usually : (level : Level) (set : List Resolved) (d : Dictionary) (bytes : List ℕ) (m : Content) (after : Dictionary) → MessageForm level set d bytes m after → MessageForm Usual set d bytes m after
 in_template_usually level set d bytes m after = message_weaker (Form level) (Form Usual) (MapAt level) (MapAt Usual) (form_usually level) (map_usually level) set d bytes m after
 
-size_usually : (level : Level) (size : List ℕ) (room : ℕ) → IsSize level size room → IsSize Usual size room
+pub size_usually : (level : Level) (size : List ℕ) (room : ℕ) → IsSize level size room → IsSize Usual size room
 size_usually Usual size room h = h
 size_usually Strict size room h = h.1
 

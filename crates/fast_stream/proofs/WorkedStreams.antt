@@ -4,7 +4,8 @@ use Rattle.fast_stream.proofs.Common.{◌+◌, ◌≡◌, ℕ, List, [], ◌∷�
 use Rattle.std.specs.FinMap as finite
 use Rattle.fast_value.specs.declared.kind.Operator.TheVariants.{Plain, Copy}
 use Rattle.fast_stream.proofs.Hex.{hex}
-use Rattle.fast_stream.proofs.Framings.{in_mode, from_mode}
+use Rattle.fast_stream.specs.Modes.{IsWithoutSizes}
+use Rattle.fast_stream.proofs.Framings.{in_mode, from_mode, one_plain}
 use Rattle.fast_stream.proofs.MessageReaders.{message_reader}
 use Rattle.fast_stream.proofs.ModeReaders.{next_reader}
 use Rattle.fast_stream.proofs.ModeStreams.{read_is_carried, answered_is_fault}
@@ -238,6 +239,17 @@ short_block_refused = refused_in_blocks _ [] _ refl block_too_short
 
 open_block_refused : RefusedInBlocks (hex "89 F0 81 81 41 C2 FE 00 E4") Truncated 2 9 0 0
 open_block_refused = refused_in_blocks _ (quote 1 100 ∷ []) _ refl unended_block
+
+-- 88 F0 81 81 41 C2 FE 00 E4 without its size: the eight bytes
+of_8 : IsUnsigned (hex "88") 8
+of_8 = record { entity = (lit≤ tt, lit< tt); short = lit≤ tt; value = refl }
+
+size_left_out : IsWithoutSizes Usual (hex "88 F0 81 81 41 C2 FE 00 E4") (hex "F0 81 81 41 C2 FE 00 E4")
+size_left_out = record { blocks = (hex "88", hex "F0 81 81 41 C2 FE 00 E4") ∷ []; sizes = ((of_8, lit< tt), tt); stream_is = refl; plain_is = refl }
+
+-- though each of its entities could be a size, no byte of a block is left out
+block_not_left_out : IsWithoutSizes Usual (hex "88 F0 81 81 41 C2 FE 00 E4") [] → ⊥
+block_not_left_out h = let none = one_plain Usual Usual (hex "88 F0 81 81 41 C2 FE 00 E4") [] (hex "F0 81 81 41 C2 FE 00 E4") h size_left_out in absurd (omega (arith, ap (λ (z : List ℕ). length z) none))
 
 -- E0 90 85 86 ends between two messages: the place of a read that fails there
 between_messages : EndsBetween (plainly Usual) worked_set (hex "E0 90 85 86") (record { message = 2; offset = 4; template = 0; instruction = 0 })

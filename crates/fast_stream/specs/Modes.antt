@@ -44,12 +44,12 @@ CarriesFrom mode set s bytes (m ∷ ms) after = Then (λ x t. NextForm mode set 
 abbrev pub Carries : Mode → List Resolved → List ℕ → List Content → Type 0
 Carries mode set stream messages = (after : Dictionary) × CarriesFrom mode set at_start stream messages (outside after)
 
--- The stream is pieces, some with a size of a block before them, and without these it is the other one.
+-- The stream is blocks, each a size and as many bytes, at least one; without the sizes it is the other one.
 pub record IsWithoutSizes (level : Level) (stream plain : List ℕ) : Type 0 where
-  pub pieces : List (List ℕ × List ℕ)
-  pub sizes : AllByRecursion (λ p. (p.0 ≡ []) ⊎ ((n : ℕ) × IsSize level p.0 n)) pieces
-  pub stream_is : stream ≡ flat_map (λ p. p.0 ++ p.1) pieces
-  pub plain_is : plain ≡ flat_map (λ p. p.1) pieces
+  pub blocks : List (List ℕ × List ℕ)
+  pub sizes : AllByRecursion (λ b. IsSize level b.0 (length b.1) × (0 < length b.1)) blocks
+  pub stream_is : stream ≡ flat_map (λ b. b.0 ++ b.1) blocks
+  pub plain_is : plain ≡ flat_map (λ b. b.1) blocks
 
 -- ---- the first fault
 

@@ -5,7 +5,7 @@ ghost use Rattle.std.specs.Prelude.{◌≡◌, IfOk};
 use fast_value::Scalar;
 use std::alloc::{AllocError, Global};
 use std::marker::Model;
-use std::rc::Rc;
+use std::sync::Arc;
 
 /// An initial value. A contract sees the value.
 ///
@@ -13,7 +13,7 @@ use std::rc::Rc;
 /// instruction.
 #[derive(Debug, Drop)]
 pub struct Initial {
-    value: Rc<Scalar>,
+    value: Arc<Scalar>,
 }
 
 impl Model for Initial {
@@ -33,7 +33,7 @@ impl Initial {
     pub fn of(alloc: Global, value: Scalar) -> Result<Initial, AllocError>
         ensures { IfOk result (λ initial. initial ≡ value) }
     {
-        let value = Rc::new(alloc, value)?;
+        let value = Arc::new(alloc, value)?;
         Ok(Initial { value })
     }
 

@@ -9,7 +9,7 @@ use crate::kind::Part;
 use std::alloc::{AllocError, Global};
 use std::cmp::Ordering;
 use std::marker::Model;
-use std::rc::Rc;
+use std::sync::Arc;
 
 /// A name of a template, a field, a key, a dictionary or a type. A contract sees its bytes.
 ///
@@ -17,7 +17,7 @@ use std::rc::Rc;
 #[derive(Debug, Drop)]
 pub struct Name {
     // none: the empty name, which takes no memory
-    text: Option<Rc<String>>,
+    text: Option<Arc<String>>,
 }
 
 impl Model for Name {
@@ -47,7 +47,7 @@ impl Name {
     pub fn of(alloc: Global, text: &str) -> Result<Name, AllocError>
         ensures { IfOk result (λ name. name ≡ text.now) }
     {
-        let text = Rc::new(alloc, String::from_str(alloc, text)?)?;
+        let text = Arc::new(alloc, String::from_str(alloc, text)?)?;
         Ok(Name { text: Some(text) })
     }
 

@@ -97,7 +97,7 @@ pub use Rattle.fast_walk.specs.Walks.{AreServed, IsNextServed, IsServed, bare_ne
 pub use Rattle.fast_writer.specs.Beginnings.{BeginsField, BeginsNumber, BeginsShort, BeginsShortBehind}
 pub use Rattle.fast_writer.specs.Canonical.{CanonBody, CanonFrom, CanonMessage, IsCanonical, IsShortestMap}
 pub use Rattle.fast_writer.specs.Levels.{level_in, level_of}
-pub use Rattle.fast_writer.specs.Quick.{Relayed, RelaysEntry, RelaysPart, StopsEntry, StopsPart}
+pub use Rattle.fast_writer.specs.Quick.{Relayed, RelaysEntry, RelaysPart, StopsPart}
 pub use Rattle.fast_writer.specs.Room.{has_room, have_room}
 pub use Rattle.fast_writer.specs.Runs.{IsRun}
 pub use Rattle.fast_writer.specs.Takings.{BeginsWith, EndsPart, Front, MatchTaken, Takes, TakesPart, TakesUnder, TookFields, TookUnder, behind}

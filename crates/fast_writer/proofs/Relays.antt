@@ -1,5 +1,10 @@
 -- A part that was read and written at once.
-use Rattle.fast_writer.proofs.Common.{◌≡◌, ◌<◌, ℕ, ◌+◌, Bool, List, ◌++◌, ◌∷◌, Option, Some, None, true, false, [], drop, length, refl, sym, ap, subst, ◌∙◌, append-nil, arith, slice_index, FieldPart, Scalar, part_needs_bit, Entry, Dictionary, entry_at, set_entry, set_entry-there, Level, ReadsAsUsual, Judges, RelaysByte, Run, length_of, Passes as FieldPasses, Relayed, RelaysEntry, RelaysPart, StopsEntry, StopsPart, took_of, FieldFault, Segment, AppendsForm, Asked, Spelt, Operator, operator_needs_bit, Usual, IsBest, Cut, FormOf}
+use Rattle.fast_writer.proofs.Common.{◌≡◌, ◌<◌, ℕ, ◌+◌, Bool, List, ◌++◌, ◌∷◌, Option, Some, None, true, false, [], drop, length, refl, sym, ap, subst, ◌∙◌, append-nil, arith, slice_index, FieldPart, Scalar, part_needs_bit, Entry, Dictionary, entry_at, set_entry, set_entry-there, Level, ReadsAsUsual, Judges, RelaysByte, Run, length_of, Passes as FieldPasses, Relayed, RelaysEntry, RelaysPart, StopsPart, took_of, FieldFault, Segment, AppendsForm, Asked, Spelt, Operator, operator_needs_bit, Usual, IsBest, Cut, FormOf}
+use Rattle.std.proofs.Common.{◌⊎◌}
+use Rattle.fast_writer.proofs.Common.{IfSome, IsTrue, Kind, inl, inr, is_of, is_some, IsThere}
+use Rattle.fast_take.specs.Takes.{IsStopped, IsTook, best_bit, best_form, count_of, place_of, value_taken}
+use Rattle.fast_take.specs.declared.took.Aside.{Aside}
+use Rattle.fast_take.specs.declared.took.Took.{Took}
 use Rattle.fast_writer.specs.Runs.{written}
 use Rattle.fast_writer.proofs.Runs.{settled}
 use Rattle.fast_writer.proofs.MapRoom.{asked_room}
@@ -47,15 +52,42 @@ passes_relayed {level = level} {bytes = bytes} {before = before} needs p = recor
   form = record { form = []; appended = sym (append-nil before); best = p.best; needs = λ none. absurd (let both = sym needs ∙ none in cc) };
 }
 
+-- what was taken is relayed by its best form
+pub took_relayed : (level : Level) (i : FieldPart) (old new : Entry) (bit : Bool) (bytes before : List ℕ) (at : ℕ) (a : Aside) (t : Took) → IsTook level i old new bit bytes at a t
+    → Relayed level i old new bit (best_bit bit a t) (value_taken i new bit bytes a t) (drop at bytes) (drop (place_of t) bytes) before (before ++ best_form bytes at a t)
+took_relayed level i old new bit bytes before at a t h = record {
+  read = h.read;
+  entry = h.entry;
+  form = record { form = best_form bytes at a t; appended = refl; best = h.best; needs = best_needs (best_bit bit a t) h.best };
+}
+
+-- whether a value is there that was taken
+pub took_there : (k : Kind) (v : Option Scalar) (there : Bool) → is_some v ≡ there → IfSome v (λ w. IsTrue (is_of k w)) → IsThere k there v
+took_there k None there is kind = rw (sym is) refl
+took_there k (Some w) there is kind = rw (sym is) (w, refl, kind)
+
+pub count_length : (count : Option ℕ) → count_of count ≡ length_of count
+count_length None = refl
+count_length (Some n) = refl
+
+-- where the entry stayed
+pub still : (p : FieldPart) {d e : Dictionary} {old new : Entry} → old ≡ entry_at d p.key → e ≡ set_entry d p.key new → new ≡ old → e ≡ d
+still p {d} is put same = put ∙ ap (set_entry d p.key) (same ∙ is) ∙ set_entry-there d p.key
+
+but_memory : {A B C : Type 0} → A ⊎ (B × C) → (B → ⊥) → A
+but_memory (inl h) other = h
+but_memory (inr h) other = absurd (other h.0)
+
+-- what stops it, but for memory
+pub took_stops : {level : Level} {p : FieldPart} {d e : Dictionary} {old new : Entry} {bit : Bool} {bytes : List ℕ} {at : ℕ} {f : FieldFault} (l : Segment)
+    → old ≡ entry_at d p.key → e ≡ set_entry d p.key new → IsStopped level p old new bit bytes at f → StopsPart level p d e bit (drop at bytes) l l f
+took_stops {p = p} l is put s other = (rw (is) at (but_memory s.fault other), still p is put s.entry, refl)
+
 -- where nothing is noted yet
 pub begun : (bytes : List ℕ) (r s : Run) (at : ℕ) → s.out.items ≡ r.out.items → s.from ≡ at → s.place ≡ at → written bytes s ≡ r.out.items
 begun bytes r s at out from place = rw (out, from, place) (settled bytes r.out.items at)
 
 -- ---- under a key
-
--- where the entry stayed
-pub still : (p : FieldPart) {d e : Dictionary} {old new : Entry} → old ≡ entry_at d p.key → e ≡ set_entry d p.key new → new ≡ old → e ≡ d
-still p {d} is put same = put ∙ ap (set_entry d p.key) (same ∙ is) ∙ set_entry-there d p.key
 
 -- what was relayed into the entry that is put, and its bit asked for
 pub relays_under : {level : Level} {p : FieldPart} {d e : Dictionary} {old new : Entry} {bit best needed : Bool} {v : Option Scalar} {bytes : List ℕ} {at next : ℕ} {l k : Segment} {after : List ℕ}
@@ -67,10 +99,6 @@ relays_under {p = p} {bit = bit} {best = best} {v = v} {l = l} {k = k} is put ne
   spelt = subst (λ (x : Entry). Spelt p x v l k) is (spelt_entry needs r.relayed.form asked);
   room = λ around left is room. asked_room (part_needs_bit p) bit best l k left around is r.lower (rw (needs) at asked.bits) asked.own room;
 }
-
-pub stops_under : {level : Level} {p : FieldPart} {d e : Dictionary} {old new : Entry} {bit : Bool} {bytes : List ℕ} {l : Segment} {after : List ℕ} {f : FieldFault}
-    → old ≡ entry_at d p.key → e ≡ set_entry d p.key new → StopsEntry level p old new bit bytes l.bytes after f → StopsPart level p d e bit bytes l (record { bits = l.bits; own = l.own; bytes = after }) f
-stops_under {p = p} is put s other = (rw (is) at (s.fault other), still p is put s.entry, rw (s.out) refl)
 
 -- a length in one byte, whose entry stays
 pub byte_relayed : (level : Level) (i : FieldPart) (count : Option ℕ) (bytes : List ℕ) (at : ℕ) → ReadsAsUsual level i (drop at bytes) → RelaysByte i count bytes at → (e : Entry) (out : List ℕ)

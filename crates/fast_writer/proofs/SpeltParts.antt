@@ -1,5 +1,5 @@
 -- What is spelled of a part of a set: a value of its type, and of a mandatory part a value.
-use Rattle.fast_writer.proofs.Common.{◌≡◌, ℕ, Bool, true, false, List, [], ◌++◌, Option, Some, None, Ok, refl, sym, ap, subst, ◌∙◌, inl, inr, append-nil, Bor, is_some, option_copied, ℤ, IfSome, IsTrue, IsBytes, Level, Usual, done, is_of, Kind, Part, Mandatory, Scalar, I32, I64, FieldPart, IsTyped, Entry, Dictionary, entry_at, FieldFault, FieldRefusal, field_at, IsFieldPart, HoldsScalar, IsRefusal, field_forms, read_usually, not_refused, value_kind, value_there, written, exponent_of, HoldScalars, KeepScalars, IsTold, are_kept, form_holds, kept_hold, told_part, IsThere, AppendsForm, Segment, Spelt}
+use Rattle.fast_writer.proofs.Common.{◌≡◌, ℕ, Bool, true, false, List, Option, Some, None, refl, sym, ap, subst, ◌∙◌, Bor, is_some, option_copied, ℤ, IfSome, IsTrue, is_of, Kind, Part, Mandatory, Scalar, I32, I64, FieldPart, IsTyped, Entry, Dictionary, entry_at, IsFieldPart, value_kind, value_there, written, exponent_of, HoldScalars, KeepScalars, IsTold, are_kept, form_holds, kept_hold, told_part, IsThere, AppendsForm, Segment, Spelt}
 
 -- ---- values
 
@@ -43,16 +43,3 @@ mantissa_taken {p} {e} false told mandatory is s =
 pub spelt_keeps : (p : FieldPart) (d e : Dictionary) (v : Option Scalar) (l k : Segment) → IsFieldPart p → KeepScalars d → e ≡ written p d v → Spelt p (entry_at d p.key) v l k → KeepScalars e
 spelt_keeps p d e v l k is kept after s =
     are_kept e (subst HoldScalars (sym after) (form_holds p d s.bit s.form v is (kept_hold d kept) (s.best.cut, s.best.form)))
-
--- ---- refusals
-
--- what was read has a form, so that it is refused for want of memory alone
-pub only_memory : (level : Level) (p : FieldPart) (e : Entry) (v : Option Scalar) (bytes rest : List ℕ) (f : FieldRefusal) → IsBytes bytes → IsFieldPart p → HoldsScalar e
-    → ((more : List ℕ) → field_at level p e true (bytes ++ more) ≡ Ok (v, rest ++ more)) → IsRefusal p e v f → f ≡ FieldRefusal.Memory
-only_memory level p e v bytes rest f fits is holds goes (inr h) = h.1
-only_memory level p e v bytes rest f fits is holds goes (inl h) =
-    let read : field_at level p e true bytes ≡ Ok (v, rest) =
-    ap (λ (b : List ℕ). field_at level p e true b) (sym (append-nil bytes)) ∙ goes [] ∙ ap (λ (r : List ℕ). done {F = FieldFault} (v, r)) (append-nil rest) in
-    let t = (field_forms Usual p e true (λ none. refl) is.typed.default_has_value).found bytes v rest fits (read_usually level p e true bytes (v, rest) read) in
-    let none = not_refused p e true t.front v is holds t.form in
-    absurd (let both : None ≡ Some f = sym none ∙ h in cc)

@@ -1,6 +1,6 @@
 -- A part that was relayed with no value in between. (Own.)
 use Rattle.std.specs.Prelude.{◌≡◌, ◌≢◌, ◌≤◌, ℕ, Bool, false, List, ◌++◌, length, drop, Option, Result, Ok, Err, MatchResult}
-use Rattle.fast_writer.specs.Prelude.{FieldPart, Scalar, Entry, Dictionary, entry_at, Level, next, field_at, value_found, FieldFault, Memory, Found, IsThere, Took, length_of}
+use Rattle.fast_writer.specs.Prelude.{FieldPart, Scalar, Entry, Dictionary, entry_at, Level, next, field_at, FieldFault, Memory, IsThere, Took, length_of}
 use Rattle.fast_writer.specs.Room.{KeepsRoom}
 use Rattle.fast_writer.specs.Written.{AppendsForm, Segment, Spelt}
 
@@ -18,17 +18,6 @@ pub record RelaysEntry (level : Level) (p : FieldPart) (old new : Entry) (bit be
   pub place : (at ≤ next) × (next ≤ length bytes)
   pub relayed : Relayed level p old new bit best v (drop at bytes) (drop next bytes) before after
   pub lower : bit ≡ false → best ≡ false
-
--- nothing has changed, and unless memory was refused, the bytes stop at this fault
-pub record StopsEntry (level : Level) (p : FieldPart) (old new : Entry) (bit : Bool) (bytes before after : List ℕ) (f : FieldFault) : Type 0 where
-  pub fault : f ≢ Memory → field_at level p old bit bytes ≡ Err f
-  pub entry : new ≡ old
-  pub out : after ≡ before
-
--- where the value lies in the entry is answered, the bit of its best form, and the place behind what was read; or a fault
-abbrev pub RelaysFound : Level → FieldPart → Entry → Entry → Bool → List ℕ → ℕ → List ℕ → List ℕ → Result (Found × Bool × ℕ) FieldFault → Type 0
-RelaysFound level p old new bit bytes at before after result =
-    MatchResult result (λ x. RelaysEntry level p old new bit x.1 (value_found p new x.0) bytes at x.2 before after) (StopsEntry level p old new bit (drop at bytes) before after)
 
 -- ---- under a key
 

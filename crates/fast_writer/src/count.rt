@@ -1,9 +1,7 @@
 //! The identifier of a template or the length of a sequence, read and written at once: a part whose number is wanted.
 
-ghost use Rattle.std.specs.Prelude.{◌≡◌, ◌≤◌, IfSome, MatchOption, IsTrue, length, false, true};
+ghost use Rattle.std.specs.Prelude.{◌≡◌, ◌≤◌, MatchOption, IsTrue, length, false, true};
 ghost use Rattle.fast_template.specs.Resolved.{part_needs_bit as part_needs_bit_of};
-ghost use Rattle.std.specs.Option.{option_copied};
-ghost use Rattle.fast_value.specs.Scalar.{is_of};
 ghost use Rattle.fast_value.specs.declared.kind.Kind.TheVariants.{UInt32};
 ghost use Rattle.fast_field.specs.Parts.{IsFieldPart};
 ghost use Rattle.fast_field.specs.Passed.{Passes};
@@ -12,10 +10,10 @@ ghost use Rattle.fast_walk.specs.Told.{KeepScalars};
 ghost use Rattle.fast_writer.specs.Levels.{level_of};
 ghost use Rattle.fast_writer.specs.Quick.{RelaysCount};
 
-use crate::relay::relay_entry;
 use crate::segment::Segment;
 use fast_dictionary::{Entries, Entry};
 use fast_field::{FieldFault, Passed, pass_left_out};
+use fast_take::{Aside, take};
 use fast_template::{FieldPart, Kind, Operator, Scalar, part_needs_bit};
 use fast_wire::Level;
 use std::alloc::Global;
@@ -39,20 +37,7 @@ fn repeat_count(part: &FieldPart, entry: &mut Entry) -> Option<Option<u32>>
     }
 }
 
-// The number that a value of this type is.
-#[inline(always)]
-fn number_in(value: Option<&Scalar>) -> Option<u32>
-    requires { IfSome (option_copied value) (λ v. IsTrue (is_of UInt32 v)) }
-    ensures { option_copied value.entry ≡ length_of result }
-{
-    match value {
-        None => None,
-        Some(Scalar::U32(number)) => Some(*number),
-        Some(_) => unreachable!(),
-    }
-}
-
-/// Reads a part that is a number without sign of 32 bits, and appends the best form of its value to a segment; answers
+/// Takes a part that is a number without sign of 32 bits, and appends the best form of its value to a segment; answers
 /// the number, none where it is absent, and the place behind what was read.
 #[inline(never)]
 #[tactic(auto, using(fast_walk::proofs::Telling::kept_hold))]
@@ -65,6 +50,7 @@ pub(crate) fn relay_count<E: Entries>(
     bytes: &[u8],
     at: usize,
     segment: &mut Segment,
+    aside: &mut Aside,
 ) -> Result<(Option<u32>, usize), FieldFault>
     requires place { at ≤ length bytes.now }
     requires bit { part_needs_bit_of part.now ≡ false → bit ≡ true }
@@ -77,11 +63,11 @@ pub(crate) fn relay_count<E: Entries>(
     ensures same_keys { E.serves entries.new ≡ E.serves entries.old }
 {
     let entry = entries.entry_mut(&part.key)?;
-    let out = &mut segment.bytes.out;
-    let (found, best, next) = relay_entry(alloc, part, entry, bit, level, bytes, at, out)?;
-    let count = number_in(found.value(part, entry.view()));
-    segment.ask(part_needs_bit(part), best)?;
-    Ok((count, next))
+    let took = take(alloc, part, entry, bit, level, bytes, at, aside)?;
+    let count = aside.count_in(took, part, entry, bit);
+    aside.append_best(took, bytes, at, &mut segment.bytes.out)?;
+    segment.ask(part_needs_bit(part), took.best_bit(bit, aside))?;
+    Ok((count, took.place()))
 }
 
 /// The same of the identifier of a template. Most are the one before, so that no byte is read.
@@ -95,6 +81,7 @@ pub(crate) fn relay_identifier<E: Entries>(
     bytes: &[u8],
     at: usize,
     segment: &mut Segment,
+    aside: &mut Aside,
 ) -> Result<(Option<u32>, usize), FieldFault>
     requires place { at ≤ length bytes.now }
     requires bit { part_needs_bit_of part.now ≡ false → bit ≡ true }
@@ -107,11 +94,11 @@ pub(crate) fn relay_identifier<E: Entries>(
     ensures same_keys { E.serves entries.new ≡ E.serves entries.old }
 {
     if bit {
-        return relay_count(alloc, entries, part, bit, level, bytes, at, segment);
+        return relay_count(alloc, entries, part, bit, level, bytes, at, segment, aside);
     }
     let entry = entries.entry_mut(&part.key)?;
     match repeat_count(part, entry) {
-        None => relay_count(alloc, entries, part, bit, level, bytes, at, segment),
+        None => relay_count(alloc, entries, part, bit, level, bytes, at, segment, aside),
         Some(count) => {
             segment.ask(part_needs_bit(part), false)?;
             Ok((count, at))

@@ -15,6 +15,7 @@ ghost use Rattle.fast_walk.specs.Passing.{next_behind};
 ghost use Rattle.fast_relay.specs.Relayed.{IsThere};
 ghost use Rattle.fast_relay.specs.Best.{form_of};
 ghost use Rattle.fast_relay.specs.Judged.{IsJudged};
+ghost use Rattle.fast_take.specs.Takes.{best_bit, best_form, first_of, is_there, place_of};
 ghost use Rattle.fast_writer.specs.Runs.{IsRun};
 ghost use Rattle.fast_writer.specs.Levels.{level_in, level_of};
 ghost use Rattle.fast_writer.specs.Room.{has_room};
@@ -28,8 +29,9 @@ ghost use Rattle.fast_value.specs.declared.kind.Part.TheVariants.{Exponent, Whol
 use crate::segment::Segment;
 use crate::strictly::is_read_as_usual;
 use fast_dictionary::{Entries, Entry};
-use fast_field::Passed;
+use fast_field::{FieldFault, Passed};
 use fast_relay::{Best, Judged, best_of, judge_field, judge_other, pass_quickly};
+use fast_take::{Aside, Took, take};
 use fast_template::{FieldPart, Flat, Part, part_needs_bit};
 use fast_walk::{Fields, Leveled, take_for};
 use fast_wire::{Bits, Level};
@@ -39,7 +41,7 @@ use std::alloc::{AllocError, Global};
 pub(crate) enum Taken {
     /// It was taken: whether its value is there.
     Part(bool),
-    /// Nothing has changed: another way takes it.
+    /// Nothing has changed: it has no reading, or the walk hands it on by itself.
     Elsewhere,
     /// Memory was refused.
     Refused,
@@ -81,6 +83,38 @@ fn end_best(bits: &mut Bits, needs: bool, best: Best, bytes: &[u8], segment: &mu
     }
 }
 
+// Takes a part that was taken: its best form is written.
+#[inline(always)]
+fn end_taken(
+    bits: &mut Bits,
+    needs: bool,
+    bit: bool,
+    took: Took,
+    bytes: &[u8],
+    segment: &mut Segment,
+    aside: &Aside,
+) -> Taken
+    requires run { IsRun bytes.now segment.now.bytes.place segment.now.bytes }
+    requires place { (segment.now.bytes.place ≤ place_of took) × (place_of took ≤ length bytes.now) }
+    requires first { first_of segment.now.bytes.place aside.now took ≤ place_of took }
+    ensures { MatchTaken result (λ is. (is ≡ is_there took aside.now)
+        × EndsPart needs (best_bit bit aside.now took) bits.old bits.new
+        (with_bytes (level_in bytes.now segment.old) (best_form bytes.now segment.old.bytes.place aside.now took))
+        (level_in bytes.now segment.new) × IsRun bytes.now (place_of took) segment.new.bytes) ⊥ }
+{
+    let best = took.best_bit(bit, aside);
+    match end_part(bits, needs, best, segment, took.is_there(aside)) {
+        Taken::Part(there) => {
+            if segment.bytes.put_taken(took, aside, bytes) {
+                Taken::Part(there)
+            } else {
+                Taken::Refused
+            }
+        }
+        Taken::Elsewhere | Taken::Refused => Taken::Refused,
+    }
+}
+
 // Makes an entry the one behind what bit 0 gives, and answers whether that is a value. None: nothing has changed, and the part
 // goes another way. (One answer, so that its end is in the loop over fields once.)
 #[inline(always)]
@@ -94,6 +128,50 @@ fn pass_given(which: Part, part: &FieldPart, entry: &mut Entry) -> Option<bool>
         Passed::Present => Some(true),
         Passed::Absent => Some(false),
         Passed::Elsewhere => None,
+    }
+}
+
+// Takes a part in the way that takes any. (A call of its own, since few fields come here.)
+#[inline(never)]
+fn take_any(
+    alloc: Global,
+    part: &FieldPart,
+    entry: &mut Entry,
+    bits: &mut Bits,
+    bit: bool,
+    level: Level,
+    bytes: &[u8],
+    segment: &mut Segment,
+) -> Taken
+    requires run { IsRun bytes.now segment.now.bytes.place segment.now.bytes }
+    requires part { IsFieldPart part.now }
+    requires kept { HoldsScalar entry.now }
+    requires bit { bit_for (part_needs_bit_of part.now) bits.now ≡ bit }
+    ensures { TakesPart level part.now entry.old entry.new bits.old bits.new bytes.now
+        segment.old.bytes.place segment.old segment.new result }
+{
+    let mut aside = Aside::new(alloc);
+    match take(
+        alloc,
+        part,
+        entry,
+        bit,
+        level,
+        bytes,
+        segment.bytes.place,
+        &mut aside,
+    ) {
+        Err(FieldFault::Memory) => Taken::Refused,
+        Err(_) => Taken::Elsewhere,
+        Ok(took) => end_taken(
+            bits,
+            part_needs_bit(part),
+            bit,
+            took,
+            bytes,
+            segment,
+            &aside,
+        ),
     }
 }
 
@@ -140,6 +218,7 @@ fn take_judged(
     requires run { IsRun bytes.now at segment.now.bytes }
     requires judged { (before : EntryOf) × IsJudged part.now before entry.now bytes.now at judged }
     requires kept { judged ≡ Judged.Elsewhere → HoldsScalar entry.now }
+    requires part { IsFieldPart part.now }
     requires needs { needs ≡ part_needs_bit_of part.now }
     requires bit { bit_for (part_needs_bit_of part.now) bits.now ≡ true }
     requires usual { ReadsAsUsual level part.now (drop at bytes.now) }
@@ -151,7 +230,7 @@ fn take_judged(
         Some(best) => end_best(bits, needs, best, bytes, segment),
         None => match judge_other(alloc, part, entry, bytes, at) {
             Some(best) => end_best(bits, needs, best, bytes, segment),
-            None => Taken::Elsewhere,
+            None => take_any(alloc, part, entry, bits, true, level, bytes, segment),
         },
     }
 }
@@ -200,7 +279,7 @@ fn take_sent<L: Leveled>(
     )
 }
 
-// Takes a part and its bit, where the quick way serves.
+// Takes a part and its bit.
 #[inline(always)]
 #[tactic(auto, using(fast_walk::proofs::Telling::kept_hold, crate::proofs::Takings::taken_under))]
 fn take_part<L: Leveled, E: Entries>(
@@ -255,7 +334,7 @@ fn first_part(flat: &Flat) -> Option<(&FieldPart, Option<&FieldPart>)>
     }
 }
 
-// Takes fields from the front of a body, as many as the quick way serves one after the other. Answers the instructions behind
+// Takes fields from the front of a body, up to what is no field, or goes by itself. Answers the instructions behind
 // them, and the mantissa that is next where only the exponent of the last one was taken.
 fn take_all<'a, L: Leveled, E: Entries>(
     rest: &'a [Flat],
@@ -358,7 +437,7 @@ fn take_run<'a, L: Leveled, E: Entries>(
     Ok(rest.len() - others.len())
 }
 
-/// Takes fields from the front of the open body, as many as the quick way serves one after the other.
+/// Takes fields from the front of the open body, up to what is no field, or goes by itself.
 #[inline(always)]
 pub(crate) fn take_fields<'a, L: Leveled, E: Entries>(
     alloc: Global,

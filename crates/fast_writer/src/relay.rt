@@ -1,58 +1,23 @@
-//! A part that is read, and its value written, one after the other: the general way.
+//! A part that is taken, and its best form appended, one after the other.
 
 ghost use Rattle.std.specs.Prelude.{◌≡◌, ◌≤◌, IsTrue, length, false, true};
 ghost use Rattle.fast_walk.specs.Told.{KeepScalars};
 ghost use Rattle.fast_writer.specs.Levels.{level_of};
 ghost use Rattle.fast_template.specs.Resolved.{part_needs_bit as part_needs_bit_of};
 ghost use Rattle.fast_field.specs.Parts.{IsFieldPart};
-ghost use Rattle.fast_field.specs.Within.{HoldsScalar};
-ghost use Rattle.fast_writer.specs.Quick.{RelaysField, RelaysFound};
+ghost use Rattle.fast_writer.specs.Quick.{RelaysField};
 
 use crate::segment::Segment;
-use fast_dictionary::{Entries, Entry};
-use fast_field::{FieldFault, FieldRefusal, Found, find_field, read_in_place, write_found};
+use fast_dictionary::Entries;
+use fast_field::FieldFault;
+use fast_take::{Aside, take};
 use fast_template::{FieldPart, part_needs_bit};
 use fast_wire::Level;
 use std::alloc::Global;
 
-/// Reads a part and appends the best form of its value; answers where the value lies in the entry, which becomes the
-/// one afterwards, the bit of the form, and the place behind what was read.
-#[inline(always)]
-pub(crate) fn relay_entry(
-    alloc: Global,
-    part: &FieldPart,
-    entry: &mut Entry,
-    bit: bool,
-    level: Level,
-    bytes: &[u8],
-    at: usize,
-    out: &mut Vec<u8>,
-) -> Result<(Found, bool, usize), FieldFault>
-    requires place { at ≤ length bytes.now }
-    requires bit { part_needs_bit_of part.now ≡ false → bit ≡ true }
-    requires part { IsFieldPart part.now }
-    requires entry { HoldsScalar entry.old }
-    ensures { RelaysFound level part.now entry.old entry.new bit bytes.now at out.old.items out.new.items result }
-{
-    if !bit {
-        // what bit 0 gives is best written with bit 0
-        let (found, next) = read_in_place(alloc, part, entry, false, level, bytes, at)?;
-        return Ok((found, false, next));
-    }
-    let (found, next) = find_field(alloc, part, entry.view(), true, level, bytes, at)?;
-    match write_found(alloc, part, entry, found, out) {
-        Err(refusal) => match refusal {
-            FieldRefusal::Memory => Err(FieldFault::Memory),
-            // what was read has a form
-            _ => unreachable!(),
-        },
-        Ok((found, bit)) => Ok((found, bit, next)),
-    }
-}
-
-/// Reads a part the general way, which the quick one has left, and appends the best form of its value to a segment;
-/// answers whether the value is there, and the place behind what was read. (A call of its own, so that the walk over a
-/// segment has room for one answer only.)
+/// Takes a part that the walk over a segment has left, and appends its best form to the segment; answers whether its value is
+/// there, and the place behind what was read. (A call of its own, so that the walk over a segment has room for one answer
+/// only.)
 #[inline(never)]
 #[tactic(auto, using(fast_walk::proofs::Telling::kept_hold))]
 pub(crate) fn relay_part<E: Entries>(
@@ -64,6 +29,7 @@ pub(crate) fn relay_part<E: Entries>(
     bytes: &[u8],
     at: usize,
     segment: &mut Segment,
+    aside: &mut Aside,
 ) -> Result<(bool, usize), FieldFault>
     requires place { at ≤ length bytes.now }
     requires bit { part_needs_bit_of part.now ≡ false → bit ≡ true }
@@ -75,9 +41,8 @@ pub(crate) fn relay_part<E: Entries>(
     ensures same_keys { E.serves entries.new ≡ E.serves entries.old }
 {
     let entry = entries.entry_mut(&part.key)?;
-    let out = &mut segment.bytes.out;
-    let (found, best, next) = relay_entry(alloc, part, entry, bit, level, bytes, at, out)?;
-    let there = found.value(part, entry.view()).is_some();
-    segment.ask(part_needs_bit(part), best)?;
-    Ok((there, next))
+    let took = take(alloc, part, entry, bit, level, bytes, at, aside)?;
+    aside.append_best(took, bytes, at, &mut segment.bytes.out)?;
+    segment.ask(part_needs_bit(part), took.best_bit(bit, aside))?;
+    Ok((took.is_there(aside), took.place()))
 }

@@ -2,9 +2,11 @@
 
 ghost use Rattle.std.specs.Prelude.{◌≡◌, ◌≤◌, ◌++◌, ℕ, List, [], true, false, length, slice_range};
 ghost use Rattle.fast_relay.specs.Best.{form_of};
+ghost use Rattle.fast_take.specs.Takes.{best_form, first_of, place_of};
 ghost use Rattle.fast_writer.specs.Runs.{IsRun, written};
 
 use fast_relay::Best;
+use fast_take::{Aside, Took};
 use std::alloc::Global;
 
 /// Bytes that were appended, and bytes of the input that are noted to be appended behind them.
@@ -102,5 +104,38 @@ impl Run {
         self.begin(best.first);
         self.keep(best.next);
         true
+    }
+
+    /// The same of a field that was taken.
+    #[inline(always)]
+    pub(crate) fn put_taken(&mut self, took: Took, aside: &Aside, bytes: &[u8]) -> bool
+        requires run { IsRun bytes.now self.now.place self.now }
+        requires place { (self.now.place ≤ place_of took) × (place_of took ≤ length bytes.now) }
+        requires first { first_of self.now.place aside.now took ≤ place_of took }
+        ensures written { result ≡ true → written bytes.now self.new
+            ≡ written bytes.now self.old ++ best_form bytes.now self.old.place aside.now took }
+        ensures run { result ≡ true → IsRun bytes.now (place_of took) self.new }
+    {
+        match took {
+            Took::Stands(next) | Took::Absent(next) => {
+                self.keep(next);
+                true
+            }
+            Took::Given(next) => {
+                if !self.flush(bytes) {
+                    return false;
+                }
+                self.begin(next);
+                true
+            }
+            Took::Other(next) => {
+                if !self.flush(bytes) || self.out.extend_from_slice(&aside.made).is_err() {
+                    return false;
+                }
+                self.begin(aside.first);
+                self.keep(next);
+                true
+            }
+        }
     }
 }

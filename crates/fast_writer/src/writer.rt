@@ -8,6 +8,7 @@ use crate::segment::Segment;
 use fast_dictionary::Entries;
 use fast_field::{FieldFault, reads_as_usual};
 use fast_relay::read_short_length;
+use fast_take::Aside;
 use fast_template::{FieldPart, Flat, Name, Presence};
 use fast_walk::{Fields, Output, Receiver, Strictly, Usually};
 use fast_wire::{Bits, Level};
@@ -24,6 +25,8 @@ pub struct Writer {
     outer: Around,
     // of the messages that are finished and not handed on
     out: Vec<u8>,
+    // what is told of a field that was taken
+    aside: Aside,
 }
 
 impl Writer {
@@ -49,6 +52,7 @@ impl Writer {
             inner: Segment::new(alloc, true),
             outer: Around::new(alloc),
             out: Vec::new(alloc),
+            aside: Aside::new(alloc),
         }
     }
 
@@ -105,9 +109,16 @@ impl Receiver for Writer {
     ) -> Result<(u32, usize), FieldFault> {
         self.outer.clear();
         self.inner.begin(true);
-        let inner = &mut self.inner;
         let (id, next) = relay_identifier(
-            alloc, entries, identifier, bit, level, bytes, at, inner,
+            alloc,
+            entries,
+            identifier,
+            bit,
+            level,
+            bytes,
+            at,
+            &mut self.inner,
+            &mut self.aside,
         )?;
         match id {
             Some(id) => Ok((id, next)),
@@ -141,8 +152,8 @@ impl Receiver for Writer {
         bytes: &[u8],
         at: usize,
     ) -> Result<usize, FieldFault> {
-        let inner = &mut self.inner;
-        let (_there, next) = relay_part(alloc, entries, part, bit, level, bytes, at, inner)?;
+        let (inner, aside) = (&mut self.inner, &mut self.aside);
+        let (_there, next) = relay_part(alloc, entries, part, bit, level, bytes, at, inner, aside)?;
         Ok(next)
     }
 
@@ -182,7 +193,8 @@ impl Receiver for Writer {
         bytes: &[u8],
         at: usize,
     ) -> Result<(bool, usize), FieldFault> {
-        relay_part(alloc, entries, part, bit, level, bytes, at, &mut self.inner)
+        let (inner, aside) = (&mut self.inner, &mut self.aside);
+        relay_part(alloc, entries, part, bit, level, bytes, at, inner, aside)
     }
 
     #[inline(always)]
@@ -196,8 +208,8 @@ impl Receiver for Writer {
         bytes: &[u8],
         at: usize,
     ) -> Result<usize, FieldFault> {
-        let inner = &mut self.inner;
-        let (_there, next) = relay_part(alloc, entries, part, bit, level, bytes, at, inner)?;
+        let (inner, aside) = (&mut self.inner, &mut self.aside);
+        let (_there, next) = relay_part(alloc, entries, part, bit, level, bytes, at, inner, aside)?;
         Ok(next)
     }
 
@@ -224,7 +236,17 @@ impl Receiver for Writer {
                 Ok(()) => return Ok((count, at + 1)),
             }
         }
-        relay_count(alloc, entries, part, bit, level, bytes, at, inner)
+        relay_count(
+            alloc,
+            entries,
+            part,
+            bit,
+            level,
+            bytes,
+            at,
+            inner,
+            &mut self.aside,
+        )
     }
 
     #[inline(always)]

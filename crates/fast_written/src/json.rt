@@ -1,6 +1,6 @@
 //! Templates from the data of a template text.
 
-ghost use Rattle.std.specs.Prelude.{◌≡◌, IfOk, map, option_and_then, option_map, option_to_list, string_bytes};
+ghost use Rattle.std.specs.Prelude.{◌≡◌, IfOk, length, map, min, option_and_then, option_map, option_to_list, string_bytes};
 ghost use Rattle.serde_json.specs.View.{items_view, view};
 ghost use Rattle.fast_written.specs.JsonTemplates.{ReadsAs, ReadsTemplate, ReadsTemplates, fault_of_unread, read_templates as read_templates_of, templates_of, templates_under, id_in, read_template as read_template_of, template_with, around_in, group_in, members_in, read_all as read_all_of, read_items, one_of, sequence_in, charset_in, charset_named, decimal_in, field_in, form_in, form_named, has as has_of, leaf_in, length_name_in, name_in, operation_in, operator_named as operator_named_of, part_in, parts_in, plain, presence_in, presence_named, row_of_form as row_of_form_of, says_more as says_more_of, text_at as text_at_of};
 ghost use Rattle.std.specs.List.{list_all};
@@ -476,6 +476,13 @@ fn read_all(alloc: Global, list: &Value, number: u32) -> Result<(Vec<Instruction
     }
 }
 
+// How much room a list of a text is given at once: as much as it needs, or the most that a set may have.
+fn room_for(values: &[Value]) -> usize
+    ensures { result ≡ min (length values.now) 65535 }
+{
+    values.len().min(65_535)
+}
+
 #[cycle(reads)]
 fn read_values(
     alloc: Global,
@@ -485,7 +492,7 @@ fn read_values(
     ensures { ReadsAs (λ instructions. written_list (map written_of instructions.items)) result
         (read_items (items_view values.now) number) }
 {
-    let mut instructions = Vec::new(alloc);
+    let mut instructions = Vec::with_capacity(alloc, room_for(values))?;
     let mut next = number;
     for value in values {
         let (instruction, following) = read_one(alloc, value, next)?;
@@ -568,7 +575,9 @@ fn read_templates(
     ensures { ReadsTemplates result
         (read_templates_of (option_map (λ s. s.now) default.entry) (items_view values.now) 1) }
 {
-    let mut templates = Vec::new(alloc);
+    let Ok(mut templates) = Vec::with_capacity(alloc, room_for(values)) else {
+        return Err(want_of_memory());
+    };
     let mut place: u32 = 1;
     for value in values {
         let template = match read_template(alloc, value, default) {

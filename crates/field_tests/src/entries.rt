@@ -10,8 +10,9 @@ use fast_dictionary::{Entries, Entry, EntryRef, MapEntries, SlotEntries};
 use fast_template::{Flat, Key, Name, Part, Scalar, Scope, TemplateSet, UnicodeText};
 use std::alloc::{AllocError, Global};
 use std::process::Abort;
+use test_rows::Tried;
 
-fn key(alloc: Global, slot: u32, name: &str) -> Result<Key, AllocError> {
+fn key(alloc: Global, slot: u32, name: &str) -> Tried<Key> {
     Ok(Key {
         slot,
         scope: Scope::Global,
@@ -22,7 +23,7 @@ fn key(alloc: Global, slot: u32, name: &str) -> Result<Key, AllocError> {
 
 const TEXT: &str = "é";
 
-fn text(alloc: Global) -> Result<Scalar, AllocError> {
+fn text(alloc: Global) -> Tried<Scalar> {
     let text = String::from_str(alloc, TEXT)?;
     Ok(Scalar::Unicode(UnicodeText::from_string(text)))
 }
@@ -51,12 +52,7 @@ fn is<E: Entries>(rt: &impl Abort, entries: &E, key: &Key, wanted: Wanted)
 }
 
 // Puts the text under a key. A refusal changes nothing.
-fn put_text<E: Entries>(
-    rt: &impl Abort,
-    alloc: Global,
-    entries: &mut E,
-    key: &Key,
-) -> Result<(), AllocError>
+fn put_text<E: Entries>(rt: &impl Abort, alloc: Global, entries: &mut E, key: &Key) -> Tried
     requires { IsTrue (E.serves entries.old key.now) }
     ensures { E.serves entries.new ≡ E.serves entries.old }
 {
@@ -74,7 +70,7 @@ fn fill<E: Entries>(
     entries: &mut E,
     first: &Key,
     second: &Key,
-) -> Result<(), AllocError>
+) -> Tried
     requires first { IsTrue (E.serves entries.old first.now) }
     requires second { IsTrue (E.serves entries.old second.now) }
     ensures { E.serves entries.new ≡ E.serves entries.old }
@@ -95,7 +91,7 @@ fn change<E: Entries>(
     entries: &mut E,
     first: &Key,
     second: &Key,
-) -> Result<(), AllocError>
+) -> Tried
     requires first { IsTrue (E.serves entries.old first.now) }
     requires second { IsTrue (E.serves entries.old second.now) }
 {
@@ -118,7 +114,7 @@ fn walk<E: Entries>(
     mut entries: E,
     first: &Key,
     second: &Key,
-) -> Result<(), AllocError>
+) -> Tried
     requires first { IsTrue (E.serves entries first.now) }
     requires second { IsTrue (E.serves entries second.now) }
 {
@@ -127,7 +123,7 @@ fn walk<E: Entries>(
 }
 
 #[test]
-fn entries_in_a_map(rt: HostRuntime) -> Result<(), AllocError> {
+fn entries_in_a_map(rt: HostRuntime) -> Tried {
     let first = key(rt.alloc(), 1, "A")?;
     let second = key(rt.alloc(), 2, "B")?;
     walk(
@@ -140,13 +136,13 @@ fn entries_in_a_map(rt: HostRuntime) -> Result<(), AllocError> {
 }
 
 // A reference to an entry is copied to an equal one.
-fn is_copied(rt: &impl Abort, alloc: Global, entry: Entry) -> Result<(), AllocError> {
+fn is_copied(rt: &impl Abort, alloc: Global, entry: Entry) -> Tried {
     same(rt, entry.view().copy(alloc)?, entry);
     Ok(())
 }
 
 #[test]
-fn entries_of_a_reference(rt: HostRuntime) -> Result<(), AllocError> {
+fn entries_of_a_reference(rt: HostRuntime) -> Tried {
     is_copied(&rt, rt.alloc(), Entry::Undefined)?;
     is_copied(&rt, rt.alloc(), Entry::Empty)?;
     is_copied(&rt, rt.alloc(), Entry::Assigned(text(rt.alloc())?))
@@ -173,7 +169,7 @@ fn key_at(set: &TemplateSet, place: usize) -> Option<&Key>
 }
 
 // Walks over the entries of the set's own keys.
-fn walk_slots(rt: &impl Abort, alloc: Global, set: &TemplateSet) -> Result<(), AllocError> {
+fn walk_slots(rt: &impl Abort, alloc: Global, set: &TemplateSet) -> Tried {
     match (key_at(set, 0), key_at(set, 1)) {
         (Some(first), Some(second)) => {
             walk(rt, alloc, SlotEntries::new(alloc, set)?, first, second)
@@ -183,7 +179,7 @@ fn walk_slots(rt: &impl Abort, alloc: Global, set: &TemplateSet) -> Result<(), A
 }
 
 // Want of memory ends the test, and no other fault comes.
-fn refused(rt: &impl Abort, fault: LoadFault) -> Result<(), AllocError> {
+fn refused(rt: &impl Abort, fault: LoadFault) -> Tried {
     same(rt, fault.cause, LoadCause::Memory);
     Err(AllocError)
 }
@@ -193,7 +189,7 @@ const TWO_FIELDS: &str = r#"{"templates":[{"name":"Two","id":1,"instructions":[
     {"kind":"string","charset":"unicode","name":"B","operator":"copy"}]}]}"#;
 
 #[test]
-fn entries_in_slots(rt: HostRuntime) -> Result<(), AllocError> {
+fn entries_in_slots(rt: HostRuntime) -> Tried {
     match TemplateSet::from_json(rt.alloc(), TWO_FIELDS.as_bytes()) {
         Ok(set) => walk_slots(&rt, rt.alloc(), &set),
         Err(fault) => refused(&rt, fault),

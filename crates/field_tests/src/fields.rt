@@ -13,8 +13,9 @@ use fast_template::{
     ByteString, FieldPart, Initial, Key, Kind, Name, Operator, Part, Presence, Scalar, Scope,
     UnicodeText,
 };
-use std::alloc::{AllocError, Global};
+use std::alloc::Global;
 use std::process::Abort;
+use test_rows::Tried;
 
 // A field with a key of its own.
 pub(crate) fn part_of(
@@ -24,7 +25,7 @@ pub(crate) fn part_of(
     presence: Presence,
     operator: Operator,
     initial: Option<Scalar>,
-) -> Result<FieldPart, AllocError>
+) -> Tried<FieldPart>
     ensures { IfOk result (λ i. (i.part ≡ part) × (i.kind ≡ kind) × (i.presence ≡ presence)
         × (i.operator ≡ operator) × (i.initial ≡ initial)) }
 {
@@ -53,7 +54,7 @@ pub(crate) fn field(
     kind: Kind,
     presence: Presence,
     operator: Operator,
-) -> Result<FieldPart, AllocError>
+) -> Tried<FieldPart>
     requires applies { IsTrue (applies operator kind) }
     requires constant { operator ≡ op.Constant → ⊥ }
     requires default { operator ≡ op.Default → presence ≡ Optional }
@@ -62,19 +63,35 @@ pub(crate) fn field(
     part_of(alloc, Part::Whole, kind, presence, operator, None)
 }
 
-pub(crate) fn ascii(alloc: Global, text: &[u8]) -> Result<Scalar, AllocError>
+pub(crate) fn ascii(alloc: Global, text: &[u8]) -> Tried<Scalar>
     ensures { IfOk result (λ v. v ≡ scalar.Ascii text.now) }
 {
     Ok(Scalar::Ascii(ByteString::from_vec(text.to_vec(alloc)?)))
 }
 
-fn unicode(alloc: Global, text: &str) -> Result<Scalar, AllocError> {
+fn unicode(alloc: Global, text: &str) -> Tried<Scalar> {
     let text = String::from_str(alloc, text)?;
     Ok(Scalar::Unicode(UnicodeText::from_string(text)))
 }
 
-fn vector(alloc: Global, bytes: &[u8]) -> Result<Scalar, AllocError> {
+fn vector(alloc: Global, bytes: &[u8]) -> Tried<Scalar> {
     Ok(Scalar::Bytes(ByteString::from_vec(bytes.to_vec(alloc)?)))
+}
+
+fn letters(alloc: Global, count: usize) -> Tried<Scalar> {
+    let mut text = String::new(alloc);
+    for _ in 0..count {
+        text.push('a')?;
+    }
+    Ok(Scalar::Unicode(UnicodeText::from_string(text)))
+}
+
+fn wide(alloc: Global, count: usize) -> Tried<Scalar> {
+    let mut text = vec![in alloc; 0x41; count]?;
+    if let Some(last) = text.last_mut() {
+        *last = 0x80;
+    }
+    Ok(Scalar::Ascii(ByteString::from_vec(text)))
 }
 
 // The field of a row, in short.
@@ -92,7 +109,7 @@ pub(crate) enum Shape {
 }
 
 impl Shape {
-    pub(crate) fn instr(self, alloc: Global) -> Result<FieldPart, AllocError> {
+    pub(crate) fn instr(self, alloc: Global) -> Tried<FieldPart> {
         let mandatory = Presence::Mandatory;
         match self {
             Shape::Mandatory(kind, operator) => {
@@ -142,10 +159,13 @@ pub(crate) enum Value {
     Ascii(&'static [u8]),
     Unicode(&'static str),
     Bytes(&'static [u8]),
+    // So many letters, of Unicode, and so many characters of ASCII, of which the last is beyond it.
+    Letters(usize),
+    Wide(usize),
 }
 
 impl Value {
-    pub(crate) fn scalar(self, alloc: Global) -> Result<Scalar, AllocError> {
+    pub(crate) fn scalar(self, alloc: Global) -> Tried<Scalar> {
         match self {
             Value::U32(number) => Ok(Scalar::U32(number)),
             Value::I32(number) => Ok(Scalar::I32(number)),
@@ -155,6 +175,8 @@ impl Value {
             Value::Ascii(text) => ascii(alloc, text),
             Value::Unicode(text) => unicode(alloc, text),
             Value::Bytes(bytes) => vector(alloc, bytes),
+            Value::Letters(count) => letters(alloc, count),
+            Value::Wide(count) => wide(alloc, count),
         }
     }
 }
@@ -168,7 +190,7 @@ pub(crate) enum Kept {
 }
 
 impl Kept {
-    pub(crate) fn entry(self, alloc: Global) -> Result<Entry, AllocError> {
+    pub(crate) fn entry(self, alloc: Global) -> Tried<Entry> {
         match self {
             Kept::Undefined => Ok(Entry::Undefined),
             Kept::Empty => Ok(Entry::Empty),
@@ -178,12 +200,7 @@ impl Kept {
 }
 
 // Ends a test whose entry is not a row's.
-pub(crate) fn is_kept(
-    rt: &impl Abort,
-    alloc: Global,
-    entry: &Entry,
-    wanted: Kept,
-) -> Result<(), AllocError> {
+pub(crate) fn is_kept(rt: &impl Abort, alloc: Global, entry: &Entry, wanted: Kept) -> Tried {
     let wanted = wanted.entry(alloc)?;
     same(rt, entry, &wanted);
     Ok(())

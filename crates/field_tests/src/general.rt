@@ -2,14 +2,18 @@
 
 ghost use Rattle.std.specs.Prelude.{◌≡◌, None};
 
-use crate::fields::{Kept, Value, is_kept, part_of};
+use crate::fields::Kept::{Assigned, Empty, Undefined};
+use crate::fields::Value::{Ascii, Bytes, Decimal, U32, U64, Unicode};
+use crate::fields::{Kept, is_kept, part_of};
 use crate::judged::{holds_scalar, is_field_part};
 use crate::same::same;
 use fast_dictionary::Entry;
 use fast_field::{FieldFault, FieldRefusal, Level, find_field, write_found};
+use fast_template::Presence::{Mandatory, Optional};
 use fast_template::{FieldPart, Kind, Operator, Part, Presence};
 use std::alloc::{AllocError, Global};
 use std::process::Abort;
+use test_rows::{Tried, rows};
 
 // Bytes that stand for a field under bit 1, to their end; the bit and the bytes of the best form, and the entry afterwards.
 struct Row {
@@ -23,7 +27,7 @@ struct Row {
 }
 
 // What the general way answers; a fault that is none of memory ends the test.
-fn none<T>(rt: &impl Abort, is_memory: bool) -> Result<T, AllocError> {
+fn none<T>(rt: &impl Abort, is_memory: bool) -> Tried<T> {
     same(rt, is_memory, true);
     Err(AllocError)
 }
@@ -35,7 +39,7 @@ fn is_written(
     instr: &FieldPart,
     entry: &mut Entry,
     row: &Row,
-) -> Result<(), AllocError>
+) -> Tried
     requires { instr.now.initial ≡ None }
 {
     // no other is written
@@ -64,7 +68,7 @@ fn is_written(
     }
 }
 
-fn is_rewritten(rt: &impl Abort, alloc: Global, row: &Row) -> Result<(), AllocError> {
+fn is_rewritten(rt: &impl Abort, alloc: Global, row: &Row) -> Tried {
     let instr = part_of(
         alloc,
         Part::Whole,
@@ -77,7 +81,7 @@ fn is_rewritten(rt: &impl Abort, alloc: Global, row: &Row) -> Result<(), AllocEr
     is_written(rt, alloc, &instr, &mut entry, row)
 }
 
-fn all_rewritten(rt: &impl Abort, alloc: Global, rows: &[Row]) -> Result<(), AllocError> {
+fn all_rewritten(rt: &impl Abort, alloc: Global, rows: &[Row]) -> Tried {
     for row in rows {
         is_rewritten(rt, alloc, row)?;
     }
@@ -85,255 +89,68 @@ fn all_rewritten(rt: &impl Abort, alloc: Global, rows: &[Row]) -> Result<(), All
 }
 
 #[test]
-fn fields_that_are_spelled_at_length(rt: HostRuntime) -> Result<(), AllocError> {
-    const ROWS: &[Row] = &[
+fn fields_that_are_spelled_at_length(rt: HostRuntime) -> Tried {
+    const ROWS: &[Row] = rows! { Row { kind, presence, operator, before, bytes, best, after }:
         // an overlong mantissa
-        Row {
-            kind: Kind::Decimal,
-            presence: Presence::Mandatory,
-            operator: Operator::Delta,
-            before: Kept::Assigned(Value::Decimal(-2, 7)),
-            bytes: &[0x80, 0x00, 0x81],
-            best: (true, &[0x80, 0x81]),
-            after: Kept::Assigned(Value::Decimal(-2, 8)),
-        },
+        Kind::Decimal, Mandatory, Operator::Delta, Assigned(Decimal(-2, 7)), b"\x80\x00\x81", (true, b"\x80\x81"),
+            Assigned(Decimal(-2, 8));
         // behind a nullable exponent
-        Row {
-            kind: Kind::Decimal,
-            presence: Presence::Optional,
-            operator: Operator::Copy,
-            before: Kept::Empty,
-            bytes: &[0x82, 0x7f, 0xfe],
-            best: (true, &[0x82, 0xfe]),
-            after: Kept::Assigned(Value::Decimal(1, -2)),
-        },
+        Kind::Decimal, Optional, Operator::Copy, Empty, b"\x82\x7f\xfe", (true, b"\x82\xfe"), Assigned(Decimal(1, -2));
         // an overlong NULL
-        Row {
-            kind: Kind::UInt32,
-            presence: Presence::Optional,
-            operator: Operator::Copy,
-            before: Kept::Assigned(Value::U32(7)),
-            bytes: &[0x00, 0x80],
-            best: (true, &[0x80]),
-            after: Kept::Empty,
-        },
+        Kind::UInt32, Optional, Operator::Copy, Assigned(U32(7)), b"\x00\x80", (true, b"\x80"), Empty;
         // a preamble in front of a letter, and an empty string
-        Row {
-            kind: Kind::Ascii,
-            presence: Presence::Mandatory,
-            operator: Operator::Copy,
-            before: Kept::Assigned(Value::Ascii(b"AB")),
-            bytes: &[0x00, 0x43, 0xc4],
-            best: (true, &[0x43, 0xc4]),
-            after: Kept::Assigned(Value::Ascii(b"CD")),
-        },
-        Row {
-            kind: Kind::Ascii,
-            presence: Presence::Optional,
-            operator: Operator::Copy,
-            before: Kept::Assigned(Value::Ascii(b"AB")),
-            bytes: &[0x00, 0x80],
-            best: (true, &[0x00, 0x80]),
-            after: Kept::Assigned(Value::Ascii(b"")),
-        },
+        Kind::Ascii, Mandatory, Operator::Copy, Assigned(Ascii(b"AB")), b"\x00\x43\xc4", (true, b"\x43\xc4"),
+            Assigned(Ascii(b"CD"));
+        Kind::Ascii, Optional, Operator::Copy, Assigned(Ascii(b"AB")), b"\x00\x80", (true, b"\x00\x80"),
+            Assigned(Ascii(b""));
         // of another type is what the entry has
-        Row {
-            kind: Kind::Bytes,
-            presence: Presence::Optional,
-            operator: Operator::Copy,
-            before: Kept::Assigned(Value::Unicode("ab")),
-            bytes: &[0x83, 0x61, 0x63],
-            best: (true, &[0x83, 0x61, 0x63]),
-            after: Kept::Assigned(Value::Bytes(b"ac")),
-        },
+        Kind::Bytes, Optional, Operator::Copy, Assigned(Unicode("ab")), b"\x83\x61\x63", (true, b"\x83\x61\x63"),
+            Assigned(Bytes(b"ac"));
         // tails that are longer than need be, and that begin within a character
-        Row {
-            kind: Kind::Unicode,
-            presence: Presence::Mandatory,
-            operator: Operator::Tail,
-            before: Kept::Assigned(Value::Unicode("üab")),
-            bytes: &[0x82, 0x61, 0x63],
-            best: (true, &[0x81, 0x63]),
-            after: Kept::Assigned(Value::Unicode("üac")),
-        },
-        Row {
-            kind: Kind::Unicode,
-            presence: Presence::Mandatory,
-            operator: Operator::Tail,
-            before: Kept::Assigned(Value::Unicode("xü")),
-            bytes: &[0x81, 0xb6],
-            best: (true, &[0x81, 0xb6]),
-            after: Kept::Assigned(Value::Unicode("xö")),
-        },
+        Kind::Unicode, Mandatory, Operator::Tail, Assigned(Unicode("üab")), b"\x82\x61\x63", (true, b"\x81\x63"),
+            Assigned(Unicode("üac"));
+        Kind::Unicode, Mandatory, Operator::Tail, Assigned(Unicode("xü")), b"\x81\xb6", (true, b"\x81\xb6"),
+            Assigned(Unicode("xö"));
         // of what is removed the first byte is put there again
-        Row {
-            kind: Kind::Unicode,
-            presence: Presence::Optional,
-            operator: Operator::Delta,
-            before: Kept::Assigned(Value::Unicode("abü")),
-            bytes: &[0x83, 0x82, 0xc3, 0xb6],
-            best: (true, &[0x82, 0x81, 0xb6]),
-            after: Kept::Assigned(Value::Unicode("abö")),
-        },
+        Kind::Unicode, Optional, Operator::Delta, Assigned(Unicode("abü")), b"\x83\x82\xc3\xb6",
+            (true, b"\x82\x81\xb6"), Assigned(Unicode("abö"));
         // the same end: removed in front are fewer
-        Row {
-            kind: Kind::Ascii,
-            presence: Presence::Mandatory,
-            operator: Operator::Delta,
-            before: Kept::Assigned(Value::Ascii(b"0012")),
-            bytes: &[0x84, 0x31, 0x30, 0x31, 0xb2],
-            best: (true, &[0xfe, 0xb1]),
-            after: Kept::Assigned(Value::Ascii(b"1012")),
-        },
-        Row {
-            kind: Kind::Bytes,
-            presence: Presence::Mandatory,
-            operator: Operator::Delta,
-            before: Kept::Assigned(Value::Bytes(b"ESM6")),
-            bytes: &[0x84, 0x84, 0x58, 0x53, 0x4d, 0x36],
-            best: (true, &[0xfe, 0x81, 0x58]),
-            after: Kept::Assigned(Value::Bytes(b"XSM6")),
-        },
+        Kind::Ascii, Mandatory, Operator::Delta, Assigned(Ascii(b"0012")), b"\x84\x31\x30\x31\xb2", (true, b"\xfe\xb1"),
+            Assigned(Ascii(b"1012"));
+        Kind::Bytes, Mandatory, Operator::Delta, Assigned(Bytes(b"ESM6")), b"\x84\x84\x58\x53\x4d\x36",
+            (true, b"\xfe\x81\x58"), Assigned(Bytes(b"XSM6"));
         // numbers as identifiers and lengths are
-        Row {
-            kind: Kind::UInt32,
-            presence: Presence::Mandatory,
-            operator: Operator::Copy,
-            before: Kept::Assigned(Value::U32(5)),
-            bytes: &[0x01, 0x80],
-            best: (true, &[0x01, 0x80]),
-            after: Kept::Assigned(Value::U32(128)),
-        },
-        Row {
-            kind: Kind::UInt32,
-            presence: Presence::Optional,
-            operator: Operator::Increment,
-            before: Kept::Assigned(Value::U32(5)),
-            bytes: &[0x88],
-            best: (true, &[0x88]),
-            after: Kept::Assigned(Value::U32(7)),
-        },
+        Kind::UInt32, Mandatory, Operator::Copy, Assigned(U32(5)), b"\x01\x80", (true, b"\x01\x80"), Assigned(U32(128));
+        Kind::UInt32, Optional, Operator::Increment, Assigned(U32(5)), b"\x88", (true, b"\x88"), Assigned(U32(7));
         // behind needless groups
-        Row {
-            kind: Kind::UInt32,
-            presence: Presence::Mandatory,
-            operator: Operator::Copy,
-            before: Kept::Assigned(Value::U32(5)),
-            bytes: &[0x00, 0x00, 0x87],
-            best: (true, &[0x87]),
-            after: Kept::Assigned(Value::U32(7)),
-        },
+        Kind::UInt32, Mandatory, Operator::Copy, Assigned(U32(5)), b"\x00\x00\x87", (true, b"\x87"), Assigned(U32(7));
         // no value before, and of another type
-        Row {
-            kind: Kind::UInt32,
-            presence: Presence::Mandatory,
-            operator: Operator::Copy,
-            before: Kept::Undefined,
-            bytes: &[0x87],
-            best: (true, &[0x87]),
-            after: Kept::Assigned(Value::U32(7)),
-        },
-        Row {
-            kind: Kind::UInt64,
-            presence: Presence::Mandatory,
-            operator: Operator::Copy,
-            before: Kept::Undefined,
-            bytes: &[0x87],
-            best: (true, &[0x87]),
-            after: Kept::Assigned(Value::U64(7)),
-        },
-    ];
+        Kind::UInt32, Mandatory, Operator::Copy, Undefined, b"\x87", (true, b"\x87"), Assigned(U32(7));
+        Kind::UInt64, Mandatory, Operator::Copy, Undefined, b"\x87", (true, b"\x87"), Assigned(U64(7));
+    };
     all_rewritten(&rt, rt.alloc(), ROWS)
 }
 
 #[test]
-fn fields_that_bit_0_gives(rt: HostRuntime) -> Result<(), AllocError> {
-    const ROWS: &[Row] = &[
+fn fields_that_bit_0_gives(rt: HostRuntime) -> Tried {
+    const ROWS: &[Row] = rows! { Row { kind, presence, operator, before, bytes, best, after }:
         // an overlong NULL
-        Row {
-            kind: Kind::UInt32,
-            presence: Presence::Optional,
-            operator: Operator::Copy,
-            before: Kept::Empty,
-            bytes: &[0x00, 0x80],
-            best: (false, &[]),
-            after: Kept::Empty,
-        },
-        Row {
-            kind: Kind::Decimal,
-            presence: Presence::Mandatory,
-            operator: Operator::Copy,
-            before: Kept::Assigned(Value::Decimal(1, -2)),
-            bytes: &[0x81, 0xfe],
-            best: (false, &[]),
-            after: Kept::Assigned(Value::Decimal(1, -2)),
-        },
-        Row {
-            kind: Kind::Ascii,
-            presence: Presence::Mandatory,
-            operator: Operator::Copy,
-            before: Kept::Assigned(Value::Ascii(b"AB")),
-            bytes: &[0x00, 0x41, 0xc2],
-            best: (false, &[]),
-            after: Kept::Assigned(Value::Ascii(b"AB")),
-        },
-        Row {
-            kind: Kind::Unicode,
-            presence: Presence::Mandatory,
-            operator: Operator::Copy,
-            before: Kept::Assigned(Value::Unicode("ü")),
-            bytes: &[0x82, 0xc3, 0xbc],
-            best: (false, &[]),
-            after: Kept::Assigned(Value::Unicode("ü")),
-        },
+        Kind::UInt32, Optional, Operator::Copy, Empty, b"\x00\x80", (false, b""), Empty;
+        Kind::Decimal, Mandatory, Operator::Copy, Assigned(Decimal(1, -2)), b"\x81\xfe", (false, b""),
+            Assigned(Decimal(1, -2));
+        Kind::Ascii, Mandatory, Operator::Copy, Assigned(Ascii(b"AB")), b"\x00\x41\xc2", (false, b""),
+            Assigned(Ascii(b"AB"));
+        Kind::Unicode, Mandatory, Operator::Copy, Assigned(Unicode("ü")), b"\x82\xc3\xbc", (false, b""),
+            Assigned(Unicode("ü"));
         // tails that put back what was there
-        Row {
-            kind: Kind::Ascii,
-            presence: Presence::Mandatory,
-            operator: Operator::Tail,
-            before: Kept::Assigned(Value::Ascii(b"xab")),
-            bytes: &[0xe2],
-            best: (false, &[]),
-            after: Kept::Assigned(Value::Ascii(b"xab")),
-        },
-        Row {
-            kind: Kind::Bytes,
-            presence: Presence::Mandatory,
-            operator: Operator::Tail,
-            before: Kept::Assigned(Value::Bytes(b"ab")),
-            bytes: &[0x81, 0x62],
-            best: (false, &[]),
-            after: Kept::Assigned(Value::Bytes(b"ab")),
-        },
+        Kind::Ascii, Mandatory, Operator::Tail, Assigned(Ascii(b"xab")), b"\xe2", (false, b""), Assigned(Ascii(b"xab"));
+        Kind::Bytes, Mandatory, Operator::Tail, Assigned(Bytes(b"ab")), b"\x81\x62", (false, b""),
+            Assigned(Bytes(b"ab"));
         // numbers as identifiers and lengths are
-        Row {
-            kind: Kind::UInt32,
-            presence: Presence::Mandatory,
-            operator: Operator::Copy,
-            before: Kept::Assigned(Value::U32(7)),
-            bytes: &[0x87],
-            best: (false, &[]),
-            after: Kept::Assigned(Value::U32(7)),
-        },
-        Row {
-            kind: Kind::UInt32,
-            presence: Presence::Optional,
-            operator: Operator::Increment,
-            before: Kept::Assigned(Value::U32(6)),
-            bytes: &[0x00, 0x88],
-            best: (false, &[]),
-            after: Kept::Assigned(Value::U32(7)),
-        },
+        Kind::UInt32, Mandatory, Operator::Copy, Assigned(U32(7)), b"\x87", (false, b""), Assigned(U32(7));
+        Kind::UInt32, Optional, Operator::Increment, Assigned(U32(6)), b"\x00\x88", (false, b""), Assigned(U32(7));
         // NULL of no value before
-        Row {
-            kind: Kind::UInt32,
-            presence: Presence::Optional,
-            operator: Operator::Copy,
-            before: Kept::Undefined,
-            bytes: &[0x80],
-            best: (false, &[]),
-            after: Kept::Empty,
-        },
-    ];
+        Kind::UInt32, Optional, Operator::Copy, Undefined, b"\x80", (false, b""), Empty;
+    };
     all_rewritten(&rt, rt.alloc(), ROWS)
 }

@@ -1,4 +1,4 @@
-//! The tests of fast_dictionary, fast_field and fast_relay.
+//! The tests of fast_dictionary, fast_field, fast_relay and fast_take.
 #![tactic(auto)]
 
 #[cfg(test)]
@@ -25,6 +25,8 @@ mod same;
 mod strict;
 #[cfg(test)]
 mod taken;
+#[cfg(test)]
+mod takes;
 #[cfg(test)]
 mod texts;
 #[cfg(test)]

@@ -7,6 +7,7 @@ use fast_dictionary::Entry;
 use fast_relay::{Best, judge_other};
 use std::alloc::{AllocError, Global};
 use std::process::Abort;
+use test_rows::Tried;
 
 // The bytes behind the first are read to their end, and these are the best form, under bit 1, or none, under bit 0.
 pub(crate) struct Relayed {
@@ -25,12 +26,7 @@ pub(crate) struct NotRelayed {
 }
 
 // What is answered, and the entry afterwards.
-fn answer(
-    alloc: Global,
-    of: Shape,
-    before: Kept,
-    bytes: &[u8],
-) -> Result<(Option<Best>, Entry), AllocError> {
+fn answer(alloc: Global, of: Shape, before: Kept, bytes: &[u8]) -> Tried<(Option<Best>, Entry)> {
     let instr = of.instr(alloc)?;
     let mut entry = before.entry(alloc)?;
     // no other is judged
@@ -42,12 +38,7 @@ fn answer(
 }
 
 // Want of memory leaves all as it was, and ends the test.
-fn is_relayed(
-    rt: &impl Abort,
-    alloc: Global,
-    there: bool,
-    row: &Relayed,
-) -> Result<(), AllocError> {
+fn is_relayed(rt: &impl Abort, alloc: Global, there: bool, row: &Relayed) -> Tried {
     let (best, entry) = answer(alloc, row.of, row.before, row.bytes)?;
     let Some(best) = best else {
         is_kept(rt, alloc, &entry, row.before)?;
@@ -70,23 +61,14 @@ fn is_relayed(
 }
 
 // `there` says whether the values are.
-pub(crate) fn all_relayed(
-    rt: &impl Abort,
-    alloc: Global,
-    there: bool,
-    rows: &[Relayed],
-) -> Result<(), AllocError> {
+pub(crate) fn all_relayed(rt: &impl Abort, alloc: Global, there: bool, rows: &[Relayed]) -> Tried {
     for row in rows {
         is_relayed(rt, alloc, there, row)?;
     }
     Ok(())
 }
 
-pub(crate) fn none_relayed(
-    rt: &impl Abort,
-    alloc: Global,
-    rows: &[NotRelayed],
-) -> Result<(), AllocError> {
+pub(crate) fn none_relayed(rt: &impl Abort, alloc: Global, rows: &[NotRelayed]) -> Tried {
     for row in rows {
         let (best, entry) = answer(alloc, row.of, row.before, row.bytes)?;
         same(rt, best, None);

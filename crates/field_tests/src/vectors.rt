@@ -1,336 +1,102 @@
 //! Rows on Unicode strings and byte vectors that are judged, beside those of `judged`.
 
-use crate::fields::{Kept, Value};
+use crate::fields::Kept::{Assigned, Empty, Undefined};
+use crate::fields::Value::{Bytes, Unicode};
 use crate::judged::{Row, all_judged};
-use fast_relay::Judged;
-use fast_template::{Kind, Operator, Part, Presence};
-use std::alloc::AllocError;
+use fast_relay::Judged::{Behind, Elsewhere, Given, Stands};
+use fast_template::Part::Whole;
+use fast_template::Presence::{Mandatory, Optional};
+use fast_template::{Kind, Operator};
+use test_rows::{Tried, rows};
 
 #[test]
-fn texts_and_vectors_that_are_judged(rt: HostRuntime) -> Result<(), AllocError> {
-    const JUDGED: &[Row] = &[
+fn texts_and_vectors_that_are_judged(rt: HostRuntime) -> Tried {
+    const JUDGED: &[Row] = rows! {
+        Row { part, kind, presence, operator, before, bytes, judged, after }:
         // whole texts
-        Row {
-            part: Part::Whole,
-            kind: Kind::Unicode,
-            presence: Presence::Mandatory,
-            operator: Operator::Copy,
-            before: Kept::Assigned(Value::Unicode("aé")),
-            bytes: &[0, 0x82, 0xc3, 0xbc],
-            judged: Judged::Stands(4),
-            after: Kept::Assigned(Value::Unicode("ü")),
-        },
+        Whole, Kind::Unicode, Mandatory, Operator::Copy, Assigned(Unicode("aé")), b"\x00\x82\xc3\xbc", Stands(4),
+            Assigned(Unicode("ü"));
         // an overlong length
-        Row {
-            part: Part::Whole,
-            kind: Kind::Unicode,
-            presence: Presence::Mandatory,
-            operator: Operator::Copy,
-            before: Kept::Assigned(Value::Unicode("aé")),
-            bytes: &[0, 0x00, 0x82, 0xc3, 0xbc],
-            judged: Judged::Behind(5),
-            after: Kept::Assigned(Value::Unicode("ü")),
-        },
+        Whole, Kind::Unicode, Mandatory, Operator::Copy, Assigned(Unicode("aé")), b"\x00\x00\x82\xc3\xbc", Behind(5),
+            Assigned(Unicode("ü"));
         // a nullable length
-        Row {
-            part: Part::Whole,
-            kind: Kind::Unicode,
-            presence: Presence::Optional,
-            operator: Operator::Copy,
-            before: Kept::Empty,
-            bytes: &[0, 0x83, 0xc3, 0xbc],
-            judged: Judged::Stands(4),
-            after: Kept::Assigned(Value::Unicode("ü")),
-        },
+        Whole, Kind::Unicode, Optional, Operator::Copy, Empty, b"\x00\x83\xc3\xbc", Stands(4), Assigned(Unicode("ü"));
         // undefined entries
-        Row {
-            part: Part::Whole,
-            kind: Kind::Unicode,
-            presence: Presence::Mandatory,
-            operator: Operator::Copy,
-            before: Kept::Undefined,
-            bytes: &[0, 0x82, 0xc3, 0xbc],
-            judged: Judged::Stands(4),
-            after: Kept::Assigned(Value::Unicode("ü")),
-        },
-        Row {
-            part: Part::Whole,
-            kind: Kind::Bytes,
-            presence: Presence::Optional,
-            operator: Operator::Copy,
-            before: Kept::Undefined,
-            bytes: &[0, 0x83, 0x00, 0xff],
-            judged: Judged::Stands(4),
-            after: Kept::Assigned(Value::Bytes(&[0x00, 0xff])),
-        },
+        Whole, Kind::Unicode, Mandatory, Operator::Copy, Undefined, b"\x00\x82\xc3\xbc", Stands(4),
+            Assigned(Unicode("ü"));
+        Whole, Kind::Bytes, Optional, Operator::Copy, Undefined, b"\x00\x83\x00\xff", Stands(4),
+            Assigned(Bytes(b"\x00\xff"));
         // a default
-        Row {
-            part: Part::Whole,
-            kind: Kind::Unicode,
-            presence: Presence::Optional,
-            operator: Operator::Default,
-            before: Kept::Undefined,
-            bytes: &[0, 0x81],
-            judged: Judged::Stands(2),
-            after: Kept::Undefined,
-        },
+        Whole, Kind::Unicode, Optional, Operator::Default, Undefined, b"\x00\x81", Stands(2), Undefined;
         // whole vectors
-        Row {
-            part: Part::Whole,
-            kind: Kind::Bytes,
-            presence: Presence::Mandatory,
-            operator: Operator::Plain,
-            before: Kept::Undefined,
-            bytes: &[0, 0x82, 0x00, 0xff],
-            judged: Judged::Stands(4),
-            after: Kept::Undefined,
-        },
-        Row {
-            part: Part::Whole,
-            kind: Kind::Bytes,
-            presence: Presence::Mandatory,
-            operator: Operator::Copy,
-            before: Kept::Assigned(Value::Bytes(b"abc")),
-            bytes: &[0, 0x82, 0x00, 0xff],
-            judged: Judged::Stands(4),
-            after: Kept::Assigned(Value::Bytes(&[0x00, 0xff])),
-        },
+        Whole, Kind::Bytes, Mandatory, Operator::Plain, Undefined, b"\x00\x82\x00\xff", Stands(4), Undefined;
+        Whole, Kind::Bytes, Mandatory, Operator::Copy, Assigned(Bytes(b"abc")), b"\x00\x82\x00\xff", Stands(4),
+            Assigned(Bytes(b"\x00\xff"));
         // tails
-        Row {
-            part: Part::Whole,
-            kind: Kind::Unicode,
-            presence: Presence::Mandatory,
-            operator: Operator::Tail,
-            before: Kept::Assigned(Value::Unicode("üab")),
-            bytes: &[0, 0x81, 0x63],
-            judged: Judged::Stands(3),
-            after: Kept::Assigned(Value::Unicode("üac")),
-        },
+        Whole, Kind::Unicode, Mandatory, Operator::Tail, Assigned(Unicode("üab")), b"\x00\x81\x63", Stands(3),
+            Assigned(Unicode("üac"));
         // of an empty entry it is the whole value
-        Row {
-            part: Part::Whole,
-            kind: Kind::Unicode,
-            presence: Presence::Optional,
-            operator: Operator::Tail,
-            before: Kept::Empty,
-            bytes: &[0, 0x83, 0xc3, 0xbc],
-            judged: Judged::Stands(4),
-            after: Kept::Assigned(Value::Unicode("ü")),
-        },
+        Whole, Kind::Unicode, Optional, Operator::Tail, Empty, b"\x00\x83\xc3\xbc", Stands(4), Assigned(Unicode("ü"));
         // all of the base is replaced
-        Row {
-            part: Part::Whole,
-            kind: Kind::Bytes,
-            presence: Presence::Optional,
-            operator: Operator::Tail,
-            before: Kept::Assigned(Value::Bytes(b"ab")),
-            bytes: &[0, 0x83, 0x63, 0x62],
-            judged: Judged::Stands(4),
-            after: Kept::Assigned(Value::Bytes(b"cb")),
-        },
+        Whole, Kind::Bytes, Optional, Operator::Tail, Assigned(Bytes(b"ab")), b"\x00\x83\x63\x62", Stands(4),
+            Assigned(Bytes(b"cb"));
         // differences
-        Row {
-            part: Part::Whole,
-            kind: Kind::Bytes,
-            presence: Presence::Mandatory,
-            operator: Operator::Delta,
-            before: Kept::Assigned(Value::Bytes(b"ESM6")),
-            bytes: &[0, 0x81, 0x81, 0x37],
-            judged: Judged::Stands(4),
-            after: Kept::Assigned(Value::Bytes(b"ESM7")),
-        },
+        Whole, Kind::Bytes, Mandatory, Operator::Delta, Assigned(Bytes(b"ESM6")), b"\x00\x81\x81\x37", Stands(4),
+            Assigned(Bytes(b"ESM7"));
         // a nullable subtraction length; more is put behind
-        Row {
-            part: Part::Whole,
-            kind: Kind::Unicode,
-            presence: Presence::Optional,
-            operator: Operator::Delta,
-            before: Kept::Assigned(Value::Unicode("ab")),
-            bytes: &[0, 0x81, 0x82, 0xc3, 0xbc],
-            judged: Judged::Stands(5),
-            after: Kept::Assigned(Value::Unicode("abü")),
-        },
+        Whole, Kind::Unicode, Optional, Operator::Delta, Assigned(Unicode("ab")), b"\x00\x81\x82\xc3\xbc", Stands(5),
+            Assigned(Unicode("abü"));
         // the same end, and as short a removal
-        Row {
-            part: Part::Whole,
-            kind: Kind::Bytes,
-            presence: Presence::Mandatory,
-            operator: Operator::Delta,
-            before: Kept::Assigned(Value::Bytes(b"0012")),
-            bytes: &[0, 0x82, 0x82, 0x32, 0x32],
-            judged: Judged::Stands(5),
-            after: Kept::Assigned(Value::Bytes(b"0022")),
-        },
+        Whole, Kind::Bytes, Mandatory, Operator::Delta, Assigned(Bytes(b"0012")), b"\x00\x82\x82\x32\x32", Stands(5),
+            Assigned(Bytes(b"0022"));
         // what bit 0 gives
-        Row {
-            part: Part::Whole,
-            kind: Kind::Unicode,
-            presence: Presence::Mandatory,
-            operator: Operator::Copy,
-            before: Kept::Assigned(Value::Unicode("ü")),
-            bytes: &[0, 0x82, 0xc3, 0xbc],
-            judged: Judged::Given(4),
-            after: Kept::Assigned(Value::Unicode("ü")),
-        },
-    ];
+        Whole, Kind::Unicode, Mandatory, Operator::Copy, Assigned(Unicode("ü")), b"\x00\x82\xc3\xbc", Given(4),
+            Assigned(Unicode("ü"));
+    };
     all_judged(&rt, rt.alloc(), JUDGED)
 }
 
 #[test]
-fn texts_and_vectors_that_are_not_judged(rt: HostRuntime) -> Result<(), AllocError> {
-    const OTHERS: &[Row] = &[
+fn texts_and_vectors_that_are_not_judged(rt: HostRuntime) -> Tried {
+    const OTHERS: &[Row] = rows! {
+        Row { part, kind, presence, operator, before, bytes, judged, after }:
         // of another type is what the entry has
-        Row {
-            part: Part::Whole,
-            kind: Kind::Bytes,
-            presence: Presence::Optional,
-            operator: Operator::Copy,
-            before: Kept::Assigned(Value::Unicode("ab")),
-            bytes: &[0, 0x83, 0x61, 0x63],
-            judged: Judged::Elsewhere,
-            after: Kept::Assigned(Value::Unicode("ab")),
-        },
+        Whole, Kind::Bytes, Optional, Operator::Copy, Assigned(Unicode("ab")), b"\x00\x83\x61\x63", Elsewhere,
+            Assigned(Unicode("ab"));
         // a tail that is longer than need be
-        Row {
-            part: Part::Whole,
-            kind: Kind::Unicode,
-            presence: Presence::Mandatory,
-            operator: Operator::Tail,
-            before: Kept::Assigned(Value::Unicode("üab")),
-            bytes: &[0, 0x82, 0x61, 0x63],
-            judged: Judged::Elsewhere,
-            after: Kept::Assigned(Value::Unicode("üab")),
-        },
+        Whole, Kind::Unicode, Mandatory, Operator::Tail, Assigned(Unicode("üab")), b"\x00\x82\x61\x63", Elsewhere,
+            Assigned(Unicode("üab"));
         // a tail that begins within a character
-        Row {
-            part: Part::Whole,
-            kind: Kind::Unicode,
-            presence: Presence::Mandatory,
-            operator: Operator::Tail,
-            before: Kept::Assigned(Value::Unicode("xü")),
-            bytes: &[0, 0x81, 0xb6],
-            judged: Judged::Elsewhere,
-            after: Kept::Assigned(Value::Unicode("xü")),
-        },
+        Whole, Kind::Unicode, Mandatory, Operator::Tail, Assigned(Unicode("xü")), b"\x00\x81\xb6", Elsewhere,
+            Assigned(Unicode("xü"));
         // of what is removed the first byte is put there again
-        Row {
-            part: Part::Whole,
-            kind: Kind::Unicode,
-            presence: Presence::Optional,
-            operator: Operator::Delta,
-            before: Kept::Assigned(Value::Unicode("abü")),
-            bytes: &[0, 0x83, 0x82, 0xc3, 0xb6],
-            judged: Judged::Elsewhere,
-            after: Kept::Assigned(Value::Unicode("abü")),
-        },
+        Whole, Kind::Unicode, Optional, Operator::Delta, Assigned(Unicode("abü")), b"\x00\x83\x82\xc3\xb6", Elsewhere,
+            Assigned(Unicode("abü"));
         // the same end: removed in front are fewer
-        Row {
-            part: Part::Whole,
-            kind: Kind::Bytes,
-            presence: Presence::Mandatory,
-            operator: Operator::Delta,
-            before: Kept::Assigned(Value::Bytes(b"ESM6")),
-            bytes: &[0, 0x84, 0x84, 0x58, 0x53, 0x4d, 0x36],
-            judged: Judged::Elsewhere,
-            after: Kept::Assigned(Value::Bytes(b"ESM6")),
-        },
+        Whole, Kind::Bytes, Mandatory, Operator::Delta, Assigned(Bytes(b"ESM6")), b"\x00\x84\x84\x58\x53\x4d\x36",
+            Elsewhere, Assigned(Bytes(b"ESM6"));
         // no UTF-8
-        Row {
-            part: Part::Whole,
-            kind: Kind::Unicode,
-            presence: Presence::Mandatory,
-            operator: Operator::Copy,
-            before: Kept::Assigned(Value::Unicode("ü")),
-            bytes: &[0, 0x82, 0xc3, 0x28],
-            judged: Judged::Elsewhere,
-            after: Kept::Assigned(Value::Unicode("ü")),
-        },
+        Whole, Kind::Unicode, Mandatory, Operator::Copy, Assigned(Unicode("ü")), b"\x00\x82\xc3\x28", Elsewhere,
+            Assigned(Unicode("ü"));
         // fewer bytes than the length says
-        Row {
-            part: Part::Whole,
-            kind: Kind::Bytes,
-            presence: Presence::Mandatory,
-            operator: Operator::Plain,
-            before: Kept::Undefined,
-            bytes: &[0, 0x83, 0x00, 0xff],
-            judged: Judged::Elsewhere,
-            after: Kept::Undefined,
-        },
+        Whole, Kind::Bytes, Mandatory, Operator::Plain, Undefined, b"\x00\x83\x00\xff", Elsewhere, Undefined;
         // a length of 65,536
-        Row {
-            part: Part::Whole,
-            kind: Kind::Bytes,
-            presence: Presence::Mandatory,
-            operator: Operator::Plain,
-            before: Kept::Undefined,
-            bytes: &[0, 0x04, 0x00, 0x80],
-            judged: Judged::Elsewhere,
-            after: Kept::Undefined,
-        },
+        Whole, Kind::Bytes, Mandatory, Operator::Plain, Undefined, b"\x00\x04\x00\x80", Elsewhere, Undefined;
         // a tail that bit 0 gives
-        Row {
-            part: Part::Whole,
-            kind: Kind::Bytes,
-            presence: Presence::Mandatory,
-            operator: Operator::Tail,
-            before: Kept::Assigned(Value::Bytes(b"ab")),
-            bytes: &[0, 0x81, 0x62],
-            judged: Judged::Elsewhere,
-            after: Kept::Assigned(Value::Bytes(b"ab")),
-        },
+        Whole, Kind::Bytes, Mandatory, Operator::Tail, Assigned(Bytes(b"ab")), b"\x00\x81\x62", Elsewhere,
+            Assigned(Bytes(b"ab"));
         // no UTF-8
-        Row {
-            part: Part::Whole,
-            kind: Kind::Unicode,
-            presence: Presence::Mandatory,
-            operator: Operator::Tail,
-            before: Kept::Assigned(Value::Unicode("xü")),
-            bytes: &[0, 0x81, 0x28],
-            judged: Judged::Elsewhere,
-            after: Kept::Assigned(Value::Unicode("xü")),
-        },
-        Row {
-            part: Part::Whole,
-            kind: Kind::Unicode,
-            presence: Presence::Mandatory,
-            operator: Operator::Tail,
-            before: Kept::Assigned(Value::Bytes(b"ab")),
-            bytes: &[0, 0x81, 0x63],
-            judged: Judged::Elsewhere,
-            after: Kept::Assigned(Value::Bytes(b"ab")),
-        },
+        Whole, Kind::Unicode, Mandatory, Operator::Tail, Assigned(Unicode("xü")), b"\x00\x81\x28", Elsewhere,
+            Assigned(Unicode("xü"));
+        Whole, Kind::Unicode, Mandatory, Operator::Tail, Assigned(Bytes(b"ab")), b"\x00\x81\x63", Elsewhere,
+            Assigned(Bytes(b"ab"));
         // more is removed than there is
-        Row {
-            part: Part::Whole,
-            kind: Kind::Bytes,
-            presence: Presence::Mandatory,
-            operator: Operator::Delta,
-            before: Kept::Assigned(Value::Bytes(b"ESM6")),
-            bytes: &[0, 0x85, 0x81, 0x37],
-            judged: Judged::Elsewhere,
-            after: Kept::Assigned(Value::Bytes(b"ESM6")),
-        },
+        Whole, Kind::Bytes, Mandatory, Operator::Delta, Assigned(Bytes(b"ESM6")), b"\x00\x85\x81\x37", Elsewhere,
+            Assigned(Bytes(b"ESM6"));
         // no UTF-8
-        Row {
-            part: Part::Whole,
-            kind: Kind::Unicode,
-            presence: Presence::Mandatory,
-            operator: Operator::Delta,
-            before: Kept::Assigned(Value::Unicode("ü")),
-            bytes: &[0, 0x81, 0x81, 0x37],
-            judged: Judged::Elsewhere,
-            after: Kept::Assigned(Value::Unicode("ü")),
-        },
-        Row {
-            part: Part::Whole,
-            kind: Kind::Bytes,
-            presence: Presence::Mandatory,
-            operator: Operator::Delta,
-            before: Kept::Empty,
-            bytes: &[0, 0x80, 0x81, 0x37],
-            judged: Judged::Elsewhere,
-            after: Kept::Empty,
-        },
-    ];
+        Whole, Kind::Unicode, Mandatory, Operator::Delta, Assigned(Unicode("ü")), b"\x00\x81\x81\x37", Elsewhere,
+            Assigned(Unicode("ü"));
+        Whole, Kind::Bytes, Mandatory, Operator::Delta, Empty, b"\x00\x80\x81\x37", Elsewhere, Empty;
+    };
     all_judged(&rt, rt.alloc(), OTHERS)
 }

@@ -24,7 +24,7 @@ use template_tests::generated::{Numbers, put_sent};
 const FIELDS: u32 = 96;
 
 // A field behind one byte, and bytes behind it.
-fn generated(
+pub(crate) fn generated(
     alloc: Global,
     instr: &FieldPart,
     bit: bool,
@@ -51,7 +51,7 @@ fn is_initial(instr: &FieldPart, initial: &Initial) -> bool
 }
 
 // Whether an operator wants an initial value.
-fn needs_initial(operator: Operator, presence: Presence) -> bool
+pub(crate) fn needs_initial(operator: Operator, presence: Presence) -> bool
     ensures constant { result ≡ false → operator ≡ operator_type.Constant → ⊥ }
     ensures default { result ≡ false → operator ≡ operator_type.Default → presence ≡ Mandatory → ⊥ }
 {

@@ -10,16 +10,21 @@ ghost use Rattle.fast_field.specs.Found.{CanLie};
 ghost use Rattle.fast_field.specs.Parts.{IsFieldPart};
 ghost use Rattle.fast_field.specs.Within.{HoldsScalar};
 
+use self::Before::{Empty, LongNumber, Number, Price, Text, Undefined};
+use crate::fields::Value::{Ascii, Bytes, Decimal, I32, Letters, U32, U64, Unicode, Wide};
 use crate::fields::{Value, ascii, field, part_of};
 use crate::same::same;
 use fast_dictionary::{Entry, EntryRef};
+use fast_field::FieldRefusal::{D3, D4, D6, Limit, Mismatch, NotConstant, R1, TooShort};
 use fast_field::{
     FieldFault, FieldRefusal, Found, Level, Plan, next_entry, plan_field, read_field, write_field,
     write_found, write_in_place,
 };
+use fast_template::Presence::{Mandatory, Optional};
 use fast_template::{FieldPart, Kind, Operator, Part, Presence, Scalar};
 use std::alloc::{AllocError, Global};
 use std::process::Abort;
+use test_rows::{Tried, rows};
 
 // A number with an initial value.
 fn number_with(
@@ -27,7 +32,7 @@ fn number_with(
     presence: Presence,
     operator: Operator,
     number: u32,
-) -> Result<FieldPart, AllocError>
+) -> Tried<FieldPart>
     requires { IsTrue (applies operator kind.UInt32) }
     ensures { IfOk result IsFieldPart }
 {
@@ -43,7 +48,7 @@ fn number_with(
 }
 
 // A constant exponent of a decimal in parts.
-fn fixed_exponent(alloc: Global) -> Result<FieldPart, AllocError>
+fn fixed_exponent(alloc: Global) -> Tried<FieldPart>
     ensures { IfOk result IsFieldPart }
 {
     let initial = Some(Scalar::I32(-2));
@@ -58,7 +63,7 @@ fn fixed_exponent(alloc: Global) -> Result<FieldPart, AllocError>
 }
 
 // These characters, or none if they are not of ASCII.
-fn checked_text(alloc: Global, text: &[u8]) -> Result<Option<Scalar>, AllocError>
+fn checked_text(alloc: Global, text: &[u8]) -> Tried<Option<Scalar>>
     ensures { IfOk result (λ v. IfSome v (λ v. IsTrue (is_of kind.Ascii v) × IsScalar v)) }
 {
     if text.len() > 65_535 || !text.is_ascii() {
@@ -68,7 +73,7 @@ fn checked_text(alloc: Global, text: &[u8]) -> Result<Option<Scalar>, AllocError
 }
 
 // An optional ASCII tail whose initial value is "ab".
-fn tail_of_ab(alloc: Global) -> Result<FieldPart, AllocError>
+fn tail_of_ab(alloc: Global) -> Tried<FieldPart>
     ensures { IfOk result IsFieldPart }
 {
     let initial = checked_text(alloc, b"ab")?;
@@ -83,7 +88,7 @@ fn tail_of_ab(alloc: Global) -> Result<FieldPart, AllocError>
 }
 
 // An entry with these characters.
-fn text_entry(alloc: Global, text: &[u8]) -> Result<Entry, AllocError>
+fn text_entry(alloc: Global, text: &[u8]) -> Tried<Entry>
     ensures { IfOk result HoldsScalar }
 {
     match checked_text(alloc, text)? {
@@ -109,7 +114,7 @@ enum Of {
 }
 
 impl Of {
-    fn part(self, alloc: Global) -> Result<FieldPart, AllocError>
+    fn part(self, alloc: Global) -> Tried<FieldPart>
         ensures { IfOk result IsFieldPart }
     {
         match self {
@@ -149,7 +154,7 @@ enum Before {
 }
 
 impl Before {
-    fn entry(self, alloc: Global) -> Result<Entry, AllocError>
+    fn entry(self, alloc: Global) -> Tried<Entry>
         ensures { IfOk result HoldsScalar }
     {
         match self {
@@ -169,7 +174,7 @@ impl Before {
     }
 }
 
-fn value_of(alloc: Global, value: Option<Value>) -> Result<Option<Scalar>, AllocError> {
+fn value_of(alloc: Global, value: Option<Value>) -> Tried<Option<Scalar>> {
     match value {
         None => Ok(None),
         Some(value) => Ok(Some(value.scalar(alloc)?)),
@@ -199,7 +204,7 @@ fn appended(
     entry: EntryRef,
     value: Option<&Scalar>,
     bytes: &[u8],
-) -> Result<(), AllocError>
+) -> Tried
     requires part { IsFieldPart instr.now }
     requires entry { HoldsScalar (entry_of entry) }
 {
@@ -217,7 +222,7 @@ fn appended(
 }
 
 // Refused memory ends a test.
-fn granted(is_refused: bool) -> Result<(), AllocError> {
+fn granted(is_refused: bool) -> Tried {
     if is_refused {
         return Err(AllocError);
     }
@@ -255,7 +260,7 @@ fn put_in_place(
     before: &Entry,
     value: Option<&Scalar>,
     front: Vec<u8>,
-) -> Result<Answer, AllocError>
+) -> Tried<Answer>
     requires part { IsFieldPart instr.now }
     requires entry { HoldsScalar before.now }
 {
@@ -285,7 +290,7 @@ fn written_in_place(
     entry: &Entry,
     value: Option<&Scalar>,
     wanted: (bool, &[u8], &Entry),
-) -> Result<(), AllocError>
+) -> Tried
     requires part { IsFieldPart instr.now }
     requires entry { HoldsScalar entry.now }
 {
@@ -296,7 +301,7 @@ fn written_in_place(
 }
 
 // A copy of a value, or none, as what was found.
-fn found(alloc: Global, value: Option<&Scalar>) -> Result<Found, AllocError>
+fn found(alloc: Global, value: Option<&Scalar>) -> Tried<Found>
     ensures { IfOk result (λ f. (e : entry.Entry) → CanLie e f) }
 {
     match value {
@@ -311,7 +316,7 @@ fn put_where_found(
     instr: &FieldPart,
     entry: &Entry,
     value: Option<&Scalar>,
-) -> Result<Answer, AllocError>
+) -> Tried<Answer>
     requires part { IsFieldPart instr.now }
     requires entry { HoldsScalar entry.now }
 {
@@ -339,7 +344,7 @@ fn written_where_found(
     entry: &Entry,
     value: Option<&Scalar>,
     wanted: (bool, &[u8], &Entry),
-) -> Result<(), AllocError>
+) -> Tried
     requires part { IsFieldPart instr.now }
     requires entry { HoldsScalar entry.now }
 {
@@ -361,7 +366,7 @@ fn written_by_each(
     value: Option<&Scalar>,
     bit: bool,
     bytes: &[u8],
-) -> Result<(), AllocError>
+) -> Tried
     requires part { IsFieldPart instr.now }
     requires entry { HoldsScalar entry.now }
 {
@@ -382,7 +387,7 @@ fn not_appended(
     entry: EntryRef,
     value: Option<&Scalar>,
     refusal: FieldRefusal,
-) -> Result<(), AllocError>
+) -> Tried
     requires part { IsFieldPart instr.now }
     requires entry { HoldsScalar (entry_of entry) }
 {
@@ -401,7 +406,7 @@ fn not_in_place(
     entry: &Entry,
     value: Option<&Scalar>,
     refusal: FieldRefusal,
-) -> Result<(), AllocError>
+) -> Tried
     requires part { IsFieldPart instr.now }
     requires entry { HoldsScalar entry.now }
 {
@@ -419,7 +424,7 @@ fn refused_by_each(
     entry: &Entry,
     value: Option<&Scalar>,
     refusal: FieldRefusal,
-) -> Result<(), AllocError>
+) -> Tried
     requires part { IsFieldPart instr.now }
     requires entry { HoldsScalar entry.now }
 {
@@ -436,7 +441,7 @@ struct Row {
     answer: Result<(bool, &'static [u8]), FieldRefusal>,
 }
 
-fn is_answered(rt: &impl Abort, alloc: Global, row: &Row) -> Result<(), AllocError> {
+fn is_answered(rt: &impl Abort, alloc: Global, row: &Row) -> Tried {
     let instr = row.of.part(alloc)?;
     let entry = row.before.entry(alloc)?;
     let value = value_of(alloc, row.value)?;
@@ -449,206 +454,60 @@ fn is_answered(rt: &impl Abort, alloc: Global, row: &Row) -> Result<(), AllocErr
 }
 
 #[test]
-fn fields_that_are_written(rt: HostRuntime) -> Result<(), AllocError> {
-    const ROWS: &[Row] = &[
+fn fields_that_are_written(rt: HostRuntime) -> Tried {
+    const ROWS: &[Row] = rows! { Row { of, before, value, answer }:
         // constants
-        Row {
-            of: Of::Constant(Presence::Mandatory, 7),
-            before: Before::Undefined,
-            value: Some(Value::U32(7)),
-            answer: Ok((true, &[])),
-        },
-        Row {
-            of: Of::Constant(Presence::Optional, 9),
-            before: Before::Undefined,
-            value: None,
-            answer: Ok((false, &[])),
-        },
-        Row {
-            of: Of::Constant(Presence::Optional, 9),
-            before: Before::Undefined,
-            value: Some(Value::U32(9)),
-            answer: Ok((true, &[])),
-        },
-        Row {
-            of: Of::Constant(Presence::Mandatory, 7),
-            before: Before::Undefined,
-            value: Some(Value::U32(8)),
-            answer: Err(FieldRefusal::NotConstant),
-        },
-        Row {
-            of: Of::Constant(Presence::Mandatory, 7),
-            before: Before::Undefined,
-            value: None,
-            answer: Err(FieldRefusal::Mismatch),
-        },
-        Row {
-            of: Of::FixedExponent,
-            before: Before::Undefined,
-            value: Some(Value::I32(-1)),
-            answer: Err(FieldRefusal::D3),
-        },
+        Of::Constant(Mandatory, 7), Undefined, Some(U32(7)), Ok((true, b""));
+        Of::Constant(Optional, 9), Undefined, None, Ok((false, b""));
+        Of::Constant(Optional, 9), Undefined, Some(U32(9)), Ok((true, b""));
+        Of::Constant(Mandatory, 7), Undefined, Some(U32(8)), Err(NotConstant);
+        Of::Constant(Mandatory, 7), Undefined, None, Err(Mismatch);
+        Of::FixedExponent, Undefined, Some(I32(-1)), Err(D3);
         // defaults
-        Row {
-            of: Of::Default(Presence::Optional, 3),
-            before: Before::Undefined,
-            value: Some(Value::U32(3)),
-            answer: Ok((false, &[])),
-        },
-        Row {
-            of: Of::Default(Presence::Optional, 3),
-            before: Before::Undefined,
-            value: None,
-            answer: Ok((true, &[0x80])),
-        },
-        Row {
-            of: Of::Default(Presence::Optional, 3),
-            before: Before::Undefined,
-            value: Some(Value::U32(4)),
-            answer: Ok((true, &[0x85])),
-        },
+        Of::Default(Optional, 3), Undefined, Some(U32(3)), Ok((false, b""));
+        Of::Default(Optional, 3), Undefined, None, Ok((true, b"\x80"));
+        Of::Default(Optional, 3), Undefined, Some(U32(4)), Ok((true, b"\x85"));
         // copies
-        Row {
-            of: Of::Copy(Kind::Ascii, Presence::Mandatory),
-            before: Before::Text(b"AB"),
-            value: Some(Value::Ascii(b"AB")),
-            answer: Ok((false, &[])),
-        },
-        Row {
-            of: Of::Copy(Kind::Ascii, Presence::Mandatory),
-            before: Before::Text(b"AB"),
-            value: Some(Value::Ascii(b"C")),
-            answer: Ok((true, &[0xc3])),
-        },
-        Row {
-            of: Of::Copy(Kind::Bytes, Presence::Mandatory),
-            before: Before::Undefined,
-            value: Some(Value::Bytes(b"")),
-            answer: Ok((true, &[0x80])),
-        },
+        Of::Copy(Kind::Ascii, Mandatory), Text(b"AB"), Some(Ascii(b"AB")), Ok((false, b""));
+        Of::Copy(Kind::Ascii, Mandatory), Text(b"AB"), Some(Ascii(b"C")), Ok((true, b"\xc3"));
+        Of::Copy(Kind::Bytes, Mandatory), Undefined, Some(Bytes(b"")), Ok((true, b"\x80"));
         // increments
-        Row {
-            of: Of::Increment(Presence::Mandatory),
-            before: Before::Number(1),
-            value: Some(Value::U32(2)),
-            answer: Ok((false, &[])),
-        },
-        Row {
-            of: Of::Increment(Presence::Mandatory),
-            before: Before::Number(u32::MAX),
-            value: Some(Value::U32(0)),
-            answer: Ok((false, &[])),
-        },
-        Row {
-            of: Of::Increment(Presence::Mandatory),
-            before: Before::Number(1),
-            value: Some(Value::U32(3)),
-            answer: Ok((true, &[0x83])),
-        },
+        Of::Increment(Mandatory), Number(1), Some(U32(2)), Ok((false, b""));
+        Of::Increment(Mandatory), Number(u32::MAX), Some(U32(0)), Ok((false, b""));
+        Of::Increment(Mandatory), Number(1), Some(U32(3)), Ok((true, b"\x83"));
         // deltas of numbers: a difference of 65 bits
-        Row {
-            of: Of::Delta(Kind::UInt64, Presence::Optional),
-            before: Before::LongNumber(u64::MAX),
-            value: Some(Value::U64(0)),
-            answer: Ok((
-                true,
-                &[0x7e, 0x00, 0x00, 0x00, 0x00, 0x00, 0x00, 0x00, 0x00, 0x81],
-            )),
-        },
-        Row {
-            of: Of::Delta(Kind::UInt64, Presence::Optional),
-            before: Before::Empty,
-            value: None,
-            answer: Ok((true, &[0x80])),
-        },
-        Row {
-            of: Of::Delta(Kind::Decimal, Presence::Mandatory),
-            before: Before::Price,
-            value: Some(Value::Decimal(-1, 5)),
-            answer: Ok((true, &[0x81, 0xfe])),
-        },
+        Of::Delta(Kind::UInt64, Optional), LongNumber(u64::MAX), Some(U64(0)),
+            Ok((true, b"\x7e\x00\x00\x00\x00\x00\x00\x00\x00\x81"));
+        Of::Delta(Kind::UInt64, Optional), Empty, None, Ok((true, b"\x80"));
+        Of::Delta(Kind::Decimal, Mandatory), Price, Some(Decimal(-1, 5)), Ok((true, b"\x81\xfe"));
         // an exponent out of its range
-        Row {
-            of: Of::Delta(Kind::Decimal, Presence::Mandatory),
-            before: Before::Undefined,
-            value: Some(Value::Decimal(64, 1)),
-            answer: Err(FieldRefusal::R1),
-        },
+        Of::Delta(Kind::Decimal, Mandatory), Undefined, Some(Decimal(64, 1)), Err(R1);
         // fewer bytes with removal in front
-        Row {
-            of: Of::Delta(Kind::Ascii, Presence::Mandatory),
-            before: Before::Text(b"GEM6"),
-            value: Some(Value::Ascii(b"ESM6")),
-            answer: Ok((true, &[0xfd, 0x45, 0xd3])),
-        },
+        Of::Delta(Kind::Ascii, Mandatory), Text(b"GEM6"), Some(Ascii(b"ESM6")), Ok((true, b"\xfd\x45\xd3"));
         // as many bytes on both sides: removal at the end
-        Row {
-            of: Of::Delta(Kind::Ascii, Presence::Mandatory),
-            before: Before::Text(b"ESM6"),
-            value: Some(Value::Ascii(b"ESM6")),
-            answer: Ok((true, &[0x80, 0x80])),
-        },
+        Of::Delta(Kind::Ascii, Mandatory), Text(b"ESM6"), Some(Ascii(b"ESM6")), Ok((true, b"\x80\x80"));
         // a character beyond ASCII
-        Row {
-            of: Of::Delta(Kind::Ascii, Presence::Mandatory),
-            before: Before::Text(b"A"),
-            value: Some(Value::Ascii(b"A\x80")),
-            answer: Err(FieldRefusal::Mismatch),
-        },
+        Of::Delta(Kind::Ascii, Mandatory), Text(b"A"), Some(Ascii(b"A\x80")), Err(Mismatch);
+        // too many characters, and another type or a character beyond ASCII, which comes first
+        Of::Copy(Kind::Unicode, Mandatory), Undefined, Some(Letters(65_536)), Err(Limit);
+        Of::Copy(Kind::Ascii, Mandatory), Undefined, Some(Letters(65_536)), Err(Mismatch);
+        Of::Copy(Kind::UInt32, Optional), Undefined, Some(Letters(65_536)), Err(Mismatch);
+        Of::Copy(Kind::Ascii, Mandatory), Undefined, Some(Wide(65_536)), Err(Mismatch);
+        Of::Delta(Kind::Ascii, Mandatory), Empty, Some(Wide(65_536)), Err(Mismatch);
         // a delta on an empty entry
-        Row {
-            of: Of::Delta(Kind::Ascii, Presence::Mandatory),
-            before: Before::Empty,
-            value: Some(Value::Ascii(b"A")),
-            answer: Err(FieldRefusal::D6),
-        },
+        Of::Delta(Kind::Ascii, Mandatory), Empty, Some(Ascii(b"A")), Err(D6);
         // the shortest tail begins with NUL, and would have four bytes
-        Row {
-            of: Of::AsciiTail(Presence::Optional),
-            before: Before::Text(b"xab"),
-            value: Some(Value::Ascii(b"x\0b")),
-            answer: Ok((true, &[0x78, 0x00, 0xe2])),
-        },
-        Row {
-            of: Of::AsciiTail(Presence::Optional),
-            before: Before::Text(b"xab"),
-            value: Some(Value::Ascii(b"xab")),
-            answer: Ok((false, &[])),
-        },
-        Row {
-            of: Of::AsciiTail(Presence::Optional),
-            before: Before::Text(b"xab"),
-            value: None,
-            answer: Ok((true, &[0x80])),
-        },
-        Row {
-            of: Of::AsciiTail(Presence::Optional),
-            before: Before::Text(b"xab"),
-            value: Some(Value::Ascii(b"x")),
-            answer: Err(FieldRefusal::TooShort),
-        },
+        Of::AsciiTail(Optional), Text(b"xab"), Some(Ascii(b"x\0b")), Ok((true, b"\x78\x00\xe2"));
+        Of::AsciiTail(Optional), Text(b"xab"), Some(Ascii(b"xab")), Ok((false, b""));
+        Of::AsciiTail(Optional), Text(b"xab"), None, Ok((true, b"\x80"));
+        Of::AsciiTail(Optional), Text(b"xab"), Some(Ascii(b"x")), Err(TooShort);
         // a tail on another type
-        Row {
-            of: Of::UnicodeTail(Presence::Mandatory),
-            before: Before::Text(b"xab"),
-            value: Some(Value::Unicode("é")),
-            answer: Err(FieldRefusal::D4),
-        },
+        Of::UnicodeTail(Mandatory), Text(b"xab"), Some(Unicode("é")), Err(D4);
         // tails of an initial value: the shortest one is empty, and would have two bytes
-        Row {
-            of: Of::TailOfAb,
-            before: Before::Empty,
-            value: Some(Value::Ascii(b"ab")),
-            answer: Ok((true, &[0xe2])),
-        },
+        Of::TailOfAb, Empty, Some(Ascii(b"ab")), Ok((true, b"\xe2"));
         // a longer value stands whole
-        Row {
-            of: Of::TailOfAb,
-            before: Before::Empty,
-            value: Some(Value::Ascii(b"abc")),
-            answer: Ok((true, &[0x61, 0x62, 0xe3])),
-        },
-    ];
+        Of::TailOfAb, Empty, Some(Ascii(b"abc")), Ok((true, b"\x61\x62\xe3"));
+    };
     for row in ROWS {
         is_answered(&rt, rt.alloc(), row)?;
     }
@@ -656,7 +515,7 @@ fn fields_that_are_written(rt: HostRuntime) -> Result<(), AllocError> {
 }
 
 // A text of so many letters and one more is planned and written by each call and read back.
-fn goes_round(rt: &impl Abort, alloc: Global, count: usize) -> Result<(), AllocError> {
+fn goes_round(rt: &impl Abort, alloc: Global, count: usize) -> Tried {
     let mut bytes = vec![in alloc; 0x41; count]?;
     bytes.push(0x41)?;
     let value = ascii(alloc, &bytes)?;
@@ -683,7 +542,7 @@ fn is_read_back(
     instr: &FieldPart,
     bytes: &[u8],
     value: Scalar,
-) -> Result<(), AllocError>
+) -> Tried
     requires { IsFieldPart instr.now }
 {
     match read_field(
@@ -710,7 +569,7 @@ fn is_read_back(
 
 // Longer than a page of memory, and as long as may be.
 #[test]
-fn long_texts(rt: HostRuntime) -> Result<(), AllocError> {
+fn long_texts(rt: HostRuntime) -> Tried {
     goes_round(&rt, rt.alloc(), 4_096)?;
     goes_round(&rt, rt.alloc(), 65_534)
 }

@@ -1,5 +1,6 @@
 //! Messages that are encoded, and streams that are read and written at once.
 
+mod extremes;
 mod messages;
 mod relaying;
 mod ways;

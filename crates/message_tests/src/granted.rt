@@ -3,9 +3,10 @@
 
 use fast_stream::{Cause, Fault};
 use std::alloc::AllocError;
+use test_rows::Tried;
 
 /// The fault that a decoder answers, or none, where memory was not refused.
-pub(crate) fn granted(fault: Option<Fault>) -> Result<Option<Fault>, AllocError> {
+pub(crate) fn granted(fault: Option<Fault>) -> Tried<Option<Fault>> {
     match fault {
         Some(
             Fault {

@@ -4,12 +4,13 @@ use crate::runs::{Call, Given, counted, gives, loaded, refused, usually};
 use fast_recording::PacketMode;
 use fast_stream::Cause;
 use fast_wire::Level;
-use std::alloc::{AllocError, Global};
+use std::alloc::Global;
 use template_tests::texts::WORKED;
+use test_rows::Tried;
 
 // A recording is its own canonical one at the strict level: here of quotes, a tail and a sequence.
 #[test]
-fn canonical_recordings_stay(rt: HostRuntime) -> Result<(), AllocError> {
+fn canonical_recordings_stay(rt: HostRuntime) -> Tried {
     const CANONICAL: &[u8] =
         b"\x8b\xf0\x81\x81\x41\xc2\xfe\x00\xe4\x80\x80\x81\x88\xe0\x88\x41\x42\x43\x44\x45\xc6\x84\xe0\x88\x58\xd9\x83\xc0\x84\x80";
     let set = loaded(&rt, rt.alloc(), WORKED)?;
@@ -37,7 +38,7 @@ fn canonical_recordings_stay(rt: HostRuntime) -> Result<(), AllocError> {
 }
 
 // A packet of messages of two bytes behind one of three, behind its size.
-fn long(alloc: Global, size: &[u8], messages: usize) -> Result<Vec<u8>, AllocError> {
+fn long(alloc: Global, size: &[u8], messages: usize) -> Tried<Vec<u8>> {
     let mut bytes = Vec::new(alloc);
     bytes.extend_from_slice(size)?;
     bytes.extend_from_slice(b"\xc0\x84\x80")?;
@@ -48,7 +49,7 @@ fn long(alloc: Global, size: &[u8], messages: usize) -> Result<Vec<u8>, AllocErr
 }
 
 #[test]
-fn the_longest_packet(rt: HostRuntime) -> Result<(), AllocError> {
+fn the_longest_packet(rt: HostRuntime) -> Tried {
     let set = loaded(&rt, rt.alloc(), WORKED)?;
     let alloc = rt.alloc();
     let bytes = long(alloc, b"\x03\x7f\xff", 32_767)?;

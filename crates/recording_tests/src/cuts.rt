@@ -3,13 +3,14 @@
 use crate::runs::{Call, Given, counted, gives, loaded, refused, usually};
 use fast_stream::{Cause, Fault};
 use fast_template::TemplateSet;
-use std::alloc::{AllocError, Global};
+use std::alloc::Global;
 use std::process::Abort;
 use stream_rows::cuts::{CUTS, Cut, Front};
 use template_tests::texts::WORKED;
+use test_rows::Tried;
 
 // A packet of so many bytes, of which these have come.
-fn packet(alloc: Global, size: usize, stream: &[u8]) -> Result<Vec<u8>, AllocError> {
+fn packet(alloc: Global, size: usize, stream: &[u8]) -> Tried<Vec<u8>> {
     let mut bytes = Vec::new(alloc);
     bytes.push(0x80 | (size % 128) as u8)?;
     bytes.extend_from_slice(stream)?;
@@ -51,7 +52,7 @@ fn is_cut(
     cut: &Cut,
     count: usize,
     step: usize,
-) -> Result<(), AllocError> {
+) -> Tried {
     let front = cut.front(count);
     let stream = &cut.stream[..count.min(cut.stream.len())];
     let lines = &cut.lines.as_bytes()[..front.line_bytes.min(cut.lines.len())];
@@ -139,7 +140,7 @@ fn is_cut(
 }
 
 #[test]
-fn each_cut_of_each_stream(rt: HostRuntime) -> Result<(), AllocError> {
+fn each_cut_of_each_stream(rt: HostRuntime) -> Tried {
     let set = loaded(&rt, rt.alloc(), WORKED)?;
     for cut in CUTS {
         for count in 0..cut.stream.len() + 1 {
@@ -157,7 +158,7 @@ const TWO_CANONICAL: &[u8] =
     b"\x8b\xf0\x81\x81\x41\xc2\xfe\x00\xe4\x80\x80\x81\x88\xf0\x81\x81\x41\xc2\xfe\x00\xe4";
 
 #[test]
-fn reads_of_each_length(rt: HostRuntime) -> Result<(), AllocError> {
+fn reads_of_each_length(rt: HostRuntime) -> Tried {
     let set = loaded(&rt, rt.alloc(), WORKED)?;
     for step in 1..TWO.len() + 1 {
         let given = Given {
@@ -180,7 +181,7 @@ fn reads_of_each_length(rt: HostRuntime) -> Result<(), AllocError> {
 
 // Reads of one byte, of which one fails, or which are used up.
 #[test]
-fn devices_that_fail(rt: HostRuntime) -> Result<(), AllocError> {
+fn devices_that_fail(rt: HostRuntime) -> Tried {
     let set = loaded(&rt, rt.alloc(), WORKED)?;
     let line =
         b"1 Quote Seq=1 Sym=\"AB\" Px=100e-2 Qty=-\n1 Quote Seq=2 Sym=\"AB\" Px=101e-2 Qty=-\n";

@@ -4,8 +4,8 @@ use crate::runs::{Call, Given, counted, gives, loaded, refused, usually};
 use fast_recording::PacketMode;
 use fast_stream::Cause;
 use fast_wire::Level;
-use std::alloc::AllocError;
 use template_tests::texts::WORKED;
+use test_rows::{Tried, rows};
 
 const KEEPS_GOING: PacketMode = PacketMode {
     level: Level::Usual,
@@ -27,85 +27,29 @@ struct Row {
 }
 
 #[test]
-fn refused_packets_are_told(rt: HostRuntime) -> Result<(), AllocError> {
-    const ROWS: &[Row] = &[
-        Row {
-            bytes: b"\x88\xf0\x81\x81\x41\xc2\xfe\x00\xe4",
-            packets: 1,
-            refused: 0,
-            messages: 1,
-            read: 9,
-            canonical: 9,
-            quotes: 1,
-            told: "",
-        },
+fn refused_packets_are_told(rt: HostRuntime) -> Tried {
+    const ROWS: &[Row] = rows! {
+        Row { bytes, packets, refused, messages, read, canonical, quotes, told }:
+        b"\x88\xf0\x81\x81\x41\xc2\xfe\x00\xe4", 1, 0, 1, 9, 9, 1, "";
         // an unknown template between two quotes
-        Row {
-            bytes: b"\x88\xf0\x81\x81\x41\xc2\xfe\x00\xe4\x84\xc0\xff\x81\x82\x88\xf0\x81\x81\x41\xc2\xfe\x00\xe4",
-            packets: 3,
-            refused: 1,
-            messages: 2,
-            read: 23,
-            canonical: 18,
-            quotes: 2,
-            told: "refused D9 packet=2 message=1 offset=11 template=0 instruction=0\n",
-        },
+        b"\x88\xf0\x81\x81\x41\xc2\xfe\x00\xe4\x84\xc0\xff\x81\x82\x88\xf0\x81\x81\x41\xc2\xfe\x00\xe4", 3, 1, 2, 23,
+            18, 2, "refused D9 packet=2 message=1 offset=11 template=0 instruction=0\n";
         // a packet ends inside a message, and its entries are not those of the next one
-        Row {
-            bytes: b"\x8a\xf0\x81\x81\x41\xc2\xfe\x00\xe4\x80\x80\x83\x80\x80\x81\x88\xf0\x81\x81\x41\xc2\xfe\x00\xe4",
-            packets: 3,
-            refused: 2,
-            messages: 2,
-            read: 24,
-            canonical: 9,
-            quotes: 2,
-            told: "refused BlockEnd packet=1 message=2 offset=10 template=1 instruction=3\nrefused D5 packet=2 message=1 offset=13 template=0 instruction=0\n",
-        },
+        b"\x8a\xf0\x81\x81\x41\xc2\xfe\x00\xe4\x80\x80\x83\x80\x80\x81\x88\xf0\x81\x81\x41\xc2\xfe\x00\xe4", 3, 2, 2,
+            24, 9, 2,
+            "refused BlockEnd packet=1 message=2 offset=10 template=1 instruction=3\nrefused D5 packet=2 message=1 offset=13 template=0 instruction=0\n";
         // a size ends the run: behind it no packet is known
-        Row {
-            bytes: b"\x88\xf0\x81\x81\x41\xc2\xfe\x00\xe4\x80\x88\xf0\x81\x81\x41\xc2\xfe\x00\xe4",
-            packets: 2,
-            refused: 1,
-            messages: 1,
-            read: 9,
-            canonical: 9,
-            quotes: 1,
-            told: "refused D12 packet=2 message=1 offset=9 template=0 instruction=0\n",
-        },
+        b"\x88\xf0\x81\x81\x41\xc2\xfe\x00\xe4\x80\x88\xf0\x81\x81\x41\xc2\xfe\x00\xe4", 2, 1, 1, 9, 9, 1,
+            "refused D12 packet=2 message=1 offset=9 template=0 instruction=0\n";
         // a size that is not whole
-        Row {
-            bytes: b"\x88\xf0\x81\x81\x41\xc2\xfe\x00\xe4\x01",
-            packets: 2,
-            refused: 1,
-            messages: 1,
-            read: 9,
-            canonical: 9,
-            quotes: 1,
-            told: "refused Truncated packet=2 message=1 offset=9 template=0 instruction=0\n",
-        },
+        b"\x88\xf0\x81\x81\x41\xc2\xfe\x00\xe4\x01", 2, 1, 1, 9, 9, 1,
+            "refused Truncated packet=2 message=1 offset=9 template=0 instruction=0\n";
         // a packet that is not whole
-        Row {
-            bytes: b"\x90\xf0\x81\x81\x41\xc2\xfe\x00\xe4",
-            packets: 1,
-            refused: 1,
-            messages: 1,
-            read: 9,
-            canonical: 0,
-            quotes: 1,
-            told: "refused Truncated packet=1 message=2 offset=9 template=0 instruction=0\n",
-        },
+        b"\x90\xf0\x81\x81\x41\xc2\xfe\x00\xe4", 1, 1, 1, 9, 0, 1,
+            "refused Truncated packet=1 message=2 offset=9 template=0 instruction=0\n";
         // one that is not whole, and is refused for what has come of it
-        Row {
-            bytes: b"\x90\xc0\xff\x81",
-            packets: 1,
-            refused: 1,
-            messages: 0,
-            read: 4,
-            canonical: 0,
-            quotes: 0,
-            told: "refused D9 packet=1 message=1 offset=2 template=0 instruction=0\n",
-        },
-    ];
+        b"\x90\xc0\xff\x81", 1, 1, 0, 4, 0, 0, "refused D9 packet=1 message=1 offset=2 template=0 instruction=0\n";
+    };
     let alloc = rt.alloc();
     let set = loaded(&rt, alloc, WORKED)?;
     for row in ROWS {
@@ -142,7 +86,7 @@ fn refused_packets_are_told(rt: HostRuntime) -> Result<(), AllocError> {
 
 // A read that fails ends the run, behind what was told.
 #[test]
-fn devices_end_the_run(rt: HostRuntime) -> Result<(), AllocError> {
+fn devices_end_the_run(rt: HostRuntime) -> Tried {
     let alloc = rt.alloc();
     let set = loaded(&rt, alloc, WORKED)?;
     let bytes = b"\x82\xc0\xff\x88\xf0\x81\x81\x41\xc2\xfe\x00\xe4";
@@ -185,7 +129,7 @@ fn devices_end_the_run(rt: HostRuntime) -> Result<(), AllocError> {
 
 // A line of JSON says its packet first, also behind one that is refused.
 #[test]
-fn lines_of_json_say_their_packet(rt: HostRuntime) -> Result<(), AllocError> {
+fn lines_of_json_say_their_packet(rt: HostRuntime) -> Tried {
     let alloc = rt.alloc();
     let set = loaded(&rt, alloc, WORKED)?;
     let bytes =

@@ -2,9 +2,10 @@
 
 use crate::runs::{Call, counted, gives, loaded, usually};
 use fast_template::TemplateSet;
-use std::alloc::{AllocError, Global};
+use std::alloc::Global;
 use std::process::Abort;
 use template_tests::texts::WORKED;
+use test_rows::{Tried, rows};
 
 // A recording that is canonical itself, what it has and its lines.
 struct Row {
@@ -22,12 +23,7 @@ const TWO_TYPES: &str = r#"{"templates":[
 {"name":"Must","id":4,"instructions":[{"kind":"uInt32","name":"Seq","operator":"delta"}]}]}"#;
 
 // The row's recording through each call.
-fn all_accept(
-    rt: &impl Abort,
-    alloc: Global,
-    set: &TemplateSet,
-    rows: &[Row],
-) -> Result<(), AllocError> {
+fn all_accept(rt: &impl Abort, alloc: Global, set: &TemplateSet, rows: &[Row]) -> Tried {
     for row in rows {
         let given = usually(row.bytes);
         let read = row.bytes.len() as u64;
@@ -50,72 +46,36 @@ fn all_accept(
 }
 
 #[test]
-fn packets_are_read_from_undefined_entries(rt: HostRuntime) -> Result<(), AllocError> {
+fn packets_are_read_from_undefined_entries(rt: HostRuntime) -> Tried {
+    const ROWS: &[Row] = rows! { Row { bytes, packets, messages, lines }:
+        b"", 0, 0, "";
+        // one quote twice
+        b"\x88\xf0\x81\x81\x41\xc2\xfe\x00\xe4\x88\xf0\x81\x81\x41\xc2\xfe\x00\xe4", 2, 2,
+            "1 Quote Seq=1 Sym=\"AB\" Px=100e-2 Qty=-\n1 Quote Seq=1 Sym=\"AB\" Px=100e-2 Qty=-\n";
+        // two quotes, the second of which stands on the first
+        b"\x8b\xf0\x81\x81\x41\xc2\xfe\x00\xe4\x80\x80\x81\x88\xf0\x81\x81\x41\xc2\xfe\x00\xe4", 2, 3,
+            "1 Quote Seq=1 Sym=\"AB\" Px=100e-2 Qty=-\n1 Quote Seq=2 Sym=\"AB\" Px=101e-2 Qty=-\n1 Quote Seq=1 Sym=\"AB\" Px=100e-2 Qty=-\n";
+        // a tail that is shorter than the one of the packet before: no plain stream carries these two
+        b"\x88\xe0\x88\x41\x42\x43\x44\x45\xc6\x84\xe0\x88\x58\xd9", 2, 2, "8 Tail S=\"ABCDEF\"\n8 Tail S=\"XY\"\n";
+    };
     let set = loaded(&rt, rt.alloc(), WORKED)?;
-    all_accept(
-        &rt,
-        rt.alloc(),
-        &set,
-        &[
-            Row {
-                bytes: b"",
-                packets: 0,
-                messages: 0,
-                lines: "",
-            },
-            // one quote twice
-            Row {
-                bytes: b"\x88\xf0\x81\x81\x41\xc2\xfe\x00\xe4\x88\xf0\x81\x81\x41\xc2\xfe\x00\xe4",
-                packets: 2,
-                messages: 2,
-                lines: "1 Quote Seq=1 Sym=\"AB\" Px=100e-2 Qty=-\n1 Quote Seq=1 Sym=\"AB\" Px=100e-2 Qty=-\n",
-            },
-            // two quotes, the second of which stands on the first
-            Row {
-                bytes: b"\x8b\xf0\x81\x81\x41\xc2\xfe\x00\xe4\x80\x80\x81\x88\xf0\x81\x81\x41\xc2\xfe\x00\xe4",
-                packets: 2,
-                messages: 3,
-                lines: "1 Quote Seq=1 Sym=\"AB\" Px=100e-2 Qty=-\n1 Quote Seq=2 Sym=\"AB\" Px=101e-2 Qty=-\n1 Quote Seq=1 Sym=\"AB\" Px=100e-2 Qty=-\n",
-            },
-            // a tail that is shorter than the one of the packet before: no plain stream carries these two
-            Row {
-                bytes: b"\x88\xe0\x88\x41\x42\x43\x44\x45\xc6\x84\xe0\x88\x58\xd9",
-                packets: 2,
-                messages: 2,
-                lines: "8 Tail S=\"ABCDEF\"\n8 Tail S=\"XY\"\n",
-            },
-        ],
-    )
+    all_accept(&rt, rt.alloc(), &set, ROWS)
 }
 
 #[test]
-fn packets_that_no_plain_stream_carries(rt: HostRuntime) -> Result<(), AllocError> {
+fn packets_that_no_plain_stream_carries(rt: HostRuntime) -> Tried {
+    const ROWS: &[Row] = rows! { Row { bytes, packets, messages, lines }:
+        // a key of one type, and then of another
+        b"\x83\xc0\x81\x85\x85\xc0\x82\xfe\x00\xe4", 2, 2, "1 Int Size=5\n2 Dec Size=100e-2\n";
+        // an absent field, and then a delta
+        b"\x82\xc0\x83\x83\xc0\x84\x85", 2, 2, "3 May Seq=-\n4 Must Seq=5\n";
+    };
     let set = loaded(&rt, rt.alloc(), TWO_TYPES)?;
-    all_accept(
-        &rt,
-        rt.alloc(),
-        &set,
-        &[
-            // a key of one type, and then of another
-            Row {
-                bytes: b"\x83\xc0\x81\x85\x85\xc0\x82\xfe\x00\xe4",
-                packets: 2,
-                messages: 2,
-                lines: "1 Int Size=5\n2 Dec Size=100e-2\n",
-            },
-            // an absent field, and then a delta
-            Row {
-                bytes: b"\x82\xc0\x83\x83\xc0\x84\x85",
-                packets: 2,
-                messages: 2,
-                lines: "3 May Seq=-\n4 Must Seq=5\n",
-            },
-        ],
-    )
+    all_accept(&rt, rt.alloc(), &set, ROWS)
 }
 
 #[test]
-fn sizes_with_more_groups_than_they_need(rt: HostRuntime) -> Result<(), AllocError> {
+fn sizes_with_more_groups_than_they_need(rt: HostRuntime) -> Tried {
     let set = loaded(&rt, rt.alloc(), WORKED)?;
     let given = usually(b"\x00\x00\x88\xf0\x81\x81\x41\xc2\xfe\x00\xe4");
     let canonical = b"\x88\xf0\x81\x81\x41\xc2\xfe\x00\xe4";
@@ -143,7 +103,7 @@ fn sizes_with_more_groups_than_they_need(rt: HostRuntime) -> Result<(), AllocErr
 
 // The size is the canonical packet's, and not that of the packet that was read.
 #[test]
-fn packets_that_are_longer_than_they_need(rt: HostRuntime) -> Result<(), AllocError> {
+fn packets_that_are_longer_than_they_need(rt: HostRuntime) -> Tried {
     let set = loaded(&rt, rt.alloc(), WORKED)?;
     let given = usually(b"\x90\xf0\x81\x81\x41\xc2\xfe\x00\xe4\xf8\x81\x82\x41\xc2\x80\x81\x80");
     let canonical = b"\x8b\xf0\x81\x81\x41\xc2\xfe\x00\xe4\x80\x80\x81";

@@ -5,9 +5,10 @@ use fast_recording::PacketMode;
 use fast_stream::Cause;
 use fast_template::TemplateSet;
 use fast_wire::Level;
-use std::alloc::{AllocError, Global};
+use std::alloc::Global;
 use std::process::Abort;
 use template_tests::texts::WORKED;
+use test_rows::{Tried, rows};
 
 const QUOTE_LINE: &str = "1 Quote Seq=1 Sym=\"AB\" Px=100e-2 Qty=-\n";
 
@@ -29,7 +30,7 @@ fn all_refuse(
     set: &TemplateSet,
     level: Level,
     rows: &[Refused],
-) -> Result<(), AllocError> {
+) -> Tried {
     for row in rows {
         let given = Given {
             mode: PacketMode {
@@ -72,204 +73,55 @@ fn all_refuse(
 }
 
 #[test]
-fn sizes_that_are_refused(rt: HostRuntime) -> Result<(), AllocError> {
+fn sizes_that_are_refused(rt: HostRuntime) -> Tried {
+    const USUALLY: &[Refused] = rows! {
+        Refused { bytes, cause, packet, message, at, lines, canonical }:
+        b"\x80", Cause::D12, 1, 1, (0, 0, 0), "", b"";
+        b"\x00\x80\x81", Cause::D12, 1, 1, (0, 0, 0), "", b"";
+        b"\x00", Cause::Truncated, 1, 1, (0, 0, 0), "", b"";
+        // 65,536
+        b"\x04\x00\x80\xf0", Cause::Limit, 1, 1, (0, 0, 0), "", b"";
+        // ten groups, and none of them is the last
+        b"\x00\x00\x00\x00\x00\x00\x00\x00\x00\x00", Cause::Limit, 1, 1, (0, 0, 0), "", b"";
+        b"\x88\xf0\x81\x81\x41\xc2\xfe\x00\xe4\x80", Cause::D12, 2, 1, (9, 0, 0), QUOTE_LINE,
+            b"\x88\xf0\x81\x81\x41\xc2\xfe\x00\xe4";
+        b"\x88\xf0\x81\x81\x41\xc2\xfe\x00\xe4\x01", Cause::Truncated, 2, 1, (9, 0, 0), QUOTE_LINE,
+            b"\x88\xf0\x81\x81\x41\xc2\xfe\x00\xe4";
+    };
+    const STRICTLY: &[Refused] = rows! {
+        Refused { bytes, cause, packet, message, at, lines, canonical }:
+        b"\x00\x88\xf0\x81\x81\x41\xc2\xfe\x00\xe4", Cause::R6, 1, 1, (0, 0, 0), "", b"";
+        b"\x00\x80", Cause::R6, 1, 1, (0, 0, 0), "", b"";
+        b"\x00\x04\x00\x80", Cause::R6, 1, 1, (0, 0, 0), "", b"";
+    };
     let set = loaded(&rt, rt.alloc(), WORKED)?;
-    all_refuse(
-        &rt,
-        rt.alloc(),
-        &set,
-        Level::Usual,
-        &[
-            Refused {
-                bytes: b"\x80",
-                cause: Cause::D12,
-                packet: 1,
-                message: 1,
-                at: (0, 0, 0),
-                lines: "",
-                canonical: b"",
-            },
-            Refused {
-                bytes: b"\x00\x80\x81",
-                cause: Cause::D12,
-                packet: 1,
-                message: 1,
-                at: (0, 0, 0),
-                lines: "",
-                canonical: b"",
-            },
-            Refused {
-                bytes: b"\x00",
-                cause: Cause::Truncated,
-                packet: 1,
-                message: 1,
-                at: (0, 0, 0),
-                lines: "",
-                canonical: b"",
-            },
-            // 65,536
-            Refused {
-                bytes: b"\x04\x00\x80\xf0",
-                cause: Cause::Limit,
-                packet: 1,
-                message: 1,
-                at: (0, 0, 0),
-                lines: "",
-                canonical: b"",
-            },
-            // ten groups, and none of them is the last
-            Refused {
-                bytes: b"\x00\x00\x00\x00\x00\x00\x00\x00\x00\x00",
-                cause: Cause::Limit,
-                packet: 1,
-                message: 1,
-                at: (0, 0, 0),
-                lines: "",
-                canonical: b"",
-            },
-            Refused {
-                bytes: b"\x88\xf0\x81\x81\x41\xc2\xfe\x00\xe4\x80",
-                cause: Cause::D12,
-                packet: 2,
-                message: 1,
-                at: (9, 0, 0),
-                lines: QUOTE_LINE,
-                canonical: b"\x88\xf0\x81\x81\x41\xc2\xfe\x00\xe4",
-            },
-            Refused {
-                bytes: b"\x88\xf0\x81\x81\x41\xc2\xfe\x00\xe4\x01",
-                cause: Cause::Truncated,
-                packet: 2,
-                message: 1,
-                at: (9, 0, 0),
-                lines: QUOTE_LINE,
-                canonical: b"\x88\xf0\x81\x81\x41\xc2\xfe\x00\xe4",
-            },
-        ],
-    )?;
-    all_refuse(
-        &rt,
-        rt.alloc(),
-        &set,
-        Level::Strict,
-        &[
-            Refused {
-                bytes: b"\x00\x88\xf0\x81\x81\x41\xc2\xfe\x00\xe4",
-                cause: Cause::R6,
-                packet: 1,
-                message: 1,
-                at: (0, 0, 0),
-                lines: "",
-                canonical: b"",
-            },
-            Refused {
-                bytes: b"\x00\x80",
-                cause: Cause::R6,
-                packet: 1,
-                message: 1,
-                at: (0, 0, 0),
-                lines: "",
-                canonical: b"",
-            },
-            Refused {
-                bytes: b"\x00\x04\x00\x80",
-                cause: Cause::R6,
-                packet: 1,
-                message: 1,
-                at: (0, 0, 0),
-                lines: "",
-                canonical: b"",
-            },
-        ],
-    )
+    all_refuse(&rt, rt.alloc(), &set, Level::Usual, USUALLY)?;
+    all_refuse(&rt, rt.alloc(), &set, Level::Strict, STRICTLY)
 }
 
 #[test]
-fn packets_that_are_refused(rt: HostRuntime) -> Result<(), AllocError> {
+fn packets_that_are_refused(rt: HostRuntime) -> Tried {
+    const ROWS: &[Refused] = rows! {
+        Refused { bytes, cause, packet, message, at, lines, canonical }:
+        // the packet ends inside a message
+        b"\x87\xf0\x81\x81\x41\xc2\xfe\x00\xe4", Cause::BlockEnd, 1, 1, (6, 1, 3), "", b"";
+        b"\x88\xf0\x81\x81\x41\xc2\xfe\x00\xe4\x81\xc0\x88", Cause::BlockEnd, 2, 1, (11, 0, 0), QUOTE_LINE,
+            b"\x88\xf0\x81\x81\x41\xc2\xfe\x00\xe4";
+        // the recording ends inside a packet, and in a message of it or between two
+        b"\x88\xf0\x81\x81\x41\xc2\xfe\x00", Cause::Truncated, 1, 1, (6, 1, 3), "", b"";
+        b"\x89\xf0\x81\x81\x41\xc2\xfe\x00\xe4", Cause::Truncated, 1, 2, (9, 0, 0), QUOTE_LINE, b"";
+        b"\x88", Cause::Truncated, 1, 1, (1, 0, 0), "", b"";
+        // no template has the identifier, and the second packet is not whole: what has come is judged
+        b"\x88\xf0\x81\x81\x41\xc2\xfe\x00\xe4\x90\xc0\xff\x81", Cause::D9, 2, 1, (11, 0, 0), QUOTE_LINE,
+            b"\x88\xf0\x81\x81\x41\xc2\xfe\x00\xe4";
+        // of a refused packet no canonical byte is written, and the lines of its messages are
+        b"\x88\xf0\x81\x81\x41\xc2\xfe\x00\xe4\x8a\xf0\x81\x81\x41\xc2\xfe\x00\xe4\xc0\xff\x88\xf0", Cause::D9, 2, 2,
+            (19, 0, 0), "1 Quote Seq=1 Sym=\"AB\" Px=100e-2 Qty=-\n1 Quote Seq=1 Sym=\"AB\" Px=100e-2 Qty=-\n",
+            b"\x88\xf0\x81\x81\x41\xc2\xfe\x00\xe4";
+        // an entry of the packet before is undefined: a message with no identifier
+        b"\x88\xf0\x81\x81\x41\xc2\xfe\x00\xe4\x83\x80\x80\x81", Cause::D5, 2, 1, (11, 0, 0), QUOTE_LINE,
+            b"\x88\xf0\x81\x81\x41\xc2\xfe\x00\xe4";
+    };
     let set = loaded(&rt, rt.alloc(), WORKED)?;
-    all_refuse(
-        &rt,
-        rt.alloc(),
-        &set,
-        Level::Usual,
-        &[
-            // the packet ends inside a message
-            Refused {
-                bytes: b"\x87\xf0\x81\x81\x41\xc2\xfe\x00\xe4",
-                cause: Cause::BlockEnd,
-                packet: 1,
-                message: 1,
-                at: (6, 1, 3),
-                lines: "",
-                canonical: b"",
-            },
-            Refused {
-                bytes: b"\x88\xf0\x81\x81\x41\xc2\xfe\x00\xe4\x81\xc0\x88",
-                cause: Cause::BlockEnd,
-                packet: 2,
-                message: 1,
-                at: (11, 0, 0),
-                lines: QUOTE_LINE,
-                canonical: b"\x88\xf0\x81\x81\x41\xc2\xfe\x00\xe4",
-            },
-            // the recording ends inside a packet, and in a message of it or between two
-            Refused {
-                bytes: b"\x88\xf0\x81\x81\x41\xc2\xfe\x00",
-                cause: Cause::Truncated,
-                packet: 1,
-                message: 1,
-                at: (6, 1, 3),
-                lines: "",
-                canonical: b"",
-            },
-            Refused {
-                bytes: b"\x89\xf0\x81\x81\x41\xc2\xfe\x00\xe4",
-                cause: Cause::Truncated,
-                packet: 1,
-                message: 2,
-                at: (9, 0, 0),
-                lines: QUOTE_LINE,
-                canonical: b"",
-            },
-            Refused {
-                bytes: b"\x88",
-                cause: Cause::Truncated,
-                packet: 1,
-                message: 1,
-                at: (1, 0, 0),
-                lines: "",
-                canonical: b"",
-            },
-            // no template has the identifier, and the second packet is not whole: what has come is judged
-            Refused {
-                bytes: b"\x88\xf0\x81\x81\x41\xc2\xfe\x00\xe4\x90\xc0\xff\x81",
-                cause: Cause::D9,
-                packet: 2,
-                message: 1,
-                at: (11, 0, 0),
-                lines: QUOTE_LINE,
-                canonical: b"\x88\xf0\x81\x81\x41\xc2\xfe\x00\xe4",
-            },
-            // of a refused packet no canonical byte is written, and the lines of its messages are
-            Refused {
-                bytes: b"\x88\xf0\x81\x81\x41\xc2\xfe\x00\xe4\x8a\xf0\x81\x81\x41\xc2\xfe\x00\xe4\xc0\xff\x88\xf0",
-                cause: Cause::D9,
-                packet: 2,
-                message: 2,
-                at: (19, 0, 0),
-                lines: "1 Quote Seq=1 Sym=\"AB\" Px=100e-2 Qty=-\n1 Quote Seq=1 Sym=\"AB\" Px=100e-2 Qty=-\n",
-                canonical: b"\x88\xf0\x81\x81\x41\xc2\xfe\x00\xe4",
-            },
-            // an entry of the packet before is undefined: a message with no identifier
-            Refused {
-                bytes: b"\x88\xf0\x81\x81\x41\xc2\xfe\x00\xe4\x83\x80\x80\x81",
-                cause: Cause::D5,
-                packet: 2,
-                message: 1,
-                at: (11, 0, 0),
-                lines: QUOTE_LINE,
-                canonical: b"\x88\xf0\x81\x81\x41\xc2\xfe\x00\xe4",
-            },
-        ],
-    )
+    all_refuse(&rt, rt.alloc(), &set, Level::Usual, ROWS)
 }

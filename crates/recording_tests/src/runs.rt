@@ -15,19 +15,20 @@ use fast_wire::Level;
 use std::alloc::{AllocError, Global};
 use std::fmt::Debug;
 use std::process::Abort;
+use template_tests::growths::{refuse_growths, spare_growths};
+use test_rows::Tried;
 
 /// Aborts unless both are the same.
 pub(crate) fn same<T: PartialEq + Debug + Drop>(rt: &impl Abort, given: T, wanted: T) {
     assert_eq!(rt; given, wanted);
 }
 
-/// The set of these templates.
-pub(crate) fn loaded(
-    rt: &impl Abort,
-    alloc: Global,
-    text: &str,
-) -> Result<TemplateSet, AllocError> {
-    match TemplateSet::from_json(alloc, text.as_bytes()) {
+/// The set of these templates. What its load asks for is not refused: the tests of loads do that.
+pub(crate) fn loaded(rt: &impl Abort, alloc: Global, text: &str) -> Tried<TemplateSet> {
+    spare_growths(alloc)?;
+    let loaded = TemplateSet::from_json(alloc, text.as_bytes());
+    refuse_growths(alloc)?;
+    match loaded {
         Ok(set) => Ok(set),
         Err(fault) => {
             same(rt, fault.cause, LoadCause::Memory);
@@ -136,7 +137,7 @@ pub(crate) fn gives(
     wanted: Answer,
     written: &[u8],
     lines: &str,
-) -> Result<(), AllocError> {
+) -> Tried {
     let mut out = ScriptOutput::new(alloc, 10_000_000, false, false);
     let mut told = ScriptOutput::new(alloc, 10_000_000, false, false);
     let answer = run(alloc, set, call, given, &mut out, &mut told);

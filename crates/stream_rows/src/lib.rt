@@ -3,7 +3,9 @@
 
 pub mod cuts;
 pub mod ends;
+pub mod extremes;
 pub mod long;
 pub mod modes;
+pub mod nested;
 pub mod quotes;
 pub mod sent;

@@ -13,25 +13,25 @@ pub struct Long {
     pub end: End,
 }
 
-const LETTERS: &[Sent] = &[Sent {
-    template: 1,
-    fields: &[
+const LETTERS: &[Sent] = &[Sent(
+    1,
+    &[
         Shown::Number(1),
         Shown::Letters(4_097),
         Shown::Decimal(-2, 100),
         Shown::Absent,
     ],
-}];
+)];
 
-const MOST_LETTERS: &[Sent] = &[Sent {
-    template: 1,
-    fields: &[
+const MOST_LETTERS: &[Sent] = &[Sent(
+    1,
+    &[
         Shown::Number(1),
         Shown::Letters(65_535),
         Shown::Decimal(-2, 100),
         Shown::Absent,
     ],
-}];
+)];
 
 /// Streams of maps and strings of the worked templates.
 pub const LONG: &[Long] = &[
@@ -91,10 +91,7 @@ pub const LONG_SEQUENCES: &[Long] = &[
     // nodes: 65,535 of them, and an element that is number 65,537
     Long {
         pieces: &[(b"\xC0\x84\x02\x00\x80", 1), (b"\x85", 32_767)],
-        want: &[Sent {
-            template: 4,
-            fields: &[Shown::Repeated(32_767, &[5])],
-        }],
+        want: &[Sent(4, &[Shown::Repeated(32_767, &[5])])],
         end: End::Whole,
     },
     Long {
@@ -105,10 +102,7 @@ pub const LONG_SEQUENCES: &[Long] = &[
     // elements: as many as there may be, each empty
     Long {
         pieces: &[(b"\xC0\x86\x03\x7F\xFF", 1)],
-        want: &[Sent {
-            template: 6,
-            fields: &[Shown::Repeated(65_535, &[])],
-        }],
+        want: &[Sent(6, &[Shown::Repeated(65_535, &[])])],
         end: End::Whole,
     },
 ];
@@ -117,10 +111,7 @@ pub const LONG_SEQUENCES: &[Long] = &[
 pub const LONG_BARE: &[Long] = &[
     Long {
         pieces: &[(b"\xC0\x81\x80\x03\x7F\xFE", 1)],
-        want: &[Sent {
-            template: 1,
-            fields: &[Shown::Number(0), Shown::Repeated(65_534, &[])],
-        }],
+        want: &[Sent(1, &[Shown::Number(0), Shown::Repeated(65_534, &[])])],
         end: End::Whole,
     },
     Long {

@@ -14,36 +14,36 @@ pub const TWO: &[u8] = b"\xf0\x81\x81\x41\xc2\xfe\x00\xe4\xf8\x81\x82\x41\xc2\x8
 pub const TWO_SHORT: &[u8] = b"\xf0\x81\x81\x41\xc2\xfe\x00\xe4\x80\x80\x81";
 
 /// The first quote.
-pub const ONE: &[Sent] = &[Sent {
-    template: 1,
-    fields: &[
+pub const ONE: &[Sent] = &[Sent(
+    1,
+    &[
         Shown::Number(1),
         Shown::Text(b"AB"),
         Shown::Decimal(-2, 100),
         Shown::Absent,
     ],
-}];
+)];
 
 /// And a second one.
 pub const BOTH: &[Sent] = &[
-    Sent {
-        template: 1,
-        fields: &[
+    Sent(
+        1,
+        &[
             Shown::Number(1),
             Shown::Text(b"AB"),
             Shown::Decimal(-2, 100),
             Shown::Absent,
         ],
-    },
-    Sent {
-        template: 1,
-        fields: &[
+    ),
+    Sent(
+        1,
+        &[
             Shown::Number(2),
             Shown::Text(b"AB"),
             Shown::Decimal(-2, 101),
             Shown::Absent,
         ],
-    },
+    ),
 ];
 
 /// A message of the template Quote with this symbol and this price, and no quantity.

@@ -93,20 +93,17 @@ impl Shown {
     }
 }
 
-/// A message of a row.
-pub struct Sent {
-    pub template: u32,
-    pub fields: &'static [Shown],
-}
+/// A message of a row: its template, and its fields.
+pub struct Sent(pub u32, pub &'static [Shown]);
 
 impl Sent {
     fn message(&self, alloc: Global) -> Result<Message, AllocError> {
         let mut fields = Vec::new(alloc);
-        for field in self.fields {
+        for field in self.1 {
             fields.push(field.node(alloc)?)?;
         }
         Ok(Message {
-            template: self.template,
+            template: self.0,
             fields,
         })
     }

@@ -1,14 +1,19 @@
 //! Templates that are built. A row describes them in constants, and what takes memory is made of it in a function for
 //! each kind of thing.
 
+use crate::loads::Wanted::{Fault, Loaded};
 use crate::loads::{Wanted, answers, loaded};
 use crate::same::same;
-use fast_build::{Instruction, Load, LoadCause, Operation, Template};
+use fast_build::LoadCause::{
+    Cycle, D8, DuplicateId, DuplicateName, S1, S2, S3, S4, S5, TooDeep, TooMany,
+};
+use fast_build::{Instruction, Load, Operation, Template};
 use fast_template::{FieldPart, Flat, FlatTemplate, Kind, Operator, Presence, Scalar, TemplateSet};
-use std::alloc::{AllocError, Global};
+use std::alloc::Global;
 use std::process::Abort;
+use test_rows::{Tried, rows};
 
-fn text(alloc: Global, given: Option<&str>) -> Result<Option<String>, AllocError> {
+fn text(alloc: Global, given: Option<&str>) -> Tried<Option<String>> {
     match given {
         Some(given) => Ok(Some(String::from_str(alloc, given)?)),
         None => Ok(None),
@@ -20,7 +25,7 @@ fn operation(
     operator: Operator,
     initial: Option<&str>,
     dictionary: Option<&str>,
-) -> Result<Operation, AllocError> {
+) -> Tried<Operation> {
     Ok(Operation {
         operator,
         initial: text(alloc, initial)?,
@@ -50,7 +55,7 @@ pub(crate) const PLAIN: Field = Field {
 };
 
 impl Field<'_> {
-    fn instruction(&self, alloc: Global) -> Result<Instruction, AllocError> {
+    fn instruction(&self, alloc: Global) -> Tried<Instruction> {
         let operation = operation(alloc, self.operator, self.initial, self.dictionary)?;
         Ok(Instruction::Field {
             name: String::from_str(alloc, self.name)?,
@@ -72,7 +77,7 @@ fn plainly(operator: Operator) -> Operation {
 }
 
 // A decimal with this text beside its exponent, and a mantissa that no operator applies to.
-fn decimal(alloc: Global, exponent: &str) -> Result<Instruction, AllocError> {
+fn decimal(alloc: Global, exponent: &str) -> Tried<Instruction> {
     let exponent = operation(alloc, Operator::Copy, Some(exponent), None)?;
     Ok(Instruction::Parts {
         name: String::from_str(alloc, "P")?,
@@ -82,7 +87,7 @@ fn decimal(alloc: Global, exponent: &str) -> Result<Instruction, AllocError> {
     })
 }
 
-fn group(alloc: Global, member: Instruction) -> Result<Instruction, AllocError> {
+fn group(alloc: Global, member: Instruction) -> Tried<Instruction> {
     let members = vec![in alloc; member]?;
     Ok(Instruction::Group {
         name: String::from_str(alloc, "G")?,
@@ -94,11 +99,7 @@ fn group(alloc: Global, member: Instruction) -> Result<Instruction, AllocError> 
 }
 
 // An instruction in so many groups, each in the one before.
-fn in_groups(
-    alloc: Global,
-    levels: u32,
-    innermost: Instruction,
-) -> Result<Instruction, AllocError> {
+fn in_groups(alloc: Global, levels: u32, innermost: Instruction) -> Tried<Instruction> {
     let mut member = innermost;
     for _ in 0..levels {
         member = group(alloc, member)?;
@@ -107,7 +108,7 @@ fn in_groups(
 }
 
 // A sequence of another template.
-fn sequence_of(alloc: Global, name: &str) -> Result<Instruction, AllocError> {
+fn sequence_of(alloc: Global, name: &str) -> Tried<Instruction> {
     let members = vec![in alloc; reference(alloc, name)?]?;
     Ok(Instruction::Sequence {
         name: String::from_str(alloc, "L")?,
@@ -120,7 +121,7 @@ fn sequence_of(alloc: Global, name: &str) -> Result<Instruction, AllocError> {
     })
 }
 
-fn reference(alloc: Global, name: &str) -> Result<Instruction, AllocError> {
+fn reference(alloc: Global, name: &str) -> Tried<Instruction> {
     Ok(Instruction::Reference {
         name: String::from_str(alloc, name)?,
     })
@@ -140,7 +141,7 @@ pub(crate) enum Made<'a> {
 }
 
 impl Made<'_> {
-    fn instruction(&self, alloc: Global) -> Result<Instruction, AllocError> {
+    fn instruction(&self, alloc: Global) -> Tried<Instruction> {
         match self {
             Made::Field(field) => field.instruction(alloc),
             Made::Decimal(exponent) => decimal(alloc, exponent),
@@ -151,7 +152,7 @@ impl Made<'_> {
     }
 }
 
-fn instructions(alloc: Global, made: &[Made]) -> Result<Vec<Instruction>, AllocError> {
+fn instructions(alloc: Global, made: &[Made]) -> Tried<Vec<Instruction>> {
     let mut members = Vec::new(alloc);
     for one in made {
         members.push(one.instruction(alloc)?)?;
@@ -162,7 +163,7 @@ fn instructions(alloc: Global, made: &[Made]) -> Result<Vec<Instruction>, AllocE
 // A template of a row: its name, its identifier and its instructions.
 pub(crate) type Described<'a> = (&'a str, Option<u32>, &'a [Made<'a>]);
 
-fn template(alloc: Global, row: Described) -> Result<Template, AllocError> {
+fn template(alloc: Global, row: Described) -> Tried<Template> {
     let (name, id, made) = row;
     let members = instructions(alloc, made)?;
     Ok(Template {
@@ -174,7 +175,7 @@ fn template(alloc: Global, row: Described) -> Result<Template, AllocError> {
     })
 }
 
-fn templates(alloc: Global, rows: &[Described]) -> Result<Vec<Template>, AllocError> {
+fn templates(alloc: Global, rows: &[Described]) -> Tried<Vec<Template>> {
     let mut templates = Vec::new(alloc);
     for row in rows {
         templates.push(template(alloc, *row)?)?;
@@ -189,7 +190,7 @@ pub(crate) struct Row {
 }
 
 // Templates are loaded, or have this fault.
-pub(crate) fn all_judged(rt: &impl Abort, alloc: Global, rows: &[Row]) -> Result<(), AllocError> {
+pub(crate) fn all_judged(rt: &impl Abort, alloc: Global, rows: &[Row]) -> Tried {
     for row in rows {
         let built = TemplateSet::build(alloc, templates(alloc, row.templates)?);
         answers(rt, built, row.wanted)?;
@@ -198,182 +199,60 @@ pub(crate) fn all_judged(rt: &impl Abort, alloc: Global, rows: &[Row]) -> Result
 }
 
 #[test]
-fn templates_are_judged(rt: HostRuntime) -> Result<(), AllocError> {
-    const ROWS: &[Row] = &[
+fn templates_are_judged(rt: HostRuntime) -> Tried {
+    const ROWS: &[Row] = rows! { Row { templates, wanted }:
         // fields
-        Row {
-            templates: &[(
-                "A",
-                None,
-                &[Made::Field(Field {
-                    kind: Kind::Ascii,
-                    operator: Operator::Increment,
-                    ..PLAIN
-                })],
-            )],
-            wanted: Wanted::Fault(LoadCause::S2, 1, 1),
-        },
-        Row {
-            templates: &[(
-                "A",
-                None,
-                &[Made::Field(Field {
-                    operator: Operator::Copy,
-                    initial: Some("x"),
-                    ..PLAIN
-                })],
-            )],
-            wanted: Wanted::Fault(LoadCause::S3, 1, 1),
-        },
-        Row {
-            templates: &[(
-                "A",
-                None,
-                &[Made::Field(Field {
-                    operator: Operator::Copy,
-                    initial: Some("4294967296"),
-                    ..PLAIN
-                })],
-            )],
-            wanted: Wanted::Fault(LoadCause::S3, 1, 1),
-        },
-        Row {
-            templates: &[(
-                "A",
-                None,
-                &[Made::Field(Field {
-                    operator: Operator::Constant,
-                    ..PLAIN
-                })],
-            )],
-            wanted: Wanted::Fault(LoadCause::S4, 1, 1),
-        },
-        Row {
-            templates: &[(
-                "A",
-                None,
-                &[Made::Field(Field {
-                    operator: Operator::Default,
-                    ..PLAIN
-                })],
-            )],
-            wanted: Wanted::Fault(LoadCause::S5, 1, 1),
-        },
-        Row {
-            templates: &[(
-                "A",
-                None,
-                &[Made::Field(Field {
-                    presence: Presence::Optional,
-                    operator: Operator::Default,
-                    ..PLAIN
-                })],
-            )],
-            wanted: Wanted::Loaded,
-        },
+        &[("A", None, &[Made::Field(Field { kind: Kind::Ascii, operator: Operator::Increment, ..PLAIN })])],
+            Fault(S2, 1, 1);
+        &[("A", None, &[Made::Field(Field { operator: Operator::Copy, initial: Some("x"), ..PLAIN })])],
+            Fault(S3, 1, 1);
+        &[("A", None, &[Made::Field(Field { operator: Operator::Copy, initial: Some("4294967296"), ..PLAIN })])],
+            Fault(S3, 1, 1);
+        &[("A", None, &[Made::Field(Field { operator: Operator::Constant, ..PLAIN })])], Fault(S4, 1, 1);
+        &[("A", None, &[Made::Field(Field { operator: Operator::Default, ..PLAIN })])], Fault(S5, 1, 1);
+        &[("A", None, &[Made::Field(Field { presence: Presence::Optional, operator: Operator::Default, ..PLAIN })])],
+            Loaded;
         // an exponent is judged before its mantissa
-        Row {
-            templates: &[("A", None, &[Made::Decimal("64")])],
-            wanted: Wanted::Fault(LoadCause::S3, 1, 1),
-        },
-        Row {
-            templates: &[("A", None, &[Made::Decimal("63")])],
-            wanted: Wanted::Fault(LoadCause::S2, 1, 1),
-        },
-        Row {
-            templates: &[("A", None, &[Made::Decimal("-63")])],
-            wanted: Wanted::Fault(LoadCause::S2, 1, 1),
-        },
-        Row {
-            templates: &[("A", None, &[Made::Decimal("-64")])],
-            wanted: Wanted::Fault(LoadCause::S3, 1, 1),
-        },
+        &[("A", None, &[Made::Decimal("64")])], Fault(S3, 1, 1);
+        &[("A", None, &[Made::Decimal("63")])], Fault(S2, 1, 1);
+        &[("A", None, &[Made::Decimal("-63")])], Fault(S2, 1, 1);
+        &[("A", None, &[Made::Decimal("-64")])], Fault(S3, 1, 1);
         // names and identifiers are new
-        Row {
-            templates: &[],
-            wanted: Wanted::Loaded,
-        },
-        Row {
-            templates: &[("A", None, &[]), ("A", None, &[])],
-            wanted: Wanted::Fault(LoadCause::DuplicateName, 2, 0),
-        },
-        Row {
-            templates: &[("A", Some(1), &[]), ("B", Some(1), &[])],
-            wanted: Wanted::Fault(LoadCause::DuplicateId, 2, 0),
-        },
-        Row {
-            templates: &[("A", None, &[]), ("B b", None, &[])],
-            wanted: Wanted::Fault(LoadCause::S1, 2, 0),
-        },
+        &[], Loaded;
+        &[("A", None, &[]), ("A", None, &[])], Fault(DuplicateName, 2, 0);
+        &[("A", Some(1), &[]), ("B", Some(1), &[])], Fault(DuplicateId, 2, 0);
+        &[("A", None, &[]), ("B b", None, &[])], Fault(S1, 2, 0);
         // references lead to templates and not back
-        Row {
-            templates: &[("A", None, &[Made::Reference("Nobody")])],
-            wanted: Wanted::Fault(LoadCause::D8, 1, 1),
-        },
-        Row {
-            templates: &[("A", None, &[Made::Reference("A")])],
-            wanted: Wanted::Fault(LoadCause::Cycle, 1, 0),
-        },
+        &[("A", None, &[Made::Reference("Nobody")])], Fault(D8, 1, 1);
+        &[("A", None, &[Made::Reference("A")])], Fault(Cycle, 1, 0);
         // the first leads to a cycle, and the second leads from one cycle to another
-        Row {
-            templates: &[
-                ("A", None, &[Made::Reference("D"), Made::Reference("B")]),
-                ("B", None, &[Made::Reference("E")]),
-                ("C", None, &[Made::Reference("D"), Made::Reference("B")]),
-                ("D", None, &[Made::Reference("C")]),
-                ("E", None, &[Made::Reference("E")]),
-            ],
-            wanted: Wanted::Fault(LoadCause::Cycle, 3, 0),
-        },
+        &[("A", None, &[Made::Reference("D"), Made::Reference("B")]), ("B", None, &[Made::Reference("E")]),
+            ("C", None, &[Made::Reference("D"), Made::Reference("B")]), ("D", None, &[Made::Reference("C")]),
+            ("E", None, &[Made::Reference("E")])], Fault(Cycle, 3, 0);
         // depth goes through references
-        Row {
-            templates: &[
-                ("A", None, &[Made::Groups(8, &Made::Field(PLAIN))]),
-                ("B", None, &[Made::Reference("A")]),
-            ],
-            wanted: Wanted::Loaded,
-        },
-        Row {
-            templates: &[
-                ("A", None, &[Made::Groups(9, &Made::Field(PLAIN))]),
-                ("B", None, &[Made::Reference("A")]),
-            ],
-            wanted: Wanted::Fault(LoadCause::TooDeep, 1, 0),
-        },
-        Row {
-            templates: &[
-                ("A", None, &[Made::Groups(4, &Made::Field(PLAIN))]),
-                ("B", None, &[Made::Groups(4, &Made::Reference("A"))]),
-            ],
-            wanted: Wanted::Loaded,
-        },
-        Row {
-            templates: &[
-                ("A", None, &[Made::Groups(4, &Made::Field(PLAIN))]),
-                ("B", None, &[Made::Groups(5, &Made::Reference("A"))]),
-            ],
-            wanted: Wanted::Fault(LoadCause::TooDeep, 2, 0),
-        },
-    ];
+        &[("A", None, &[Made::Groups(8, &Made::Field(PLAIN))]), ("B", None, &[Made::Reference("A")])], Loaded;
+        &[("A", None, &[Made::Groups(9, &Made::Field(PLAIN))]), ("B", None, &[Made::Reference("A")])],
+            Fault(TooDeep, 1, 0);
+        &[("A", None, &[Made::Groups(4, &Made::Field(PLAIN))]), ("B", None, &[Made::Groups(4, &Made::Reference("A"))])],
+            Loaded;
+        &[("A", None, &[Made::Groups(4, &Made::Field(PLAIN))]), ("B", None, &[Made::Groups(5, &Made::Reference("A"))])],
+            Fault(TooDeep, 2, 0);
+    };
     all_judged(&rt, rt.alloc(), ROWS)
 }
 
-pub(crate) fn numbered(alloc: Global, number: u32) -> Result<String, AllocError> {
+pub(crate) fn numbered(alloc: Global, number: u32) -> Tried<String> {
     format!(in alloc; "N{number}")
 }
 
 // The template of this number, with these instructions.
-pub(crate) fn of_number(
-    alloc: Global,
-    number: u32,
-    members: &[Made],
-) -> Result<Template, AllocError> {
+pub(crate) fn of_number(alloc: Global, number: u32, members: &[Made]) -> Tried<Template> {
     let name = numbered(alloc, number)?;
     template(alloc, (&name, Some(number), members))
 }
 
 // A template that refers to the next one twice; the last of so many has these instructions.
-fn twice(alloc: Global, number: u32, count: u32, members: &[Made]) -> Result<Template, AllocError> {
+fn twice(alloc: Global, number: u32, count: u32, members: &[Made]) -> Tried<Template> {
     if number >= count {
         return of_number(alloc, number, members);
     }
@@ -382,11 +261,7 @@ fn twice(alloc: Global, number: u32, count: u32, members: &[Made]) -> Result<Tem
 }
 
 // Templates, each of which refers to the next one twice; the last has these instructions.
-pub(crate) fn doubling(
-    alloc: Global,
-    count: u32,
-    members: &[Made],
-) -> Result<Vec<Template>, AllocError> {
+pub(crate) fn doubling(alloc: Global, count: u32, members: &[Made]) -> Tried<Vec<Template>> {
     let mut templates = Vec::new(alloc);
     for number in 1..=count {
         templates.push(twice(alloc, number, count, members)?)?;
@@ -395,20 +270,12 @@ pub(crate) fn doubling(
 }
 
 #[test]
-fn counts_stop(rt: HostRuntime) -> Result<(), AllocError> {
-    const ROWS: &[(u32, &[Made], Wanted)] = &[
-        (
-            17,
-            &[Made::Field(PLAIN)],
-            Wanted::Fault(LoadCause::TooMany, 1, 0),
-        ),
-        (
-            130,
-            &[Made::Field(PLAIN)],
-            Wanted::Fault(LoadCause::TooMany, 1, 0),
-        ),
-        (130, &[], Wanted::Loaded),
-    ];
+fn counts_stop(rt: HostRuntime) -> Tried {
+    const ROWS: &[(u32, &[Made], Wanted)] = rows! {
+        17, &[Made::Field(PLAIN)], Fault(TooMany, 1, 0);
+        130, &[Made::Field(PLAIN)], Fault(TooMany, 1, 0);
+        130, &[], Loaded;
+    };
     for (count, members, wanted) in ROWS {
         let built = TemplateSet::build(rt.alloc(), doubling(rt.alloc(), *count, members)?);
         answers(&rt, built, *wanted)?;
@@ -424,39 +291,13 @@ const SEVEN: Field = Field {
 };
 
 // A template that refers twice to another, once inside a sequence, and that other.
-const SHARING: &[Described] = &[
-    (
-        "A",
-        Some(5),
-        &[
-            Made::Reference("Shared"),
-            Made::Sequence("Shared"),
-            Made::Field(PLAIN),
-        ],
-    ),
-    (
-        "Shared",
-        Some(6),
-        &[
-            Made::Field(Field {
-                name: "X",
-                dictionary: Some("template"),
-                ..SEVEN
-            }),
-            Made::Field(Field {
-                name: "Y",
-                dictionary: Some("type"),
-                ..SEVEN
-            }),
-        ],
-    ),
-];
+const SHARING: &[Described] = rows! {
+    ("A", Some(5), &[Made::Reference("Shared"), Made::Sequence("Shared"), Made::Field(PLAIN)]);
+    ("Shared", Some(6),
+        &[Made::Field(Field { name: "X", dictionary: Some("template"), ..SEVEN }), Made::Field(Field { name: "Y", dictionary: Some("type"), ..SEVEN })]);
+};
 
-pub(crate) fn built(
-    rt: &impl Abort,
-    alloc: Global,
-    rows: &[Described],
-) -> Result<TemplateSet, AllocError> {
+pub(crate) fn built(rt: &impl Abort, alloc: Global, rows: &[Described]) -> Tried<TemplateSet> {
     loaded(rt, TemplateSet::build(alloc, templates(alloc, rows)?))
 }
 
@@ -524,7 +365,7 @@ fn is_shared(rt: &impl Abort, set: &TemplateSet) {
 }
 
 #[test]
-fn a_template_is_shared(rt: HostRuntime) -> Result<(), AllocError> {
+fn a_template_is_shared(rt: HostRuntime) -> Tried {
     let set = built(&rt, rt.alloc(), SHARING)?;
     is_shared(&rt, &set);
     Ok(())

@@ -1,19 +1,24 @@
 //! Texts that are loaded.
 
+use crate::loads::Wanted::{Fault, Loaded};
 use crate::loads::{Wanted, answers, loaded};
 use crate::same::same;
+use fast_build::LoadCause::{
+    Cycle, D8, DuplicateId, DuplicateName, S1, S2, S3, S4, S5, TooDeep, TooMany,
+};
 use fast_build::{Load, LoadCause};
 use fast_template::TemplateSet;
-use std::alloc::{AllocError, Global};
+use std::alloc::Global;
 use std::process::Abort;
+use test_rows::{Tried, rows};
 
 // A text is loaded, or has this fault.
-fn is_judged(rt: &impl Abort, alloc: Global, text: &str, wanted: Wanted) -> Result<(), AllocError> {
+fn is_judged(rt: &impl Abort, alloc: Global, text: &str, wanted: Wanted) -> Tried {
     answers(rt, TemplateSet::from_json(alloc, text.as_bytes()), wanted)
 }
 
 // The text of one template of these instructions.
-fn one(alloc: Global, instructions: &str) -> Result<String, AllocError> {
+fn one(alloc: Global, instructions: &str) -> Tried<String> {
     format!(in alloc; r#"{{"templates":[{{"name":"A","instructions":[{instructions}]}}]}}"#)
 }
 
@@ -23,7 +28,7 @@ struct Row {
     wanted: Wanted,
 }
 
-fn all_judged(rt: &impl Abort, alloc: Global, rows: &[Row]) -> Result<(), AllocError> {
+fn all_judged(rt: &impl Abort, alloc: Global, rows: &[Row]) -> Tried {
     for row in rows {
         is_judged(rt, alloc, row.text, row.wanted)?;
     }
@@ -31,7 +36,7 @@ fn all_judged(rt: &impl Abort, alloc: Global, rows: &[Row]) -> Result<(), AllocE
 }
 
 // The same, of templates of these instructions.
-fn each_judged(rt: &impl Abort, alloc: Global, rows: &[Row]) -> Result<(), AllocError> {
+fn each_judged(rt: &impl Abort, alloc: Global, rows: &[Row]) -> Tried {
     for row in rows {
         is_judged(rt, alloc, &one(alloc, row.text)?, row.wanted)?;
     }
@@ -60,267 +65,106 @@ const DOUBLING: &str = r#"{"templates":[
 {"name":"N17","instructions":[{"kind":"uInt32","name":"F"}]}]}"#;
 
 #[test]
-fn texts_are_judged(rt: HostRuntime) -> Result<(), AllocError> {
-    const ROWS: &[Row] = &[
+fn texts_are_judged(rt: HostRuntime) -> Tried {
+    const ROWS: &[Row] = rows! { Row { text, wanted }:
         // of another shape
-        Row {
-            text: r#"{"templates":["#,
-            wanted: Wanted::Fault(LoadCause::S1, 0, 0),
-        },
-        Row {
-            text: "[]",
-            wanted: Wanted::Fault(LoadCause::S1, 0, 0),
-        },
-        Row {
-            text: "{}",
-            wanted: Wanted::Fault(LoadCause::S1, 0, 0),
-        },
-        Row {
-            text: r#"{"templates":{}}"#,
-            wanted: Wanted::Fault(LoadCause::S1, 0, 0),
-        },
-        Row {
-            text: r#"{"templates":[],"more":1}"#,
-            wanted: Wanted::Fault(LoadCause::S1, 0, 0),
-        },
-        Row {
-            text: r#"{"templates":[],"dictionary":""}"#,
-            wanted: Wanted::Fault(LoadCause::S1, 0, 0),
-        },
-        Row {
-            text: r#"{"templates":[],"dictionary":1}"#,
-            wanted: Wanted::Fault(LoadCause::S1, 0, 0),
-        },
-        Row {
-            text: r#"{"templates":[{"name":"A","instructions":[],"id":01}]}"#,
-            wanted: Wanted::Fault(LoadCause::S1, 0, 0),
-        },
+        r#"{"templates":["#, Fault(S1, 0, 0);
+        "[]", Fault(S1, 0, 0);
+        "{}", Fault(S1, 0, 0);
+        r#"{"templates":{}}"#, Fault(S1, 0, 0);
+        r#"{"templates":[],"more":1}"#, Fault(S1, 0, 0);
+        r#"{"templates":[],"dictionary":""}"#, Fault(S1, 0, 0);
+        r#"{"templates":[],"dictionary":1}"#, Fault(S1, 0, 0);
+        r#"{"templates":[{"name":"A","instructions":[],"id":01}]}"#, Fault(S1, 0, 0);
         // with a template of another shape
-        Row {
-            text: r#"{"templates":[1]}"#,
-            wanted: Wanted::Fault(LoadCause::S1, 1, 0),
-        },
-        Row {
-            text: r#"{"templates":[{"name":"A"}]}"#,
-            wanted: Wanted::Fault(LoadCause::S1, 1, 0),
-        },
-        Row {
-            text: r#"{"templates":[{"instructions":[]}]}"#,
-            wanted: Wanted::Fault(LoadCause::S1, 1, 0),
-        },
-        Row {
-            text: r#"{"templates":[{"name":"A","instructions":[],"id":1.0}]}"#,
-            wanted: Wanted::Fault(LoadCause::S1, 1, 0),
-        },
-        Row {
-            text: r#"{"templates":[{"name":"A","instructions":[],"id":-0}]}"#,
-            wanted: Wanted::Fault(LoadCause::S1, 1, 0),
-        },
-        Row {
-            text: r#"{"templates":[{"name":"A","instructions":[],"id":4294967296}]}"#,
-            wanted: Wanted::Fault(LoadCause::S1, 1, 0),
-        },
-        Row {
-            text: r#"{"templates":[{"name":"A","instructions":[],"id":"1"}]}"#,
-            wanted: Wanted::Fault(LoadCause::S1, 1, 0),
-        },
-        Row {
-            text: r#"{"templates":[{"name":"A","instructions":[],"id":null}]}"#,
-            wanted: Wanted::Fault(LoadCause::S1, 1, 0),
-        },
-        Row {
-            text: r#"{"templates":[{"name":"A","instructions":[],"typeref":"T"}]}"#,
-            wanted: Wanted::Fault(LoadCause::S1, 1, 0),
-        },
-        Row {
-            text: r#"{"templates":[{"name":"","instructions":[]},{"name":"B","instructions":[]}]}"#,
-            wanted: Wanted::Fault(LoadCause::S1, 1, 0),
-        },
+        r#"{"templates":[1]}"#, Fault(S1, 1, 0);
+        r#"{"templates":[{"name":"A"}]}"#, Fault(S1, 1, 0);
+        r#"{"templates":[{"instructions":[]}]}"#, Fault(S1, 1, 0);
+        r#"{"templates":[{"name":"A","instructions":[],"id":1.0}]}"#, Fault(S1, 1, 0);
+        r#"{"templates":[{"name":"A","instructions":[],"id":-0}]}"#, Fault(S1, 1, 0);
+        r#"{"templates":[{"name":"A","instructions":[],"id":4294967296}]}"#, Fault(S1, 1, 0);
+        r#"{"templates":[{"name":"A","instructions":[],"id":"1"}]}"#, Fault(S1, 1, 0);
+        r#"{"templates":[{"name":"A","instructions":[],"id":null}]}"#, Fault(S1, 1, 0);
+        r#"{"templates":[{"name":"A","instructions":[],"typeref":"T"}]}"#, Fault(S1, 1, 0);
+        r#"{"templates":[{"name":"","instructions":[]},{"name":"B","instructions":[]}]}"#, Fault(S1, 1, 0);
         // a bad name in the first template, and a bad shape in the second
-        Row {
-            text: r#"{"templates":[{"name":"","instructions":[]},{"name":"B"}]}"#,
-            wanted: Wanted::Fault(LoadCause::S1, 2, 0),
-        },
+        r#"{"templates":[{"name":"","instructions":[]},{"name":"B"}]}"#, Fault(S1, 2, 0);
         // with templates that stand beside others
-        Row {
-            text: r#"{"templates":[]}"#,
-            wanted: Wanted::Loaded,
-        },
-        Row {
-            text: r#"{"templates":[{"name":"A","instructions":[{"kind":"templateRef","name":"A"}]}]}"#,
-            wanted: Wanted::Fault(LoadCause::Cycle, 1, 0),
-        },
-        Row {
-            text: r#"{"templates":[{"name":"A","instructions":[{"kind":"templateRef","name":"Nobody"}]}]}"#,
-            wanted: Wanted::Fault(LoadCause::D8, 1, 1),
-        },
-        Row {
-            text: r#"{"templates":[{"name":"A","instructions":[]},{"name":"A","instructions":[]}]}"#,
-            wanted: Wanted::Fault(LoadCause::DuplicateName, 2, 0),
-        },
-        Row {
-            text: r#"{"templates":[{"name":"A","id":1,"instructions":[]},
+        r#"{"templates":[]}"#, Loaded;
+        r#"{"templates":[{"name":"A","instructions":[{"kind":"templateRef","name":"A"}]}]}"#, Fault(Cycle, 1, 0);
+        r#"{"templates":[{"name":"A","instructions":[{"kind":"templateRef","name":"Nobody"}]}]}"#, Fault(D8, 1, 1);
+        r#"{"templates":[{"name":"A","instructions":[]},{"name":"A","instructions":[]}]}"#, Fault(DuplicateName, 2, 0);
+        r#"{"templates":[{"name":"A","id":1,"instructions":[]},
                 {"name":"B","id":1,"instructions":[]}]}"#,
-            wanted: Wanted::Fault(LoadCause::DuplicateId, 2, 0),
-        },
-        Row {
-            text: DOUBLING,
-            wanted: Wanted::Fault(LoadCause::TooMany, 1, 0),
-        },
-    ];
+            Fault(DuplicateId, 2, 0);
+        DOUBLING, Fault(TooMany, 1, 0);
+    };
     all_judged(&rt, rt.alloc(), ROWS)
 }
 
 #[test]
-fn instructions_are_judged(rt: HostRuntime) -> Result<(), AllocError> {
-    const ROWS: &[Row] = &[
-        Row {
-            text: r#"{"kind":"string","name":"F","operator":"increment"}"#,
-            wanted: Wanted::Fault(LoadCause::S2, 1, 1),
-        },
-        Row {
-            text: r#"{"kind":"uInt32","name":"F","operator":"copy","value":"x"}"#,
-            wanted: Wanted::Fault(LoadCause::S3, 1, 1),
-        },
-        Row {
-            text: r#"{"kind":"uInt32","name":"F","operator":"constant"}"#,
-            wanted: Wanted::Fault(LoadCause::S4, 1, 1),
-        },
-        Row {
-            text: r#"{"kind":"uInt32","name":"F","operator":"default"}"#,
-            wanted: Wanted::Fault(LoadCause::S5, 1, 1),
-        },
-        Row {
-            text: r#"{"kind":"templateRef","name":"Nobody"}"#,
-            wanted: Wanted::Fault(LoadCause::D8, 1, 1),
-        },
-        Row {
-            text: r#"{"kind":"templateRef","name":"A"}"#,
-            wanted: Wanted::Fault(LoadCause::Cycle, 1, 0),
-        },
-        Row {
-            text: r#"{"kind":"uInt32","name":""}"#,
-            wanted: Wanted::Fault(LoadCause::S1, 1, 1),
-        },
+fn instructions_are_judged(rt: HostRuntime) -> Tried {
+    const ROWS: &[Row] = rows! { Row { text, wanted }:
+        r#"{"kind":"string","name":"F","operator":"increment"}"#, Fault(S2, 1, 1);
+        r#"{"kind":"uInt32","name":"F","operator":"copy","value":"x"}"#, Fault(S3, 1, 1);
+        r#"{"kind":"uInt32","name":"F","operator":"constant"}"#, Fault(S4, 1, 1);
+        r#"{"kind":"uInt32","name":"F","operator":"default"}"#, Fault(S5, 1, 1);
+        r#"{"kind":"templateRef","name":"Nobody"}"#, Fault(D8, 1, 1);
+        r#"{"kind":"templateRef","name":"A"}"#, Fault(Cycle, 1, 0);
+        r#"{"kind":"uInt32","name":""}"#, Fault(S1, 1, 1);
         // a name is judged only once all shapes are
-        Row {
-            text: r#"{"kind":"uInt32","name":""},{"kind":"x","name":"F"}"#,
-            wanted: Wanted::Fault(LoadCause::S1, 1, 2),
-        },
+        r#"{"kind":"uInt32","name":""},{"kind":"x","name":"F"}"#, Fault(S1, 1, 2);
         // an exponent's checks come before its mantissa's
-        Row {
-            text: r#"{"kind":"decimal","name":"F",
+        r#"{"kind":"decimal","name":"F",
                 "exponent":{"operator":"copy","value":"64"},"mantissa":{"operator":"tail"}}"#,
-            wanted: Wanted::Fault(LoadCause::S3, 1, 1),
-        },
+            Fault(S3, 1, 1);
         // a mantissa alone: the exponent is as if it were empty
-        Row {
-            text: r#"{"kind":"decimal","name":"F","mantissa":{"operator":"copy"}}"#,
-            wanted: Wanted::Loaded,
-        },
-        Row {
-            text: r#"{"kind":"uInt32","name":"F","presence":"optional","operator":"default"}"#,
-            wanted: Wanted::Loaded,
-        },
-        Row {
-            text: r#"{"kind":"uInt32","name":"F","operator":"copy","value":"4294967296"}"#,
-            wanted: Wanted::Fault(LoadCause::S3, 1, 1),
-        },
+        r#"{"kind":"decimal","name":"F","mantissa":{"operator":"copy"}}"#, Loaded;
+        r#"{"kind":"uInt32","name":"F","presence":"optional","operator":"default"}"#, Loaded;
+        r#"{"kind":"uInt32","name":"F","operator":"copy","value":"4294967296"}"#, Fault(S3, 1, 1);
         // of another shape
-        Row {
-            text: "1",
-            wanted: Wanted::Fault(LoadCause::S1, 1, 1),
-        },
-        Row {
-            text: r#"{"name":"F"}"#,
-            wanted: Wanted::Fault(LoadCause::S1, 1, 1),
-        },
-        Row {
-            text: r#"{"kind":"uint32","name":"F"}"#,
-            wanted: Wanted::Fault(LoadCause::S1, 1, 1),
-        },
-        Row {
-            text: r#"{"kind":"uInt32"}"#,
-            wanted: Wanted::Fault(LoadCause::S1, 1, 1),
-        },
-        Row {
-            text: r#"{"kind":"uInt32","name":"F","value":"1"}"#,
-            wanted: Wanted::Fault(LoadCause::S1, 1, 1),
-        },
-        Row {
-            text: r#"{"kind":"uInt32","name":"F","key":"K"}"#,
-            wanted: Wanted::Fault(LoadCause::S1, 1, 1),
-        },
-        Row {
-            text: r#"{"kind":"uInt32","name":"F","charset":"ascii"}"#,
-            wanted: Wanted::Fault(LoadCause::S1, 1, 1),
-        },
-        Row {
-            text: r#"{"kind":"uInt32","name":"F","operator":"copy","value":1}"#,
-            wanted: Wanted::Fault(LoadCause::S1, 1, 1),
-        },
-        Row {
-            text: r#"{"kind":"uInt32","name":"F","presence":"maybe"}"#,
-            wanted: Wanted::Fault(LoadCause::S1, 1, 1),
-        },
-        Row {
-            text: r#"{"kind":"decimal","name":"F","operator":"copy","exponent":{}}"#,
-            wanted: Wanted::Fault(LoadCause::S1, 1, 1),
-        },
-        Row {
-            text: r#"{"kind":"templateRef","name":"A","presence":"optional"}"#,
-            wanted: Wanted::Fault(LoadCause::S1, 1, 1),
-        },
+        "1", Fault(S1, 1, 1);
+        r#"{"name":"F"}"#, Fault(S1, 1, 1);
+        r#"{"kind":"uint32","name":"F"}"#, Fault(S1, 1, 1);
+        r#"{"kind":"uInt32"}"#, Fault(S1, 1, 1);
+        r#"{"kind":"uInt32","name":"F","value":"1"}"#, Fault(S1, 1, 1);
+        r#"{"kind":"uInt32","name":"F","key":"K"}"#, Fault(S1, 1, 1);
+        r#"{"kind":"uInt32","name":"F","charset":"ascii"}"#, Fault(S1, 1, 1);
+        r#"{"kind":"uInt32","name":"F","operator":"copy","value":1}"#, Fault(S1, 1, 1);
+        r#"{"kind":"uInt32","name":"F","presence":"maybe"}"#, Fault(S1, 1, 1);
+        r#"{"kind":"decimal","name":"F","operator":"copy","exponent":{}}"#, Fault(S1, 1, 1);
+        r#"{"kind":"templateRef","name":"A","presence":"optional"}"#, Fault(S1, 1, 1);
         // a group's own shape comes before that of its members
-        Row {
-            text: r#"{"kind":"group","name":"G","instructions":[1],"key":"K"}"#,
-            wanted: Wanted::Fault(LoadCause::S1, 1, 1),
-        },
-        Row {
-            text: r#"{"kind":"sequence","name":"L","instructions":[],"length":{"kind":"uInt32"}}"#,
-            wanted: Wanted::Fault(LoadCause::S1, 1, 1),
-        },
-        Row {
-            text: r#"{"kind":"group","name":"G","instructions":[{"kind":"uInt32","name":"F"},1]}"#,
-            wanted: Wanted::Fault(LoadCause::S1, 1, 3),
-        },
+        r#"{"kind":"group","name":"G","instructions":[1],"key":"K"}"#, Fault(S1, 1, 1);
+        r#"{"kind":"sequence","name":"L","instructions":[],"length":{"kind":"uInt32"}}"#, Fault(S1, 1, 1);
+        r#"{"kind":"group","name":"G","instructions":[{"kind":"uInt32","name":"F"},1]}"#, Fault(S1, 1, 3);
         // nine groups, each in the one before, and eight
-        Row {
-            text: r#"{"kind":"group","name":"G","instructions":[{"kind":"group","name":"G","instructions":[
+        r#"{"kind":"group","name":"G","instructions":[{"kind":"group","name":"G","instructions":[
                 {"kind":"group","name":"G","instructions":[{"kind":"group","name":"G","instructions":[
                 {"kind":"group","name":"G","instructions":[{"kind":"group","name":"G","instructions":[
                 {"kind":"group","name":"G","instructions":[{"kind":"group","name":"G","instructions":[
                 {"kind":"group","name":"G","instructions":[
                 ]}]}]}]}]}]}]}]}]}"#,
-            wanted: Wanted::Fault(LoadCause::TooDeep, 1, 0),
-        },
-        Row {
-            text: r#"{"kind":"group","name":"G","instructions":[{"kind":"group","name":"G","instructions":[
+            Fault(TooDeep, 1, 0);
+        r#"{"kind":"group","name":"G","instructions":[{"kind":"group","name":"G","instructions":[
                 {"kind":"group","name":"G","instructions":[{"kind":"group","name":"G","instructions":[
                 {"kind":"group","name":"G","instructions":[{"kind":"group","name":"G","instructions":[
                 {"kind":"group","name":"G","instructions":[{"kind":"group","name":"G","instructions":[
                 ]}]}]}]}]}]}]}]}"#,
-            wanted: Wanted::Loaded,
-        },
-    ];
+            Loaded;
+    };
     each_judged(&rt, rt.alloc(), ROWS)
 }
 
 // The name of a template in a text, where the text is loaded.
-fn is_named(
-    rt: &impl Abort,
-    alloc: Global,
-    text: &str,
-    id: u32,
-    name: &str,
-) -> Result<(), AllocError> {
+fn is_named(rt: &impl Abort, alloc: Global, text: &str, id: u32, name: &str) -> Tried {
     let set = loaded(rt, TemplateSet::from_json(alloc, text.as_bytes()))?;
     same(rt, set.name(id), Some(name));
     Ok(())
 }
 
 #[test]
-fn of_a_key_that_stands_twice_the_last_is_read(rt: HostRuntime) -> Result<(), AllocError> {
+fn of_a_key_that_stands_twice_the_last_is_read(rt: HostRuntime) -> Tried {
     let wanted = Wanted::Fault(LoadCause::S1, 0, 0);
     answers(&rt, TemplateSet::from_json(rt.alloc(), &[0xFF]), wanted)?;
     let twice = "{\"templates\":[{\"id\":\"x\",\"name\":\"A\",\"id\":7,\"instructions\":[]}]}";

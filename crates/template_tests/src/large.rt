@@ -8,11 +8,12 @@ use crate::loads::{Wanted, loaded};
 use crate::same::same;
 use fast_build::{Load, LoadCause, Template};
 use fast_template::{Flat, Kind, Operator, Scalar, TemplateSet};
-use std::alloc::{AllocError, Global};
+use std::alloc::Global;
 use std::process::Abort;
+use test_rows::{Tried, rows};
 
 // A template of one number that may be given by bit 0, with a name of its own.
-fn with_key(alloc: Global, number: u32) -> Result<Template, AllocError> {
+fn with_key(alloc: Global, number: u32) -> Tried<Template> {
     let name = numbered(alloc, number)?;
     let field = Field {
         name: &name,
@@ -23,7 +24,7 @@ fn with_key(alloc: Global, number: u32) -> Result<Template, AllocError> {
 }
 
 // So many such templates, numbered from 0.
-fn with_keys(alloc: Global, count: u32) -> Result<Vec<Template>, AllocError> {
+fn with_keys(alloc: Global, count: u32) -> Tried<Vec<Template>> {
     let mut templates = Vec::new(alloc);
     for number in 0..count {
         templates.push(with_key(alloc, number)?)?;
@@ -32,7 +33,7 @@ fn with_keys(alloc: Global, count: u32) -> Result<Vec<Template>, AllocError> {
 }
 
 // Each template is found, and there is a slot for the identifier and one for the key of each.
-fn all_found(rt: &impl Abort, alloc: Global, set: &TemplateSet) -> Result<(), AllocError> {
+fn all_found(rt: &impl Abort, alloc: Global, set: &TemplateSet) -> Tried {
     same(rt, set.slots(), 65_536);
     same(rt, set.name(65_535), None);
     for number in 0..65_535 {
@@ -43,7 +44,7 @@ fn all_found(rt: &impl Abort, alloc: Global, set: &TemplateSet) -> Result<(), Al
 }
 
 #[test]
-fn there_are_65535_templates(rt: HostRuntime) -> Result<(), AllocError> {
+fn there_are_65535_templates(rt: HostRuntime) -> Tried {
     let alloc = rt.alloc();
     let set = loaded(&rt, TemplateSet::build(alloc, with_keys(alloc, 65_535)?))?;
     all_found(&rt, alloc, &set)
@@ -75,34 +76,12 @@ fn are_constants(rt: &impl Abort, flats: &[Flat], wanted: &[u8], count: usize) {
 }
 
 #[test]
-fn each_reference_has_the_value_of_its_own_template(rt: HostRuntime) -> Result<(), AllocError> {
-    const ROWS: &[Described] = &[
-        (
-            "A",
-            Some(1),
-            &[Made::Field(Field {
-                initial: Some("aaa"),
-                ..CONSTANT
-            })],
-        ),
-        (
-            "B",
-            Some(2),
-            &[Made::Field(Field {
-                initial: Some("bbb"),
-                ..CONSTANT
-            })],
-        ),
-        (
-            "C",
-            Some(3),
-            &[
-                Made::Reference("B"),
-                Made::Reference("A"),
-                Made::Reference("B"),
-            ],
-        ),
-    ];
+fn each_reference_has_the_value_of_its_own_template(rt: HostRuntime) -> Tried {
+    const ROWS: &[Described] = rows! {
+        "A", Some(1), &[Made::Field(Field { initial: Some("aaa"), ..CONSTANT })];
+        "B", Some(2), &[Made::Field(Field { initial: Some("bbb"), ..CONSTANT })];
+        "C", Some(3), &[Made::Reference("B"), Made::Reference("A"), Made::Reference("B")];
+    };
     let set = built(&rt, rt.alloc(), ROWS)?;
     are_constants(&rt, members_of(set.find(1)), b"a", 3);
     are_constants(&rt, members_of(set.find(2)), b"b", 3);
@@ -111,7 +90,7 @@ fn each_reference_has_the_value_of_its_own_template(rt: HostRuntime) -> Result<(
 }
 
 // The last of templates that refer twice to the next has this constant, and the first has it so many times.
-fn is_shared(rt: &impl Abort, alloc: Global, initial: &str) -> Result<(), AllocError> {
+fn is_shared(rt: &impl Abort, alloc: Global, initial: &str) -> Tried {
     let constant = Field {
         initial: Some(initial),
         ..CONSTANT
@@ -124,7 +103,7 @@ fn is_shared(rt: &impl Abort, alloc: Global, initial: &str) -> Result<(), AllocE
 
 // 4 GB, if each of the 65,535 constants had its value by itself.
 #[test]
-fn a_long_value_is_shared_by_all_references(rt: HostRuntime) -> Result<(), AllocError> {
+fn a_long_value_is_shared_by_all_references(rt: HostRuntime) -> Tried {
     let mut text = String::new(rt.alloc());
     for _ in 0..65_535 {
         text.push('c')?;
@@ -134,7 +113,7 @@ fn a_long_value_is_shared_by_all_references(rt: HostRuntime) -> Result<(), Alloc
 
 // No level takes a part of the stack, neither where the groups are looked at nor where they are dropped.
 #[test]
-fn a_million_groups_in_groups_are_too_deep(rt: HostRuntime) -> Result<(), AllocError> {
+fn a_million_groups_in_groups_are_too_deep(rt: HostRuntime) -> Tried {
     const ROWS: &[Row] = &[Row {
         templates: &[
             ("A", Some(1), &[]),

@@ -4,6 +4,7 @@
 #[cfg(test)]
 mod building;
 pub mod generated;
+pub mod growths;
 #[cfg(test)]
 mod json;
 #[cfg(test)]

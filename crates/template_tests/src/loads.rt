@@ -5,12 +5,11 @@ use fast_build::{LoadCause, LoadFault};
 use fast_template::TemplateSet;
 use std::alloc::AllocError;
 use std::process::Abort;
+use test_rows::Tried;
 
 // What a load answers, where it is not refused for memory. Want of memory ends a test, so that one whose
 // allocations fail in turn ends with that error or with its row.
-fn granted(
-    loaded: Result<TemplateSet, LoadFault>,
-) -> Result<Result<TemplateSet, LoadFault>, AllocError> {
+fn granted(loaded: Result<TemplateSet, LoadFault>) -> Tried<Result<TemplateSet, LoadFault>> {
     match loaded {
         Err(
             LoadFault {
@@ -27,7 +26,7 @@ fn granted(
 pub(crate) fn loaded(
     rt: &impl Abort,
     loaded: Result<TemplateSet, LoadFault>,
-) -> Result<TemplateSet, AllocError> {
+) -> Tried<TemplateSet> {
     match granted(loaded)? {
         Ok(set) => Ok(set),
         Err(_) => panic!(rt; "refused"),
@@ -59,7 +58,7 @@ pub(crate) fn answers(
     rt: &impl Abort,
     loaded: Result<TemplateSet, LoadFault>,
     wanted: Wanted,
-) -> Result<(), AllocError> {
+) -> Tried {
     same(rt, granted(loaded)?.err(), wanted.fault());
     Ok(())
 }

@@ -8,14 +8,15 @@ use fast_template::{
     ByteString, FieldPart, Flat, Key, Kind, Name, Operator, Part, Presence, Scalar, Scope,
     TemplateSet, UnicodeText, has_map, needs_bit, part_needs_bit,
 };
-use std::alloc::{AllocError, Global};
+use std::alloc::Global;
 use std::process::Abort;
+use test_rows::{Tried, rows};
 
-fn name(alloc: Global, text: &str) -> Result<Name, AllocError> {
+fn name(alloc: Global, text: &str) -> Tried<Name> {
     Name::of(alloc, text)
 }
 
-fn key(alloc: Global, scope: Scope, text: &str, part: Part) -> Result<Key, AllocError> {
+fn key(alloc: Global, scope: Scope, text: &str, part: Part) -> Tried<Key> {
     Ok(Key {
         slot: 3,
         scope,
@@ -25,7 +26,7 @@ fn key(alloc: Global, scope: Scope, text: &str, part: Part) -> Result<Key, Alloc
 }
 
 // A value has an equal copy.
-fn has_a_copy(rt: &impl Abort, alloc: Global, value: Scalar) -> Result<(), AllocError> {
+fn has_a_copy(rt: &impl Abort, alloc: Global, value: Scalar) -> Tried {
     same(rt, value.copy(alloc)?, value);
     Ok(())
 }
@@ -44,7 +45,7 @@ enum Value {
 }
 
 impl Value {
-    fn scalar(self, alloc: Global) -> Result<Scalar, AllocError> {
+    fn scalar(self, alloc: Global) -> Tried<Scalar> {
         Ok(match self {
             Value::U32(number) => Scalar::U32(number),
             Value::I32(number) => Scalar::I32(number),
@@ -61,7 +62,7 @@ impl Value {
 }
 
 #[test]
-fn copies_of_values_are_equal(rt: HostRuntime) -> Result<(), AllocError> {
+fn copies_of_values_are_equal(rt: HostRuntime) -> Tried {
     const VALUES: &[Value] = &[
         Value::U32(4294967295),
         Value::I32(-7942755),
@@ -78,21 +79,21 @@ fn copies_of_values_are_equal(rt: HostRuntime) -> Result<(), AllocError> {
     Ok(())
 }
 
-fn key_has_a_copy(rt: &impl Abort, key: &Key) -> Result<(), AllocError> {
+fn key_has_a_copy(rt: &impl Abort, key: &Key) -> Tried {
     let copy = key.copy()?;
     same(rt, &copy, key);
     Ok(())
 }
 
 #[test]
-fn copies_of_keys_are_equal(rt: HostRuntime) -> Result<(), AllocError> {
+fn copies_of_keys_are_equal(rt: HostRuntime) -> Tried {
     let scope = Scope::User(name(rt.alloc(), "mine")?);
     let key = key(rt.alloc(), scope, "L", Part::Length)?;
     key_has_a_copy(&rt, &key)
 }
 
 #[test]
-fn a_text_is_filled_again(rt: HostRuntime) -> Result<(), AllocError> {
+fn a_text_is_filled_again(rt: HostRuntime) -> Tried {
     let alloc = rt.alloc();
     let text = UnicodeText::from_string(String::from_str(alloc, "é")?);
     same(&rt, text.as_bytes(), [0xC3, 0xA9].as_slice());
@@ -112,7 +113,7 @@ struct Asking {
 }
 
 // A field whose key is its own.
-fn field(alloc: Global) -> Result<FieldPart, AllocError> {
+fn field(alloc: Global) -> Tried<FieldPart> {
     Ok(FieldPart {
         number: 1,
         part: Part::Whole,
@@ -135,44 +136,16 @@ fn asks(rt: &impl Abort, field: &mut FieldPart, rows: &[Asking]) {
 }
 
 #[test]
-fn bits_are_asked_for(rt: HostRuntime) -> Result<(), AllocError> {
-    const ROWS: &[Asking] = &[
-        Asking {
-            operator: Operator::Plain,
-            mandatory: false,
-            optional: false,
-        },
-        Asking {
-            operator: Operator::Constant,
-            mandatory: false,
-            optional: true,
-        },
-        Asking {
-            operator: Operator::Default,
-            mandatory: true,
-            optional: true,
-        },
-        Asking {
-            operator: Operator::Copy,
-            mandatory: true,
-            optional: true,
-        },
-        Asking {
-            operator: Operator::Increment,
-            mandatory: true,
-            optional: true,
-        },
-        Asking {
-            operator: Operator::Delta,
-            mandatory: false,
-            optional: false,
-        },
-        Asking {
-            operator: Operator::Tail,
-            mandatory: true,
-            optional: true,
-        },
-    ];
+fn bits_are_asked_for(rt: HostRuntime) -> Tried {
+    const ROWS: &[Asking] = rows! { Asking { operator, mandatory, optional }:
+        Operator::Plain, false, false;
+        Operator::Constant, false, true;
+        Operator::Default, true, true;
+        Operator::Copy, true, true;
+        Operator::Increment, true, true;
+        Operator::Delta, false, false;
+        Operator::Tail, true, true;
+    };
     let mut field = field(rt.alloc())?;
     asks(&rt, &mut field, ROWS);
     Ok(())
@@ -192,14 +165,14 @@ fn asks_for_a_map(rt: &impl Abort, members: &[Flat]) {
 }
 
 #[test]
-fn a_map_is_asked_for_by_a_mantissa(rt: HostRuntime) -> Result<(), AllocError> {
+fn a_map_is_asked_for_by_a_mantissa(rt: HostRuntime) -> Tried {
     let set = loaded(&rt, TemplateSet::from_json(rt.alloc(), DECIMAL))?;
     asks_for_a_map(&rt, members_of(set.find(1)));
     Ok(())
 }
 
 // Of one name, the key of an exponent is before that of a mantissa.
-fn is_before_mantissa(rt: &impl Abort, alloc: Global, exponent: &Key) -> Result<(), AllocError> {
+fn is_before_mantissa(rt: &impl Abort, alloc: Global, exponent: &Key) -> Tried {
     let mantissa = key(alloc, Scope::Global, "Px", Part::Mantissa)?;
     let order = [*exponent < mantissa, *exponent != mantissa];
     same(rt, order, [true, true]);
@@ -207,7 +180,7 @@ fn is_before_mantissa(rt: &impl Abort, alloc: Global, exponent: &Key) -> Result<
 }
 
 #[test]
-fn keys_are_ordered(rt: HostRuntime) -> Result<(), AllocError> {
+fn keys_are_ordered(rt: HostRuntime) -> Tried {
     let exponent = key(rt.alloc(), Scope::Global, "Px", Part::Exponent)?;
     is_before_mantissa(&rt, rt.alloc(), &exponent)
 }

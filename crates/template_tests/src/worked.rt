@@ -6,12 +6,12 @@ use crate::same::same;
 use crate::texts::WORKED;
 use fast_build::Load;
 use fast_template::{FieldPart, Flat, Name, Presence, Scalar, TemplateSet};
-use std::alloc::AllocError;
 use std::process::Abort;
+use test_rows::{Tried, rows};
 
 // What one value is read and written by, behind a mark: its kind, presence and operator, the name of its key, and its
 // initial value.
-fn list_part(mark: &str, part: &FieldPart, text: &mut String) -> Result<(), AllocError> {
+fn list_part(mark: &str, part: &FieldPart, text: &mut String) -> Tried {
     let name = part.key.name.as_str();
     write!(
         text,
@@ -28,17 +28,12 @@ fn list_part(mark: &str, part: &FieldPart, text: &mut String) -> Result<(), Allo
 }
 
 // An instruction's name and number, and its presence.
-fn list_head(
-    name: &Name,
-    number: u32,
-    presence: Presence,
-    text: &mut String,
-) -> Result<(), AllocError> {
+fn list_head(name: &Name, number: u32, presence: Presence, text: &mut String) -> Tried {
     write!(text, "{} {number} {presence:?}", name.as_str())
 }
 
 // An instruction: its name and number, its presence, and its parts.
-fn list_one(flat: &Flat, text: &mut String) -> Result<(), AllocError> {
+fn list_one(flat: &Flat, text: &mut String) -> Tried {
     match flat {
         Flat::Field {
             name,
@@ -80,7 +75,7 @@ fn list_one(flat: &Flat, text: &mut String) -> Result<(), AllocError> {
 }
 
 // A flat list, that of a group or a sequence in brackets.
-fn list_of(flats: &[Flat], text: &mut String) -> Result<(), AllocError> {
+fn list_of(flats: &[Flat], text: &mut String) -> Tried {
     for flat in flats {
         list_one(flat, text)?;
         if let Flat::Group { members, .. } | Flat::Sequence { members, .. } = flat {
@@ -97,12 +92,7 @@ fn list_of(flats: &[Flat], text: &mut String) -> Result<(), AllocError> {
 type Row = (u32, &'static str, &'static str);
 
 // This is a flat list.
-fn is_listed(
-    rt: &impl Abort,
-    flats: &[Flat],
-    list: &str,
-    text: &mut String,
-) -> Result<(), AllocError> {
+fn is_listed(rt: &impl Abort, flats: &[Flat], list: &str, text: &mut String) -> Tried {
     text.clear();
     list_of(flats, text)?;
     same(rt, text.as_str(), list);
@@ -110,12 +100,7 @@ fn is_listed(
 }
 
 // These are listed so, and there is no template 17.
-fn all_listed(
-    rt: &impl Abort,
-    set: &TemplateSet,
-    rows: &[Row],
-    text: &mut String,
-) -> Result<(), AllocError> {
+fn all_listed(rt: &impl Abort, set: &TemplateSet, rows: &[Row], text: &mut String) -> Tried {
     same(rt, set.find(17).is_none(), true);
     same(rt, set.name(17), None);
     for (id, name, list) in rows {
@@ -126,81 +111,55 @@ fn all_listed(
 }
 
 #[test]
-fn the_worked_templates_have_these_flat_lists(rt: HostRuntime) -> Result<(), AllocError> {
-    const ROWS: &[Row] = &[
-        (
-            1,
-            "Quote",
+fn the_worked_templates_have_these_flat_lists(rt: HostRuntime) -> Tried {
+    const ROWS: &[Row] = rows! {
+        1, "Quote",
             "Seq 1 Mandatory: UInt32 Mandatory Increment Seq; \
             Sym 2 Mandatory: Ascii Mandatory Copy Sym; \
             Px 3 Mandatory: Decimal Mandatory Delta Px; \
-            Qty 4 Optional: UInt32 Optional Copy Qty; ",
-        ),
-        (
-            2,
-            "Wrap",
+            Qty 4 Optional: UInt32 Optional Copy Qty; ";
+        2, "Wrap",
             "A 1 Mandatory: UInt32 Mandatory Increment A; \
-            B 2 Mandatory: UInt32 Mandatory Delta B; ",
-        ),
-        (
-            3,
-            "Opt",
+            B 2 Mandatory: UInt32 Mandatory Delta B; ";
+        3, "Opt",
             "Px 1 Optional: Int32 Optional Default Px 2, Int64 Mandatory Copy Px; \
-            Flag 2 Mandatory: UInt32 Mandatory Copy Flag; ",
-        ),
-        (
-            4,
-            "Legs",
-            "L 1 Optional: UInt32 Optional Plain L [P 2 Mandatory: UInt32 Mandatory Plain P; ]; ",
-        ),
-        (
-            5,
-            "Marks",
-            "L 1 Mandatory: UInt32 Mandatory Plain L [Q 2 Mandatory: UInt32 Mandatory Copy Q; ]; ",
-        ),
-        (6, "Bare", "L 1 Mandatory: UInt32 Mandatory Plain L []; "),
-        (
-            7,
-            "Clash",
-            "A 1 Mandatory: UInt32 Mandatory Copy K; \
-            B 2 Mandatory: Ascii Mandatory Copy K; ",
-        ),
-        (8, "Tail", "S 1 Optional: Ascii Optional Tail S; "),
-        (9, "Init", "S 1 Optional: Ascii Optional Tail S [97, 98]; "),
-        (10, "Delta", "S 1 Mandatory: Ascii Mandatory Delta S; "),
-        (
-            11,
-            "Grp",
+            Flag 2 Mandatory: UInt32 Mandatory Copy Flag; ";
+        4, "Legs", "L 1 Optional: UInt32 Optional Plain L [P 2 Mandatory: UInt32 Mandatory Plain P; ]; ";
+        5, "Marks", "L 1 Mandatory: UInt32 Mandatory Plain L [Q 2 Mandatory: UInt32 Mandatory Copy Q; ]; ";
+        6, "Bare", "L 1 Mandatory: UInt32 Mandatory Plain L []; ";
+        7, "Clash", "A 1 Mandatory: UInt32 Mandatory Copy K; \
+            B 2 Mandatory: Ascii Mandatory Copy K; ";
+        8, "Tail", "S 1 Optional: Ascii Optional Tail S; ";
+        9, "Init", "S 1 Optional: Ascii Optional Tail S [97, 98]; ";
+        10, "Delta", "S 1 Mandatory: Ascii Mandatory Delta S; ";
+        11, "Grp",
             "Hd 1 Optional [A 2 Mandatory: UInt32 Mandatory Copy A; ]; \
-            B 3 Mandatory: UInt32 Mandatory Copy B; ",
-        ),
-        (12, "Uni", "S 1 Mandatory: Unicode Mandatory Tail S; "),
-        (
-            13,
-            "Empty",
-            "A 1 Optional: UInt32 Optional Copy K; \
-            B 2 Mandatory: UInt32 Mandatory Delta K; ",
-        ),
-        (
-            14,
-            "Const",
+            B 3 Mandatory: UInt32 Mandatory Copy B; ";
+        12, "Uni", "S 1 Mandatory: Unicode Mandatory Tail S; ";
+        13, "Empty", "A 1 Optional: UInt32 Optional Copy K; \
+            B 2 Mandatory: UInt32 Mandatory Delta K; ";
+        14, "Const",
             "K 1 Mandatory: UInt32 Mandatory Constant K 7; \
             O 2 Optional: UInt32 Optional Constant O 9; \
-            D 3 Mandatory: UInt32 Mandatory Default D 3; ",
-        ),
-        (
-            15,
-            "Fixed",
+            D 3 Mandatory: UInt32 Mandatory Default D 3; ";
+        15, "Fixed",
             "Px 1 Mandatory: Int32 Mandatory Constant Px -2, Int64 Mandatory Delta Px; \
-            Raw 2 Optional: Bytes Optional Copy Raw; ",
-        ),
-        (
-            16,
-            "First",
-            "A 1 Mandatory: UInt32 Mandatory Plain A; \
-            B 2 Mandatory: UInt32 Mandatory Copy B; ",
-        ),
-    ];
+            Raw 2 Optional: Bytes Optional Copy Raw; ";
+        16, "First", "A 1 Mandatory: UInt32 Mandatory Plain A; \
+            B 2 Mandatory: UInt32 Mandatory Copy B; ";
+    };
     let set = loaded(&rt, TemplateSet::from_json(rt.alloc(), WORKED.as_bytes()))?;
     all_listed(&rt, &set, ROWS, &mut String::new(rt.alloc()))
+}
+
+// What may be lent to another thread, and nothing else.
+fn lent<T: Send + Sync>(shared: &T) -> &T {
+    shared
+}
+
+#[test]
+fn a_set_can_be_lent_to_other_threads(rt: HostRuntime) -> Tried {
+    let set = loaded(&rt, TemplateSet::from_json(rt.alloc(), WORKED.as_bytes()))?;
+    same(&rt, lent(&set).slots(), set.slots());
+    Ok(())
 }

@@ -6,6 +6,7 @@ use crate::same::same;
 use fast_wire::{MapBuilder, WireFault};
 use std::alloc::Global;
 use std::process::Abort;
+use test_rows::rows;
 
 /// What is done to a builder, and what it writes.
 #[derive(Clone, Copy)]
@@ -66,104 +67,37 @@ fn maps_are_built(rt: HostRuntime) -> Result<(), WireFault> {
     const ONE: &[bool] = &[true];
     const MIXED: &[bool] = &[true, false, true, false, true, false, true];
     const BEHIND: &[bool] = &[true, true, false];
-    const ROWS: &[&[Step]] = &[
+    const ROWS: &[&[Step]] = rows! {
         // few bits
-        &[Step::Gives(b"\x80")],
-        &[Step::Push(1, ONE), Step::Gives(b"\xc0")],
-        &[Step::Push(7, ZERO), Step::Gives(b"\x80")],
-        &[
-            Step::Push(6, ZERO),
-            Step::Push(1, ONE),
-            Step::Gives(b"\x81"),
-        ],
-        &[
-            Step::Push(7, ZERO),
-            Step::Push(1, ONE),
-            Step::Gives(b"\x00\xc0"),
-        ],
-        &[
-            Step::Push(1, MIXED),
-            Step::Push(1, &[true, true, false, false, true, true, false]),
-            Step::Gives(b"\x55\xe6"),
-        ],
-        &[Step::Push(20, ZERO), Step::Gives(b"\x80")],
+        &[Step::Gives(b"\x80")];
+        &[Step::Push(1, ONE), Step::Gives(b"\xc0")];
+        &[Step::Push(7, ZERO), Step::Gives(b"\x80")];
+        &[Step::Push(6, ZERO), Step::Push(1, ONE), Step::Gives(b"\x81")];
+        &[Step::Push(7, ZERO), Step::Push(1, ONE), Step::Gives(b"\x00\xc0")];
+        &[Step::Push(1, MIXED), Step::Push(1, &[true, true, false, false, true, true, false]),
+            Step::Gives(b"\x55\xe6")];
+        &[Step::Push(20, ZERO), Step::Gives(b"\x80")];
         // what is 0 behind the last 1 is cut
-        &[
-            Step::Push(1, ONE),
-            Step::Push(20, ZERO),
-            Step::Gives(b"\xc0"),
-            Step::Push(60, ZERO),
-            Step::Gives(b"\xc0"),
-        ],
+        &[Step::Push(1, ONE), Step::Push(20, ZERO), Step::Gives(b"\xc0"), Step::Push(60, ZERO), Step::Gives(b"\xc0")];
         // about the end of the nine groups that stand in a word, and far behind it
-        &[
-            Step::Push(54, ZERO),
-            Step::Push(1, ONE),
-            Step::Gives(b"\0\0\0\0\0\0\0\x82"),
-        ],
-        &[
-            Step::Push(55, ZERO),
-            Step::Push(1, ONE),
-            Step::Gives(b"\0\0\0\0\0\0\0\x81"),
-        ],
-        &[
-            Step::Push(56, ZERO),
-            Step::Push(1, ONE),
-            Step::Gives(b"\0\0\0\0\0\0\0\0\xc0"),
-        ],
-        &[
-            Step::Push(61, ZERO),
-            Step::Push(1, ONE),
-            Step::Gives(b"\0\0\0\0\0\0\0\0\x82"),
-        ],
-        &[
-            Step::Push(62, ZERO),
-            Step::Push(1, ONE),
-            Step::Gives(b"\0\0\0\0\0\0\0\0\x81"),
-        ],
-        &[
-            Step::Push(63, ZERO),
-            Step::Push(1, ONE),
-            Step::Gives(b"\0\0\0\0\0\0\0\0\0\xc0"),
-        ],
-        &[
-            Step::Push(64, ZERO),
-            Step::Push(1, ONE),
-            Step::Gives(b"\0\0\0\0\0\0\0\0\0\xa0"),
-        ],
-        &[
-            Step::Push(119, ZERO),
-            Step::Push(1, ONE),
-            Step::Gives(b"\0\0\0\0\0\0\0\0\0\0\0\0\0\0\0\0\0\xc0"),
-        ],
+        &[Step::Push(54, ZERO), Step::Push(1, ONE), Step::Gives(b"\0\0\0\0\0\0\0\x82")];
+        &[Step::Push(55, ZERO), Step::Push(1, ONE), Step::Gives(b"\0\0\0\0\0\0\0\x81")];
+        &[Step::Push(56, ZERO), Step::Push(1, ONE), Step::Gives(b"\0\0\0\0\0\0\0\0\xc0")];
+        &[Step::Push(61, ZERO), Step::Push(1, ONE), Step::Gives(b"\0\0\0\0\0\0\0\0\x82")];
+        &[Step::Push(62, ZERO), Step::Push(1, ONE), Step::Gives(b"\0\0\0\0\0\0\0\0\x81")];
+        &[Step::Push(63, ZERO), Step::Push(1, ONE), Step::Gives(b"\0\0\0\0\0\0\0\0\0\xc0")];
+        &[Step::Push(64, ZERO), Step::Push(1, ONE), Step::Gives(b"\0\0\0\0\0\0\0\0\0\xa0")];
+        &[Step::Push(119, ZERO), Step::Push(1, ONE), Step::Gives(b"\0\0\0\0\0\0\0\0\0\0\0\0\0\0\0\0\0\xc0")];
         // all groups stand in one word
-        &[
-            Step::Push(8, MIXED),
-            Step::Gives(b"\x55\x55\x55\x55\x55\x55\x55\xd5"),
-            Step::Push(1, BEHIND),
-            Step::Gives(b"\x55\x55\x55\x55\x55\x55\x55\x55\xe0"),
-        ],
+        &[Step::Push(8, MIXED), Step::Gives(b"\x55\x55\x55\x55\x55\x55\x55\xd5"), Step::Push(1, BEHIND),
+            Step::Gives(b"\x55\x55\x55\x55\x55\x55\x55\x55\xe0")];
         // the last bits stand behind a word that is full
-        &[
-            Step::Push(9, MIXED),
-            Step::Gives(b"\x55\x55\x55\x55\x55\x55\x55\x55\xd5"),
-            Step::Push(1, BEHIND),
-            Step::Gives(b"\x55\x55\x55\x55\x55\x55\x55\x55\x55\xe0"),
-        ],
+        &[Step::Push(9, MIXED), Step::Gives(b"\x55\x55\x55\x55\x55\x55\x55\x55\xd5"), Step::Push(1, BEHIND),
+            Step::Gives(b"\x55\x55\x55\x55\x55\x55\x55\x55\x55\xe0")];
         // a builder serves again once it is cleared, of many bits or few
-        &[
-            Step::Push(60, ONE),
-            Step::Clear,
-            Step::Gives(b"\x80"),
-            Step::Push(1, &[false, true]),
-            Step::Gives(b"\xa0"),
-            Step::Push(3, ONE),
-            Step::Clear,
-            Step::Gives(b"\x80"),
-            Step::Push(1, &[false, true]),
-            Step::Gives(b"\xa0"),
-        ],
-    ];
+        &[Step::Push(60, ONE), Step::Clear, Step::Gives(b"\x80"), Step::Push(1, &[false, true]), Step::Gives(b"\xa0"),
+            Step::Push(3, ONE), Step::Clear, Step::Gives(b"\x80"), Step::Push(1, &[false, true]), Step::Gives(b"\xa0")];
+    };
     for steps in ROWS {
         is_built(&rt, rt.alloc(), steps)?;
     }

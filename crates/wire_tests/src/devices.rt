@@ -5,6 +5,7 @@ use fast_io::{ByteInput, ByteOutput, Counted, Failed, ScriptInput, ScriptOutput}
 use std::alloc::AllocError;
 use std::io::{Read, Write};
 use std::process::Abort;
+use test_rows::Tried;
 
 /// The answers of four calls.
 fn four_pulls<R: ByteInput>(reader: &mut R) -> [Result<usize, Failed>; 4] {
@@ -25,7 +26,7 @@ fn is_pushed<W: ByteOutput>(
     bytes: &[u8],
     count: usize,
     flushed: Result<(), Failed>,
-) -> Result<(), AllocError> {
+) -> Tried {
     match writer.push(bytes) {
         Ok(taken) => {
             same(rt, (taken, writer.flush()), (count, flushed));
@@ -36,7 +37,7 @@ fn is_pushed<W: ByteOutput>(
 }
 
 // A device with room for two bytes whose flush fails.
-fn is_filled<W: ByteOutput>(rt: &impl Abort, writer: &mut W) -> Result<(), AllocError> {
+fn is_filled<W: ByteOutput>(rt: &impl Abort, writer: &mut W) -> Tried {
     is_pushed(rt, writer, b"abc", 2, Err(Failed))?;
     let given = [writer.push(b"c"), writer.push(b"")];
     same(rt, given, [Err(Failed), Ok(0)]);
@@ -62,7 +63,7 @@ fn pulls(rt: HostRuntime) {
 }
 
 #[test]
-fn pushes(rt: HostRuntime) -> Result<(), AllocError> {
+fn pushes(rt: HostRuntime) -> Tried {
     let mut whole = Counted::new(Vec::new(rt.alloc()));
     is_pushed(&rt, &mut &mut whole, b"abc", 3, Ok(()))?;
     let narrow = ScriptOutput::new(rt.alloc(), 2, true, true);
@@ -93,7 +94,7 @@ fn input_fails_where_it_says(rt: HostRuntime) {
 }
 
 // A script with room for two bytes.
-fn is_full(rt: &impl Abort, output: &mut ScriptOutput) -> Result<(), AllocError> {
+fn is_full(rt: &impl Abort, output: &mut ScriptOutput) -> Tried {
     let taken = output.write(b"abc").ok();
     if taken.is_none() {
         return Err(AllocError);
@@ -106,7 +107,7 @@ fn is_full(rt: &impl Abort, output: &mut ScriptOutput) -> Result<(), AllocError>
 }
 
 #[test]
-fn output_fails_where_it_says(rt: HostRuntime) -> Result<(), AllocError> {
+fn output_fails_where_it_says(rt: HostRuntime) -> Tried {
     let mut zero = ScriptOutput::new(rt.alloc(), 0, true, true);
     same(&rt, zero.write(b"c").ok(), Some(0));
     same(&rt, zero.flush().is_err(), true);

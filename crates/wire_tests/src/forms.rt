@@ -5,139 +5,94 @@ use crate::same::same;
 use fast_wire::*;
 use std::alloc::Global;
 use std::process::Abort;
+use test_rows::rows;
 
 #[test]
 fn forms_are_written_and_read(rt: HostRuntime) -> Result<(), WireFault> {
-    const ROWS: &[(Form, &[u8])] = &[
+    const ROWS: &[(Form, &[u8])] = rows! {
         // unsigned integers
-        (Form::Unsigned(942_755), &[0x39, 0x45, 0xa3]),
-        (
-            Form::Unsigned(4_294_967_295),
-            &[0x0f, 0x7f, 0x7f, 0x7f, 0xff],
-        ),
-        (Form::Unsigned(0), &[0x80]),
-        (
-            Form::Unsigned((1 << 70) - 1),
-            &[0x7f, 0x7f, 0x7f, 0x7f, 0x7f, 0x7f, 0x7f, 0x7f, 0x7f, 0xff],
-        ),
+        Form::Unsigned(942_755), b"\x39\x45\xa3";
+        Form::Unsigned(4_294_967_295), b"\x0f\x7f\x7f\x7f\xff";
+        Form::Unsigned(0), b"\x80";
+        Form::Unsigned((1 << 70) - 1), b"\x7f\x7f\x7f\x7f\x7f\x7f\x7f\x7f\x7f\xff";
         // signed integers
-        (Form::Signed(942_755), &[0x39, 0x45, 0xa3]),
-        (Form::Signed(-942_755), &[0x46, 0x3a, 0xdd]),
-        (Form::Signed(-7_942_755), &[0x7c, 0x1b, 0x1b, 0x9d]),
-        (Form::Signed(8193), &[0x00, 0x40, 0x81]),
-        (Form::Signed(-8193), &[0x7f, 0x3f, 0xff]),
-        (Form::Signed(2), &[0x82]),
-        (
-            Form::Signed((1 << 69) - 1),
-            &[0x3f, 0x7f, 0x7f, 0x7f, 0x7f, 0x7f, 0x7f, 0x7f, 0x7f, 0xff],
-        ),
+        Form::Signed(942_755), b"\x39\x45\xa3";
+        Form::Signed(-942_755), b"\x46\x3a\xdd";
+        Form::Signed(-7_942_755), b"\x7c\x1b\x1b\x9d";
+        Form::Signed(8193), b"\x00\x40\x81";
+        Form::Signed(-8193), b"\x7f\x3f\xff";
+        Form::Signed(2), b"\x82";
+        Form::Signed((1 << 69) - 1), b"\x3f\x7f\x7f\x7f\x7f\x7f\x7f\x7f\x7f\xff";
         // unsigned integers or NULL
-        (Form::UnsignedNullable(Nullable::Null), &[0x80]),
-        (Form::UnsignedNullable(Nullable::Value(0)), &[0x81]),
-        (
-            Form::UnsignedNullable(Nullable::Value((1 << 64) - 1)),
-            &[0x02, 0x00, 0x00, 0x00, 0x00, 0x00, 0x00, 0x00, 0x00, 0x80],
-        ),
-        (
-            Form::UnsignedNullable(Nullable::Value((1 << 70) - 2)),
-            &[0x7f, 0x7f, 0x7f, 0x7f, 0x7f, 0x7f, 0x7f, 0x7f, 0x7f, 0xff],
-        ),
+        Form::UnsignedNullable(Nullable::Null), b"\x80";
+        Form::UnsignedNullable(Nullable::Value(0)), b"\x81";
+        Form::UnsignedNullable(Nullable::Value((1 << 64) - 1)), b"\x02\x00\x00\x00\x00\x00\x00\x00\x00\x80";
+        Form::UnsignedNullable(Nullable::Value((1 << 70) - 2)), b"\x7f\x7f\x7f\x7f\x7f\x7f\x7f\x7f\x7f\xff";
         // signed integers or NULL
-        (
-            Form::SignedNullable(Nullable::Value(942_755)),
-            &[0x39, 0x45, 0xa4],
-        ),
-        (
-            Form::SignedNullable(Nullable::Value(-942_755)),
-            &[0x46, 0x3a, 0xdd],
-        ),
-        (Form::SignedNullable(Nullable::Null), &[0x80]),
-        (Form::SignedNullable(Nullable::Value(0)), &[0x81]),
-        (Form::SignedNullable(Nullable::Value(63)), &[0x00, 0xc0]),
-        (Form::SignedNullable(Nullable::Value(-64)), &[0xc0]),
+        Form::SignedNullable(Nullable::Value(942_755)), b"\x39\x45\xa4";
+        Form::SignedNullable(Nullable::Value(-942_755)), b"\x46\x3a\xdd";
+        Form::SignedNullable(Nullable::Null), b"\x80";
+        Form::SignedNullable(Nullable::Value(0)), b"\x81";
+        Form::SignedNullable(Nullable::Value(63)), b"\x00\xc0";
+        Form::SignedNullable(Nullable::Value(-64)), b"\xc0";
         // ASCII strings or NULL
-        (Form::AsciiNullable(Nullable::Null), &[0x80]),
-        (Form::AsciiNullable(Nullable::Value(b"")), &[0x00, 0x80]),
-        (
-            Form::AsciiNullable(Nullable::Value(b"\0")),
-            &[0x00, 0x00, 0x80],
-        ),
-        (
-            Form::AsciiNullable(Nullable::Value(b"\0A")),
-            &[0x00, 0x00, 0x00, 0xc1],
-        ),
-        (Form::AsciiNullable(Nullable::Value(b"A")), &[0xc1]),
+        Form::AsciiNullable(Nullable::Null), b"\x80";
+        Form::AsciiNullable(Nullable::Value(b"")), b"\x00\x80";
+        Form::AsciiNullable(Nullable::Value(b"\0")), b"\x00\x00\x80";
+        Form::AsciiNullable(Nullable::Value(b"\0A")), b"\x00\x00\x00\xc1";
+        Form::AsciiNullable(Nullable::Value(b"A")), b"\xc1";
         // ASCII strings
-        (Form::Ascii(b""), &[0x80]),
-        (Form::Ascii(b"\0"), &[0x00, 0x80]),
-        (Form::Ascii(b"\0A"), &[0x00, 0x00, 0xc1]),
-        (Form::Ascii(b"A"), &[0xc1]),
+        Form::Ascii(b""), b"\x80";
+        Form::Ascii(b"\0"), b"\x00\x80";
+        Form::Ascii(b"\0A"), b"\x00\x00\xc1";
+        Form::Ascii(b"A"), b"\xc1";
         // vectors
-        (Form::Vector(&[0xc3, 0xa9]), &[0x82, 0xc3, 0xa9]),
-        (Form::Vector(b""), &[0x80]),
+        Form::Vector(b"\xc3\xa9"), b"\x82\xc3\xa9";
+        Form::Vector(b""), b"\x80";
         // vectors or NULL
-        (
-            Form::VectorNullable(Nullable::Value(&[0xc3, 0xa9])),
-            &[0x83, 0xc3, 0xa9],
-        ),
-        (Form::VectorNullable(Nullable::Value(b"")), &[0x81]),
-        (Form::VectorNullable(Nullable::Null), &[0x80]),
+        Form::VectorNullable(Nullable::Value(b"\xc3\xa9")), b"\x83\xc3\xa9";
+        Form::VectorNullable(Nullable::Value(b"")), b"\x81";
+        Form::VectorNullable(Nullable::Null), b"\x80";
         // maps
-        (Form::Map(&[true, true, true, false]), &[0xf0]),
-        (Form::Map(&[]), &[0x80]),
-        (
-            Form::Map(&[false, false, false, false, false, false, false, true]),
-            &[0x00, 0xc0],
-        ),
-        (Form::Map(&[false; 20]), &[0x80]),
-    ];
+        Form::Map(&[true, true, true, false]), b"\xf0";
+        Form::Map(&[]), b"\x80";
+        Form::Map(&[false, false, false, false, false, false, false, true]), b"\x00\xc0";
+        Form::Map(&[false; 20]), b"\x80";
+    };
     all_agree(&rt, rt.alloc(), ROWS)
 }
 
 #[test]
 fn forms_are_refused(rt: HostRuntime) {
-    const ROWS: &[(Form, WireFault)] = &[
-        (Form::Unsigned(1 << 70), WireFault::Range),
-        (Form::Signed(1 << 69), WireFault::Range),
-        (Form::Signed(-(1 << 69) - 1), WireFault::Range),
-        (
-            Form::UnsignedNullable(Nullable::Value((1 << 70) - 1)),
-            WireFault::Range,
-        ),
-        (
-            Form::UnsignedNullable(Nullable::Value(u128::MAX)),
-            WireFault::Range,
-        ),
-        (
-            Form::SignedNullable(Nullable::Value((1 << 69) - 1)),
-            WireFault::Range,
-        ),
-        (
-            Form::SignedNullable(Nullable::Value(i128::MAX)),
-            WireFault::Range,
-        ),
-        (
-            Form::SignedNullable(Nullable::Value(i128::MIN)),
-            WireFault::Range,
-        ),
-        (Form::Ascii(&[0x80]), WireFault::Range),
-    ];
+    const ROWS: &[(Form, WireFault)] = rows! {
+        Form::Unsigned(1 << 70), WireFault::Range;
+        Form::Signed(1 << 69), WireFault::Range;
+        Form::Signed(-(1 << 69) - 1), WireFault::Range;
+        Form::UnsignedNullable(Nullable::Value((1 << 70) - 1)), WireFault::Range;
+        Form::UnsignedNullable(Nullable::Value(u128::MAX)), WireFault::Range;
+        Form::SignedNullable(Nullable::Value((1 << 69) - 1)), WireFault::Range;
+        Form::SignedNullable(Nullable::Value(i128::MAX)), WireFault::Range;
+        Form::SignedNullable(Nullable::Value(i128::MIN)), WireFault::Range;
+        Form::Ascii(b"\x80"), WireFault::Range;
+    };
     all_refused(&rt, rt.alloc(), ROWS);
 }
 
 #[test]
 fn long_forms_are_refused(rt: HostRuntime) {
     let text = [0x41; 65_536];
+    let mut wide = text;
+    wide[65_535] = 0x80;
     let ones = [true; 1793];
-    let rows: &[(Form, WireFault)] = &[
-        (Form::Ascii(&text), WireFault::TooLong),
-        (
-            Form::AsciiNullable(Nullable::Value(&text)),
-            WireFault::TooLong,
-        ),
-        (Form::Vector(&text), WireFault::TooLong),
-        (Form::Map(&ones), WireFault::TooLong),
-    ];
+    let rows: &[(Form, WireFault)] = rows! {
+        Form::Ascii(&text), WireFault::TooLong;
+        Form::AsciiNullable(Nullable::Value(&text)), WireFault::TooLong;
+        // a character beyond ASCII comes first
+        Form::Ascii(&wide), WireFault::Range;
+        Form::AsciiNullable(Nullable::Value(&wide)), WireFault::Range;
+        Form::Vector(&text), WireFault::TooLong;
+        Form::Map(&ones), WireFault::TooLong;
+    };
     all_refused(&rt, rt.alloc(), rows);
 }
 
@@ -145,110 +100,54 @@ fn long_forms_are_refused(rt: HostRuntime) {
 /// answer what the others do, at one byte, at nine, and beyond.
 #[test]
 fn integers_are_read(rt: HostRuntime) {
-    const ROWS: &[(&[u8], usize, Read)] = &[
+    const ROWS: &[(&[u8], usize, Read)] = rows! {
         // unsigned integers
-        (&[0x00, 0x00, 0x81], 0, Read::Unsigned(Ok((1, 3)))),
-        (&[0xff, 0x81], 1, Read::Unsigned(Ok((1, 2)))),
-        (&[0x00; 9], 0, Read::Unsigned(Err(WireFault::NeedMore))),
-        (&[0x00; 10], 0, Read::Unsigned(Err(WireFault::TooLong))),
-        (&[0x80], 1, Read::Unsigned(Err(WireFault::NeedMore))),
+        b"\x00\x00\x81", 0, Read::Unsigned(Ok((1, 3)));
+        b"\xff\x81", 1, Read::Unsigned(Ok((1, 2)));
+        &[0x00; 9], 0, Read::Unsigned(Err(WireFault::NeedMore));
+        &[0x00; 10], 0, Read::Unsigned(Err(WireFault::TooLong));
+        b"\x80", 1, Read::Unsigned(Err(WireFault::NeedMore));
         // signed integers
-        (&[0x00; 10], 0, Read::Signed(Err(WireFault::TooLong))),
-        (&[0x00; 9], 0, Read::Signed(Err(WireFault::NeedMore))),
+        &[0x00; 10], 0, Read::Signed(Err(WireFault::TooLong));
+        &[0x00; 9], 0, Read::Signed(Err(WireFault::NeedMore));
         // a decimal is two of them, the exponent and then the mantissa
-        (&[0x82, 0x39, 0x45, 0xa3], 0, Read::Signed(Ok((2, 1)))),
-        (&[0x82, 0x39, 0x45, 0xa3], 1, Read::Signed(Ok((942_755, 4)))),
+        b"\x82\x39\x45\xa3", 0, Read::Signed(Ok((2, 1)));
+        b"\x82\x39\x45\xa3", 1, Read::Signed(Ok((942_755, 4)));
         // unsigned integers or NULL
-        (
-            &[0x00, 0x80],
-            0,
-            Read::UnsignedNullable(Ok((Nullable::Null, 2))),
-        ),
-        (
-            &[0x00; 10],
-            0,
-            Read::UnsignedNullable(Err(WireFault::TooLong)),
-        ),
+        b"\x00\x80", 0, Read::UnsignedNullable(Ok((Nullable::Null, 2)));
+        &[0x00; 10], 0, Read::UnsignedNullable(Err(WireFault::TooLong));
         // signed integers or NULL
-        (
-            &[0x00, 0x80],
-            0,
-            Read::SignedNullable(Ok((Nullable::Null, 2))),
-        ),
-        (&[0x7f], 0, Read::SignedNullable(Err(WireFault::NeedMore))),
+        b"\x00\x80", 0, Read::SignedNullable(Ok((Nullable::Null, 2)));
+        b"\x7f", 0, Read::SignedNullable(Err(WireFault::NeedMore));
         // unsigned integers in 64 bits
-        (&[0x80], 0, Read::U64(Ok((0, 1)))),
-        (&[0x39, 0x45, 0xa3], 0, Read::U64(Ok((942_755, 3)))),
-        (
-            &[0x7f, 0x7f, 0x7f, 0x7f, 0x7f, 0x7f, 0x7f, 0x7f, 0xff],
-            0,
-            Read::U64(Ok(((1 << 63) - 1, 9))),
-        ),
-        (
-            &[0x01, 0x7f, 0x7f, 0x7f, 0x7f, 0x7f, 0x7f, 0x7f, 0x7f, 0xff],
-            0,
-            Read::U64(Ok((u64::MAX, 10))),
-        ),
-        (
-            &[0x02, 0x00, 0x00, 0x00, 0x00, 0x00, 0x00, 0x00, 0x00, 0x81],
-            0,
-            Read::U64(Err(WireFault::Range)),
-        ),
-        (&[0x00; 9], 0, Read::U64(Err(WireFault::NeedMore))),
+        b"\x80", 0, Read::U64(Ok((0, 1)));
+        b"\x39\x45\xa3", 0, Read::U64(Ok((942_755, 3)));
+        b"\x7f\x7f\x7f\x7f\x7f\x7f\x7f\x7f\xff", 0, Read::U64(Ok(((1 << 63) - 1, 9)));
+        b"\x01\x7f\x7f\x7f\x7f\x7f\x7f\x7f\x7f\xff", 0, Read::U64(Ok((u64::MAX, 10)));
+        b"\x02\x00\x00\x00\x00\x00\x00\x00\x00\x81", 0, Read::U64(Err(WireFault::Range));
+        &[0x00; 9], 0, Read::U64(Err(WireFault::NeedMore));
         // signed integers in 64 bits
-        (&[0x82], 0, Read::I64(Ok((2, 1)))),
-        (&[0xff], 0, Read::I64(Ok((-1, 1)))),
-        (&[0x46, 0x3a, 0xdd], 0, Read::I64(Ok((-942_755, 3)))),
-        (
-            &[0x3f, 0x7f, 0x7f, 0x7f, 0x7f, 0x7f, 0x7f, 0x7f, 0xff],
-            0,
-            Read::I64(Ok(((1 << 62) - 1, 9))),
-        ),
-        (
-            &[0x40, 0x00, 0x00, 0x00, 0x00, 0x00, 0x00, 0x00, 0x80],
-            0,
-            Read::I64(Ok((-(1 << 62), 9))),
-        ),
-        (
-            &[0x7f, 0x00, 0x00, 0x00, 0x00, 0x00, 0x00, 0x00, 0x00, 0x80],
-            0,
-            Read::I64(Ok((i64::MIN, 10))),
-        ),
-        (
-            &[0x01, 0x7f, 0x7f, 0x7f, 0x7f, 0x7f, 0x7f, 0x7f, 0x7f, 0xff],
-            0,
-            Read::I64(Err(WireFault::Range)),
-        ),
-        (&[0x00; 10], 0, Read::I64(Err(WireFault::TooLong))),
+        b"\x82", 0, Read::I64(Ok((2, 1)));
+        b"\xff", 0, Read::I64(Ok((-1, 1)));
+        b"\x46\x3a\xdd", 0, Read::I64(Ok((-942_755, 3)));
+        b"\x3f\x7f\x7f\x7f\x7f\x7f\x7f\x7f\xff", 0, Read::I64(Ok(((1 << 62) - 1, 9)));
+        b"\x40\x00\x00\x00\x00\x00\x00\x00\x80", 0, Read::I64(Ok((-(1 << 62), 9)));
+        b"\x7f\x00\x00\x00\x00\x00\x00\x00\x00\x80", 0, Read::I64(Ok((i64::MIN, 10)));
+        b"\x01\x7f\x7f\x7f\x7f\x7f\x7f\x7f\x7f\xff", 0, Read::I64(Err(WireFault::Range));
+        &[0x00; 10], 0, Read::I64(Err(WireFault::TooLong));
         // unsigned integers in 64 bits or NULL
-        (&[0x80], 0, Read::U64Nullable(Ok((Nullable::Null, 1)))),
-        (&[0x00, 0x80], 0, Read::U64Nullable(Ok((Nullable::Null, 2)))),
-        (
-            &[0x02, 0x00, 0x00, 0x00, 0x00, 0x00, 0x00, 0x00, 0x00, 0x80],
-            0,
-            Read::U64Nullable(Ok((Nullable::Value(u64::MAX), 10))),
-        ),
-        (
-            &[0x02, 0x00, 0x00, 0x00, 0x00, 0x00, 0x00, 0x00, 0x00, 0x81],
-            0,
-            Read::U64Nullable(Err(WireFault::Range)),
-        ),
-        (&[], 0, Read::U64Nullable(Err(WireFault::NeedMore))),
+        b"\x80", 0, Read::U64Nullable(Ok((Nullable::Null, 1)));
+        b"\x00\x80", 0, Read::U64Nullable(Ok((Nullable::Null, 2)));
+        b"\x02\x00\x00\x00\x00\x00\x00\x00\x00\x80", 0, Read::U64Nullable(Ok((Nullable::Value(u64::MAX), 10)));
+        b"\x02\x00\x00\x00\x00\x00\x00\x00\x00\x81", 0, Read::U64Nullable(Err(WireFault::Range));
+        &[], 0, Read::U64Nullable(Err(WireFault::NeedMore));
         // signed integers in 64 bits or NULL
-        (&[0x80], 0, Read::I64Nullable(Ok((Nullable::Null, 1)))),
-        (&[0xc0], 0, Read::I64Nullable(Ok((Nullable::Value(-64), 1)))),
-        (
-            &[0x00, 0xc0],
-            0,
-            Read::I64Nullable(Ok((Nullable::Value(63), 2))),
-        ),
-        (
-            &[0x01, 0x7f, 0x7f, 0x7f, 0x7f, 0x7f, 0x7f, 0x7f, 0x7f, 0xff],
-            0,
-            Read::I64Nullable(Err(WireFault::Range)),
-        ),
-        (&[0x7f], 0, Read::I64Nullable(Err(WireFault::NeedMore))),
-    ];
+        b"\x80", 0, Read::I64Nullable(Ok((Nullable::Null, 1)));
+        b"\xc0", 0, Read::I64Nullable(Ok((Nullable::Value(-64), 1)));
+        b"\x00\xc0", 0, Read::I64Nullable(Ok((Nullable::Value(63), 2)));
+        b"\x01\x7f\x7f\x7f\x7f\x7f\x7f\x7f\x7f\xff", 0, Read::I64Nullable(Err(WireFault::Range));
+        b"\x7f", 0, Read::I64Nullable(Err(WireFault::NeedMore));
+    };
     all_read(&rt, ROWS);
 }
 
@@ -256,32 +155,20 @@ fn integers_are_read(rt: HostRuntime) {
 #[test]
 fn places_are_read(rt: HostRuntime) {
     const LETTER: Nullable<Span> = Nullable::Value(Span { start: 1, end: 2 });
-    const ROWS: &[(&[u8], usize, Read)] = &[
-        (&[0x80], 0, Read::Text(Ok((Span { start: 1, end: 1 }, 1)))),
-        (
-            &[0x00, 0xc1],
-            0,
-            Read::Text(Ok((Span { start: 1, end: 2 }, 2))),
-        ),
-        (
-            &[0x48, 0x65, 0xf9, 0x80],
-            0,
-            Read::Text(Ok((Span { start: 0, end: 3 }, 3))),
-        ),
-        (b"Hey", 0, Read::Text(Err(WireFault::NeedMore))),
-        (
-            &[0x82, 0xc3, 0xa9],
-            0,
-            Read::Vector(Ok((Span { start: 1, end: 3 }, 3))),
-        ),
-        (&[0x83, 0xc3], 0, Read::Vector(Err(WireFault::NeedMore))),
-        (&[0x80], 0, Read::TextNullable(Ok((Nullable::Null, 1)))),
-        (&[0x00, 0xc1], 0, Read::TextNullable(Ok((LETTER, 2)))),
-        (&[0x80], 0, Read::VectorNullable(Ok((Nullable::Null, 1)))),
-        (&[0x82, 0x41], 0, Read::VectorNullable(Ok((LETTER, 2)))),
-        (&[0xc3, 0xa9], 0, Read::Utf8(Ok(()))),
-        (&[0xc3, 0x41], 0, Read::Utf8(Err(WireFault::NotUtf8))),
-    ];
+    const ROWS: &[(&[u8], usize, Read)] = rows! {
+        b"\x80", 0, Read::Text(Ok((Span { start: 1, end: 1 }, 1)));
+        b"\x00\xc1", 0, Read::Text(Ok((Span { start: 1, end: 2 }, 2)));
+        b"\x48\x65\xf9\x80", 0, Read::Text(Ok((Span { start: 0, end: 3 }, 3)));
+        b"Hey", 0, Read::Text(Err(WireFault::NeedMore));
+        b"\x82\xc3\xa9", 0, Read::Vector(Ok((Span { start: 1, end: 3 }, 3)));
+        b"\x83\xc3", 0, Read::Vector(Err(WireFault::NeedMore));
+        b"\x80", 0, Read::TextNullable(Ok((Nullable::Null, 1)));
+        b"\x00\xc1", 0, Read::TextNullable(Ok((LETTER, 2)));
+        b"\x80", 0, Read::VectorNullable(Ok((Nullable::Null, 1)));
+        b"\x82\x41", 0, Read::VectorNullable(Ok((LETTER, 2)));
+        b"\xc3\xa9", 0, Read::Utf8(Ok(()));
+        b"\xc3\x41", 0, Read::Utf8(Err(WireFault::NotUtf8));
+    };
     all_read(&rt, ROWS);
 }
 
@@ -496,15 +383,15 @@ fn is_read_to(
 fn copies_are_read(rt: HostRuntime) -> Result<(), WireFault> {
     const LETTER: Nullable<&[u8]> = Nullable::Value(b"A");
     const ACCENT: Nullable<&[u8]> = Nullable::Value(&[0xc3, 0xa9]);
-    const ROWS: &[(Reader, Nullable<&[u8]>, &[u8])] = &[
-        (Reader::Ascii, LETTER, &[0xc1]),
-        (Reader::Vector, ACCENT, &[0x82, 0xc3, 0xa9]),
-        (Reader::AsciiNullable, LETTER, &[0xc1]),
-        (Reader::VectorNullable, LETTER, &[0x82, 0x41]),
-        (Reader::Ascii, LETTER, &[0x00, 0xc1]),
-        (Reader::AsciiNullable, LETTER, &[0x00, 0xc1]),
-        (Reader::AsciiNullable, LETTER, &[0x00, 0x00, 0xc1]),
-    ];
+    const ROWS: &[(Reader, Nullable<&[u8]>, &[u8])] = rows! {
+        Reader::Ascii, LETTER, b"\xc1";
+        Reader::Vector, ACCENT, b"\x82\xc3\xa9";
+        Reader::AsciiNullable, LETTER, b"\xc1";
+        Reader::VectorNullable, LETTER, b"\x82\x41";
+        Reader::Ascii, LETTER, b"\x00\xc1";
+        Reader::AsciiNullable, LETTER, b"\x00\xc1";
+        Reader::AsciiNullable, LETTER, b"\x00\x00\xc1";
+    };
     for (reader, value, bytes) in ROWS {
         is_read_to(&rt, rt.alloc(), *reader, *value, bytes, bytes.len())?;
     }
@@ -533,23 +420,19 @@ fn no_memory_for_no_value(rt: HostRuntime) {
     let zeros = [0u8; 65_540];
     let mut closed = zeros;
     closed[65_536] = 0x80;
-    let rows: &[(Reader, &[u8], WireFault)] = &[
-        (Reader::Ascii, b"Hey", WireFault::NeedMore),
-        (Reader::Ascii, &zeros[..65_539], WireFault::NeedMore),
-        (Reader::Ascii, &zeros, WireFault::TooLong),
-        (Reader::Ascii, &closed, WireFault::TooLong),
-        (Reader::AsciiNullable, b"Hey", WireFault::NeedMore),
-        (Reader::Vector, &[0x83, 0x41, 0x42], WireFault::NeedMore),
-        (Reader::Vector, &[0x82, 0xc3], WireFault::NeedMore),
-        (Reader::Vector, &[0x04], WireFault::NeedMore),
-        (Reader::Vector, &[0x04, 0x00, 0x80], WireFault::TooLong),
-        (Reader::VectorNullable, &[0x84, 0x41], WireFault::NeedMore),
-        (
-            Reader::VectorNullable,
-            &[0x04, 0x00, 0x81],
-            WireFault::TooLong,
-        ),
-    ];
+    let rows: &[(Reader, &[u8], WireFault)] = rows! {
+        Reader::Ascii, b"Hey", WireFault::NeedMore;
+        Reader::Ascii, &zeros[..65_539], WireFault::NeedMore;
+        Reader::Ascii, &zeros, WireFault::TooLong;
+        Reader::Ascii, &closed, WireFault::TooLong;
+        Reader::AsciiNullable, b"Hey", WireFault::NeedMore;
+        Reader::Vector, b"\x83\x41\x42", WireFault::NeedMore;
+        Reader::Vector, b"\x82\xc3", WireFault::NeedMore;
+        Reader::Vector, b"\x04", WireFault::NeedMore;
+        Reader::Vector, b"\x04\x00\x80", WireFault::TooLong;
+        Reader::VectorNullable, b"\x84\x41", WireFault::NeedMore;
+        Reader::VectorNullable, b"\x04\x00\x81", WireFault::TooLong;
+    };
     for (reader, bytes, fault) in rows {
         same(&rt, reader.fault(rt.alloc(), bytes), Some(*fault));
     }
@@ -558,11 +441,11 @@ fn no_memory_for_no_value(rt: HostRuntime) {
 #[test]
 fn maps_are_refused(rt: HostRuntime) {
     let zeros = [0u8; 256];
-    let rows: &[(&[u8], WireFault)] = &[
-        (&[0x40], WireFault::NeedMore),
-        (&zeros[..255], WireFault::NeedMore),
-        (&zeros, WireFault::TooLong),
-    ];
+    let rows: &[(&[u8], WireFault)] = rows! {
+        b"\x40", WireFault::NeedMore;
+        &zeros[..255], WireFault::NeedMore;
+        &zeros, WireFault::TooLong;
+    };
     for (bytes, fault) in rows {
         same(&rt, read_map(rt.alloc(), bytes, 0).err(), Some(*fault));
     }
@@ -781,40 +664,34 @@ fn all_agree(rt: &impl Abort, alloc: Global, rows: &[(Form, &[u8])]) -> Result<(
 /// second and each later allocation refused, until a run meets no refusal.
 #[test]
 fn refused_growths(rt: HostRuntime) -> Result<(), WireFault> {
-    const ROWS: &[(Form, &[u8])] = &[
+    const ROWS: &[(Form, &[u8])] = rows! {
         // integers
-        (Form::Unsigned(942_755), &[0x39, 0x45, 0xa3]),
-        (Form::Signed(942_755), &[0x39, 0x45, 0xa3]),
-        (Form::UnsignedNullable(Nullable::Value(2)), &[0x83]),
-        (Form::SignedNullable(Nullable::Value(-2)), &[0xfe]),
+        Form::Unsigned(942_755), b"\x39\x45\xa3";
+        Form::Signed(942_755), b"\x39\x45\xa3";
+        Form::UnsignedNullable(Nullable::Value(2)), b"\x83";
+        Form::SignedNullable(Nullable::Value(-2)), b"\xfe";
         // integers in 64 bits
-        (Form::U64(2), &[0x82]),
-        (Form::I64(-2), &[0xfe]),
-        (Form::I64(-1), &[0xff]),
-        (Form::U64Nullable(Nullable::Value(2)), &[0x83]),
-        (Form::U64Nullable(Nullable::Value(126)), &[0xff]),
-        (Form::U64Nullable(Nullable::Null), &[0x80]),
-        (Form::I64Nullable(Nullable::Value(62)), &[0xbf]),
-        (Form::I64Nullable(Nullable::Null), &[0x80]),
+        Form::U64(2), b"\x82";
+        Form::I64(-2), b"\xfe";
+        Form::I64(-1), b"\xff";
+        Form::U64Nullable(Nullable::Value(2)), b"\x83";
+        Form::U64Nullable(Nullable::Value(126)), b"\xff";
+        Form::U64Nullable(Nullable::Null), b"\x80";
+        Form::I64Nullable(Nullable::Value(62)), b"\xbf";
+        Form::I64Nullable(Nullable::Null), b"\x80";
         // strings
-        (Form::Ascii(b"Hey"), &[0x48, 0x65, 0xf9]),
-        (Form::Ascii(b"\0A"), &[0x00, 0x00, 0xc1]),
-        (Form::AsciiNullable(Nullable::Value(b"")), &[0x00, 0x80]),
-        (Form::AsciiNullable(Nullable::Null), &[0x80]),
+        Form::Ascii(b"Hey"), b"\x48\x65\xf9";
+        Form::Ascii(b"\0A"), b"\x00\x00\xc1";
+        Form::AsciiNullable(Nullable::Value(b"")), b"\x00\x80";
+        Form::AsciiNullable(Nullable::Null), b"\x80";
         // vectors
-        (Form::Vector(&[0xc3, 0xa9]), &[0x82, 0xc3, 0xa9]),
-        (
-            Form::VectorNullable(Nullable::Value(&[0xc3, 0xa9])),
-            &[0x83, 0xc3, 0xa9],
-        ),
-        (Form::VectorNullable(Nullable::Null), &[0x80]),
+        Form::Vector(b"\xc3\xa9"), b"\x82\xc3\xa9";
+        Form::VectorNullable(Nullable::Value(b"\xc3\xa9")), b"\x83\xc3\xa9";
+        Form::VectorNullable(Nullable::Null), b"\x80";
         // maps
-        (
-            Form::Map(&[false, false, false, false, false, false, false, true]),
-            &[0x00, 0xc0],
-        ),
-        (Form::Map(&[true, true, true]), &[0xf0]),
-    ];
+        Form::Map(&[false, false, false, false, false, false, false, true]), b"\x00\xc0";
+        Form::Map(&[true, true, true]), b"\xf0";
+    };
     for (form, bytes) in ROWS {
         is_written(&rt, rt.alloc(), &[0xd5, 0x00, 0x80], form, bytes)?;
     }

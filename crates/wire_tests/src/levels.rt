@@ -3,6 +3,7 @@
 use crate::same::same;
 use fast_wire::{entity_end, overlong_ascii, overlong_map, overlong_signed, overlong_unsigned};
 use std::process::Abort;
+use test_rows::rows;
 
 /// An entity, and whether it is overlong as an unsigned and as a signed integer, as a map, and as an ASCII string
 /// without NULL and with it.
@@ -29,48 +30,42 @@ fn is_judged(rt: &impl Abort, row: &Row) {
 
 #[test]
 fn overlong_entities(rt: HostRuntime) {
-    const ROWS: &[Row] = &[
+    const ROWS: &[Row] = rows! { Row:
         // one group
-        Row(b"\x80", [false, false, false, false, false]),
-        Row(b"\x81", [false, false, false, false, false]),
-        Row(b"\xFF", [false, false, false, false, false]),
+        b"\x80", [false, false, false, false, false];
+        b"\x81", [false, false, false, false, false];
+        b"\xFF", [false, false, false, false, false];
         // a group of zeros in front
-        Row(b"\x00\x80", [true, true, true, false, false]),
-        Row(b"\x00\x81", [true, true, false, true, true]),
-        Row(b"\x00\xBF", [true, true, false, true, true]),
-        Row(b"\x00\xC0", [true, false, false, true, true]),
-        Row(b"\x00\xC1", [true, false, false, true, true]),
-        Row(b"\x00\x40\x81", [true, false, false, true, true]),
-        Row(b"\x00\x7F\xFF", [true, false, false, true, true]),
+        b"\x00\x80", [true, true, true, false, false];
+        b"\x00\x81", [true, true, false, true, true];
+        b"\x00\xBF", [true, true, false, true, true];
+        b"\x00\xC0", [true, false, false, true, true];
+        b"\x00\xC1", [true, false, false, true, true];
+        b"\x00\x40\x81", [true, false, false, true, true];
+        b"\x00\x7F\xFF", [true, false, false, true, true];
         // more of them
-        Row(b"\x00\x00\x80", [true, true, true, false, false]),
-        Row(b"\x00\x00\xC1", [true, true, false, false, true]),
-        Row(b"\x00\x00\x00\x80", [true, true, true, false, false]),
-        Row(b"\x00\x00\x00\xC1", [true, true, false, false, false]),
+        b"\x00\x00\x80", [true, true, true, false, false];
+        b"\x00\x00\xC1", [true, true, false, false, true];
+        b"\x00\x00\x00\x80", [true, true, true, false, false];
+        b"\x00\x00\x00\xC1", [true, true, false, false, false];
         // a group of ones in front
-        Row(b"\x7F\xBF", [false, false, false, false, false]),
-        Row(b"\x7F\xC0", [false, true, false, false, false]),
-        Row(b"\x7F\xFF", [false, true, false, false, false]),
-        Row(b"\x7F\x3F\xFF", [false, false, false, false, false]),
-        Row(b"\x7F\x40\x80", [false, true, true, false, false]),
-        Row(b"\x7E\xFF", [false, false, false, false, false]),
+        b"\x7F\xBF", [false, false, false, false, false];
+        b"\x7F\xC0", [false, true, false, false, false];
+        b"\x7F\xFF", [false, true, false, false, false];
+        b"\x7F\x3F\xFF", [false, false, false, false, false];
+        b"\x7F\x40\x80", [false, true, true, false, false];
+        b"\x7E\xFF", [false, false, false, false, false];
         // a group of zeros behind
-        Row(b"\x01\x80", [false, false, true, false, false]),
-        Row(b"\x40\x80", [false, false, true, false, false]),
-        Row(b"\x70\x00\x80", [false, false, true, false, false]),
-        Row(b"\x7F\x3F\x80", [false, false, true, false, false]),
-        Row(b"\x40\x00\x81", [false, false, false, false, false]),
-        Row(b"\x41\xC2", [false, false, false, false, false]),
+        b"\x01\x80", [false, false, true, false, false];
+        b"\x40\x80", [false, false, true, false, false];
+        b"\x70\x00\x80", [false, false, true, false, false];
+        b"\x7F\x3F\x80", [false, false, true, false, false];
+        b"\x40\x00\x81", [false, false, false, false, false];
+        b"\x41\xC2", [false, false, false, false, false];
         // ten groups
-        Row(
-            b"\x02\x00\x00\x00\x00\x00\x00\x00\x00\x80",
-            [false, false, true, false, false],
-        ),
-        Row(
-            b"\x00\x00\x00\x00\x00\x00\x00\x00\x00\x81",
-            [true, true, false, false, false],
-        ),
-    ];
+        b"\x02\x00\x00\x00\x00\x00\x00\x00\x00\x80", [false, false, true, false, false];
+        b"\x00\x00\x00\x00\x00\x00\x00\x00\x00\x81", [true, true, false, false, false];
+    };
     for row in ROWS {
         is_judged(&rt, row);
     }

@@ -1,6 +1,6 @@
 //! The calls of a machine.
 
-ghost use Rattle.std.specs.Prelude.{◌≡◌, ◌≢◌, ◌≤◌, ◌<◌, ◌+◌, ◌*◌, ◌-◌, ◌^◌, ◌++◌, ◌⊎◌, [], ℕ, true, List, None, Some, Err, OnOk, OnErr, IfOk, IfErr, IfSome, IfNone, length, take, drop, map};
+ghost use Rattle.std.specs.Prelude.{◌≡◌, ◌≢◌, ◌≤◌, ◌<◌, ◌+◌, ◌*◌, ◌-◌, ◌^◌, ◌++◌, ◌⊎◌, [], ℕ, true, false, List, None, Some, Err, OnOk, OnErr, IfOk, IfErr, IfSome, IfNone, length, take, drop, map};
 ghost use Rattle.std.specs.FinMap as finite;
 ghost use Rattle.fast_template.specs.TemplateSets.{IsSound, templates_in};
 ghost use Rattle.fast_stream.specs.Nodes.{Content};
@@ -10,7 +10,9 @@ ghost use Rattle.fast_walk.specs.declared.traversal.Stage.TheVariants as stage;
 ghost use Rattle.fast_walk.specs.Lacks.{AreUnstopped, Lacks};
 ghost use Rattle.fast_walk.specs.Traversals.{CanGoOn, ServesAll, begun_of};
 ghost use Rattle.fast_machine.specs.Calls.{AnswersNone, FollowsAll, FollowsOn, FollowsTaken, FollowsWaiting, HoldsNothing, IsBehind, IsFault, IsFaultOf, IsSameStream, KeepsFault, ReadsNext, StandsAt, StaysAt, StillFollows};
-ghost use Rattle.fast_machine.specs.Following.{Counts, IsHeld};
+ghost use Rattle.fast_machine.specs.Following.{Counts, IsHeld, Refused};
+ghost use Rattle.fast_machine.specs.Progress.{IsUnended};
+ghost use Rattle.fast_stream.specs.declared.fault.Fault.{Fault as FaultOf};
 ghost use Rattle.fast_machine.specs.Runs.{Retains};
 
 use crate::blocks::{open_block, within};
@@ -96,6 +98,7 @@ fn hold_in(held: &mut Vec<u8>, bytes: Vec<u8>)
 
 impl<'a, R: Receiver, E: Entries> Machine<'a, R, E> {
     ghost use Rattle.fast_machine.specs.Following.{Answers, Follows, IsCutAt, mode_of};
+    ghost use Rattle.fast_machine.specs.Progress.{HasRefused};
 
     /// A machine over a set, at the beginning of a stream. The entries are reset. Takes no memory.
     #[tactic(auto, using(crate::proofs::Calls::kept_first))]
@@ -150,7 +153,8 @@ impl<'a, R: Receiver, E: Entries> Machine<'a, R, E> {
     /// Whether the fault that is kept is want of memory for what the receiver or the entries asked for, and not the
     /// machine itself.
     pub fn receiver_refused(&self) -> bool
-        ensures { result ≡ true → IfSome self.now.fault (λ f. f.cause ≡ Cause.Memory) × (self.now.fault ≢ None) }
+        ensures yes { result ≡ true → HasRefused self.now }
+        ensures no { result ≡ false → HasRefused self.now → ⊥ }
     {
         match self.fault {
             None => false,
@@ -184,6 +188,20 @@ impl<'a, R: Receiver, E: Entries> Machine<'a, R, E> {
     {
         self.traversal.set_is_sound();
         self.held.len()
+    }
+
+    /// Tells a proof what the machine follows, in words of the stream alone: while it has no fault, the bytes fed carry
+    /// the messages told of them and at most a front of one more; and where it has one, they are refused behind the
+    /// messages. Does nothing.
+    pub fn tell_progress(&self)
+        ensures unended { self.now.fault ≡ None → (before : List Content) (fed : List ℕ)
+            (messages : List Content) → Follows self.now before fed messages
+            → IsUnended (mode_of self.now) (templates_in self.now.traversal.set.now) fed messages }
+        ensures refused { (fault : FaultOf) → self.now.fault ≡ Some fault → (before : List Content)
+            (fed : List ℕ) (messages : List Content) → Follows self.now before fed messages
+            → Refused fault (mode_of self.now) (templates_in self.now.traversal.set.now) fed messages }
+    {
+        self.traversal.set_is_sound();
     }
 
     // Keeps a fault of a piece of which so many bytes are left.

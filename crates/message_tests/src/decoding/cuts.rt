@@ -5,11 +5,12 @@ use crate::same::same;
 use crate::worked::worked;
 use fast_stream::Fault;
 use fast_template::TemplateSet;
-use std::alloc::{AllocError, Global};
+use std::alloc::Global;
 use std::process::Abort;
 use stream_rows::cuts::{CUTS, Cut};
 use stream_rows::ends::End;
 use stream_rows::modes::{InMode, in_each_mode};
+use test_rows::Tried;
 
 // A stream has so many messages, and then ends so.
 fn ends_so(
@@ -19,7 +20,7 @@ fn ends_so(
     stream: &InMode,
     messages: u64,
     fault: Option<Fault>,
-) -> Result<(), AllocError> {
+) -> Tried {
     let steps = [
         Step::Feed(&stream.stream, End::Whole),
         Step::Finish(End::of(stream.moved(fault))),
@@ -37,7 +38,7 @@ fn each_ends_so(
     streams: &[InMode],
     messages: u64,
     fault: Option<Fault>,
-) -> Result<(), AllocError> {
+) -> Tried {
     for stream in streams {
         ends_so(rt, alloc, set, stream, messages, fault)?;
     }
@@ -45,13 +46,7 @@ fn each_ends_so(
 }
 
 // A stream that is cut behind so many bytes, in each mode.
-fn is_cut(
-    rt: &impl Abort,
-    alloc: Global,
-    set: &TemplateSet,
-    row: &Cut,
-    count: usize,
-) -> Result<(), AllocError> {
+fn is_cut(rt: &impl Abort, alloc: Global, set: &TemplateSet, row: &Cut, count: usize) -> Tried {
     let front = row.front(count);
     let fault = front.truncated();
     let stream = &row.stream[..count.min(row.stream.len())];
@@ -60,7 +55,7 @@ fn is_cut(
 }
 
 #[test]
-fn streams_that_are_cut(rt: HostRuntime) -> Result<(), AllocError> {
+fn streams_that_are_cut(rt: HostRuntime) -> Tried {
     let set = worked(&rt, rt.alloc())?;
     for row in CUTS {
         for count in 1..=row.missing.len() {

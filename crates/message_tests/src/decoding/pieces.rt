@@ -5,12 +5,13 @@ use crate::decoding::streams::{Row, agrees};
 use crate::same::same;
 use crate::worked::{loaded, worked};
 use fast_stream::Cause;
-use std::alloc::{AllocError, Global};
+use std::alloc::Global;
 use std::process::Abort;
 use stream_rows::ends::End;
 use stream_rows::long::{LONG, Long};
 use stream_rows::modes::{BLOCKS, STRICT_BLOCKS};
 use stream_rows::sent::{Sent, Shown};
+use test_rows::{Tried, rows};
 
 // A string or a vector of each form, and a number behind it.
 const STRINGS: &str = r#"{"templates":[
@@ -61,176 +62,41 @@ const PRICES: &[Shown] = &[
 const UNICODE: &[Shown] = &[Shown::Unicode("ééééé ééééé ééééé!"), Shown::Number(5)];
 
 // Streams of one message each.
-const WHOLE: &[Long] = &[
-    Long {
-        pieces: &[(b"\xC0\x81", 1), (b"\x41", 39), (b"\xC1\x85", 1)],
-        want: &[Sent {
-            template: 1,
-            fields: LETTERS,
-        }],
-        end: End::Whole,
-    },
-    Long {
-        pieces: &[(b"\xC0\x82", 1), (b"\x41", 39), (b"\xC1\x85", 1)],
-        want: &[Sent {
-            template: 2,
-            fields: LETTERS,
-        }],
-        end: End::Whole,
-    },
-    Long {
-        pieces: &[(b"\xE0\x83", 1), (b"\x41", 39), (b"\xC1\x85", 1)],
-        want: &[Sent {
-            template: 3,
-            fields: LETTERS,
-        }],
-        end: End::Whole,
-    },
-    Long {
-        pieces: &[(b"\xE0\x84", 1), (b"\x41", 39), (b"\xC1\x85", 1)],
-        want: &[Sent {
-            template: 4,
-            fields: LETTERS,
-        }],
-        end: End::Whole,
-    },
-    Long {
-        pieces: &[(b"\xC0\x85\x94", 1), (b"\xC1", 20), (b"\x85", 1)],
-        want: &[Sent {
-            template: 5,
-            fields: VECTOR,
-        }],
-        end: End::Whole,
-    },
-    Long {
-        pieces: &[(b"\xE0\x86\x95", 1), (b"\xC1", 20), (b"\x85", 1)],
-        want: &[Sent {
-            template: 6,
-            fields: VECTOR,
-        }],
-        end: End::Whole,
-    },
-    Long {
-        pieces: &[
-            (b"\xC0\x87\xA1", 1),
-            (b"\xC3\xA9", 5),
-            (b" ", 1),
-            (b"\xC3\xA9", 5),
-            (b" ", 1),
-            (b"\xC3\xA9", 5),
-            (b"!\x85", 1),
-        ],
-        want: &[Sent {
-            template: 7,
-            fields: UNICODE,
-        }],
-        end: End::Whole,
-    },
-    Long {
-        pieces: &[(b"\xC0\x88\x80", 1), (b"\x41", 39), (b"\xC1\x85", 1)],
-        want: &[Sent {
-            template: 8,
-            fields: LETTERS,
-        }],
-        end: End::Whole,
-    },
-    Long {
-        pieces: &[
-            (b"\xC0\x89\x80\xA1", 1),
-            (b"\xC3\xA9", 5),
-            (b" ", 1),
-            (b"\xC3\xA9", 5),
-            (b" ", 1),
-            (b"\xC3\xA9", 5),
-            (b"!\x85", 1),
-        ],
-        want: &[Sent {
-            template: 9,
-            fields: UNICODE,
-        }],
-        end: End::Whole,
-    },
-    Long {
-        pieces: &[(b"\xC0\x8A\x81\x94", 1), (b"\xC1", 20), (b"\x85", 1)],
-        want: &[Sent {
-            template: 10,
-            fields: VECTOR,
-        }],
-        end: End::Whole,
-    },
+const WHOLE: &[Long] = rows! { Long { pieces, want, end }:
+    &[(b"\xC0\x81", 1), (b"\x41", 39), (b"\xC1\x85", 1)], &[Sent(1, LETTERS)], End::Whole;
+    &[(b"\xC0\x82", 1), (b"\x41", 39), (b"\xC1\x85", 1)], &[Sent(2, LETTERS)], End::Whole;
+    &[(b"\xE0\x83", 1), (b"\x41", 39), (b"\xC1\x85", 1)], &[Sent(3, LETTERS)], End::Whole;
+    &[(b"\xE0\x84", 1), (b"\x41", 39), (b"\xC1\x85", 1)], &[Sent(4, LETTERS)], End::Whole;
+    &[(b"\xC0\x85\x94", 1), (b"\xC1", 20), (b"\x85", 1)], &[Sent(5, VECTOR)], End::Whole;
+    &[(b"\xE0\x86\x95", 1), (b"\xC1", 20), (b"\x85", 1)], &[Sent(6, VECTOR)], End::Whole;
+    &[(b"\xC0\x87\xA1", 1), (b"\xC3\xA9", 5), (b" ", 1), (b"\xC3\xA9", 5), (b" ", 1), (b"\xC3\xA9", 5), (b"!\x85", 1)],
+        &[Sent(7, UNICODE)], End::Whole;
+    &[(b"\xC0\x88\x80", 1), (b"\x41", 39), (b"\xC1\x85", 1)], &[Sent(8, LETTERS)], End::Whole;
+    &[(b"\xC0\x89\x80\xA1", 1), (b"\xC3\xA9", 5), (b" ", 1), (b"\xC3\xA9", 5), (b" ", 1), (b"\xC3\xA9", 5),
+        (b"!\x85", 1)], &[Sent(9, UNICODE)], End::Whole;
+    &[(b"\xC0\x8A\x81\x94", 1), (b"\xC1", 20), (b"\x85", 1)], &[Sent(10, VECTOR)], End::Whole;
     // (the mantissa of each decimal is 2 ^ 20)
-    Long {
-        pieces: &[(b"\xE0\x8B", 1), (b"\xFE\x00\x40\x00\x80", 3), (b"\x85", 1)],
-        want: &[Sent {
-            template: 11,
-            fields: PRICES,
-        }],
-        end: End::Whole,
-    },
-];
+    &[(b"\xE0\x8B", 1), (b"\xFE\x00\x40\x00\x80", 3), (b"\x85", 1)], &[Sent(11, PRICES)], End::Whole;
+};
 
 // Streams that end one byte early.
-const EARLY: &[Long] = &[
-    Long {
-        pieces: &[(b"\xC0\x81", 1), (b"\x41", 39)],
-        want: &[],
-        end: End::Fault(Cause::Truncated, 1, 2, 1, 1),
-    },
-    Long {
-        pieces: &[(b"\xE0\x84", 1), (b"\x41", 39)],
-        want: &[],
-        end: End::Fault(Cause::Truncated, 1, 2, 4, 1),
-    },
-    Long {
-        pieces: &[(b"\xC0\x85\x94", 1), (b"\xC1", 19)],
-        want: &[],
-        end: End::Fault(Cause::Truncated, 1, 2, 5, 1),
-    },
-    Long {
-        pieces: &[(b"\xE0\x86\x95", 1), (b"\xC1", 19)],
-        want: &[],
-        end: End::Fault(Cause::Truncated, 1, 2, 6, 1),
-    },
-    Long {
-        pieces: &[(b"\xC0\x87\xA1", 1), (b"\xC3\xA9", 16)],
-        want: &[],
-        end: End::Fault(Cause::Truncated, 1, 2, 7, 1),
-    },
-    Long {
-        pieces: &[(b"\xC0\x88\x80", 1), (b"\x41", 39)],
-        want: &[],
-        end: End::Fault(Cause::Truncated, 1, 2, 8, 1),
-    },
-    Long {
-        pieces: &[(b"\xC0\x89\x80\xA1", 1), (b"\xC3\xA9", 16)],
-        want: &[],
-        end: End::Fault(Cause::Truncated, 1, 2, 9, 1),
-    },
-    Long {
-        pieces: &[(b"\xC0\x8A\x81\x94", 1), (b"\xC1", 19)],
-        want: &[],
-        end: End::Fault(Cause::Truncated, 1, 2, 10, 1),
-    },
-    Long {
-        pieces: &[(b"\xE0\x8B\xFE\x00\x40\x00", 1)],
-        want: &[],
-        end: End::Fault(Cause::Truncated, 1, 2, 11, 1),
-    },
+const EARLY: &[Long] = rows! { Long { pieces, want, end }:
+    &[(b"\xC0\x81", 1), (b"\x41", 39)], &[], End::Fault(Cause::Truncated, 1, 2, 1, 1);
+    &[(b"\xE0\x84", 1), (b"\x41", 39)], &[], End::Fault(Cause::Truncated, 1, 2, 4, 1);
+    &[(b"\xC0\x85\x94", 1), (b"\xC1", 19)], &[], End::Fault(Cause::Truncated, 1, 2, 5, 1);
+    &[(b"\xE0\x86\x95", 1), (b"\xC1", 19)], &[], End::Fault(Cause::Truncated, 1, 2, 6, 1);
+    &[(b"\xC0\x87\xA1", 1), (b"\xC3\xA9", 16)], &[], End::Fault(Cause::Truncated, 1, 2, 7, 1);
+    &[(b"\xC0\x88\x80", 1), (b"\x41", 39)], &[], End::Fault(Cause::Truncated, 1, 2, 8, 1);
+    &[(b"\xC0\x89\x80\xA1", 1), (b"\xC3\xA9", 16)], &[], End::Fault(Cause::Truncated, 1, 2, 9, 1);
+    &[(b"\xC0\x8A\x81\x94", 1), (b"\xC1", 19)], &[], End::Fault(Cause::Truncated, 1, 2, 10, 1);
+    &[(b"\xE0\x8B\xFE\x00\x40\x00", 1)], &[], End::Fault(Cause::Truncated, 1, 2, 11, 1);
     // a removal from a base that has nothing is refused before its new part has come
-    Long {
-        pieces: &[(b"\xC0\x88\x81", 1), (b"\x41", 39)],
-        want: &[],
-        end: End::Fault(Cause::D7, 1, 2, 8, 1),
-    },
-    Long {
-        pieces: &[(b"\xC0\x89\x81\xA1", 1), (b"\xC3\xA9", 16)],
-        want: &[],
-        end: End::Fault(Cause::D7, 1, 2, 9, 1),
-    },
-];
+    &[(b"\xC0\x88\x81", 1), (b"\x41", 39)], &[], End::Fault(Cause::D7, 1, 2, 8, 1);
+    &[(b"\xC0\x89\x81\xA1", 1), (b"\xC3\xA9", 16)], &[], End::Fault(Cause::D7, 1, 2, 9, 1);
+};
 
 // The streams of these tables however their bytes come.
-fn all_come(rt: &impl Abort, alloc: Global, tables: &[&[Long]]) -> Result<(), AllocError> {
+fn all_come(rt: &impl Abort, alloc: Global, tables: &[&[Long]]) -> Tried {
     let set = loaded(rt, alloc, STRINGS)?;
     for rows in tables {
         all_read(rt, alloc, &set, Coming::EachWay, rows)?;
@@ -239,26 +105,18 @@ fn all_come(rt: &impl Abort, alloc: Global, tables: &[&[Long]]) -> Result<(), Al
 }
 
 #[test]
-fn long_pieces_in_few_bytes(rt: HostRuntime) -> Result<(), AllocError> {
+fn long_pieces_in_few_bytes(rt: HostRuntime) -> Tried {
     all_come(&rt, rt.alloc(), &[WHOLE, EARLY])
 }
 
 // Blocks that end inside a text and inside a vector: no byte more is waited for.
-const CUT_OFF: &[Row] = &[
-    Row {
-        stream: b"\x8C\xC0\x81AAAAAAAAAA",
-        want: &[],
-        end: End::Fault(Cause::BlockEnd, 1, 3, 1, 1),
-    },
-    Row {
-        stream: b"\x8C\xC0\x85\x94AAAAAAAAA",
-        want: &[],
-        end: End::Fault(Cause::BlockEnd, 1, 3, 5, 1),
-    },
-];
+const CUT_OFF: &[Row] = rows! { Row { stream, want, end }:
+    b"\x8C\xC0\x81AAAAAAAAAA", &[], End::Fault(Cause::BlockEnd, 1, 3, 1, 1);
+    b"\x8C\xC0\x85\x94AAAAAAAAA", &[], End::Fault(Cause::BlockEnd, 1, 3, 5, 1);
+};
 
 #[test]
-fn long_pieces_in_short_blocks(rt: HostRuntime) -> Result<(), AllocError> {
+fn long_pieces_in_short_blocks(rt: HostRuntime) -> Tried {
     let set = loaded(&rt, rt.alloc(), STRINGS)?;
     for row in CUT_OFF {
         let fault = row.end.fault();
@@ -272,7 +130,7 @@ fn long_pieces_in_short_blocks(rt: HostRuntime) -> Result<(), AllocError> {
 
 // Streams of 65,535 characters and more.
 #[test]
-fn longest_pieces_byte_by_byte(rt: HostRuntime) -> Result<(), AllocError> {
+fn longest_pieces_byte_by_byte(rt: HostRuntime) -> Tried {
     let set = worked(&rt, rt.alloc())?;
     all_read(&rt, rt.alloc(), &set, Coming::ByteByByte, LONG)
 }

@@ -10,10 +10,11 @@ use fast_decoder::{Decoder, Mode};
 use fast_dictionary::{Entries, MapEntries};
 use fast_stream::{Fault, Message};
 use fast_template::TemplateSet;
-use std::alloc::{AllocError, Global};
+use std::alloc::Global;
 use std::process::Abort;
 use stream_rows::ends::End;
 use stream_rows::modes::PLAIN;
+use test_rows::Tried;
 
 // A call, and what it answers.
 #[derive(Clone, Copy)]
@@ -33,7 +34,7 @@ fn feeds<E: Entries>(
     bytes: &[u8],
     end: End,
     out: &mut Vec<Message>,
-) -> Result<bool, AllocError> {
+) -> Tried<bool> {
     if decoder.fed() >= 100_000 || bytes.len() >= 100_000 {
         return Ok(false);
     }
@@ -47,7 +48,7 @@ fn holds_behind<E: Entries>(
     byte: u8,
     held: usize,
     out: &mut Vec<Message>,
-) -> Result<bool, AllocError> {
+) -> Tried<bool> {
     if decoder.fed() > 100_000 {
         return Ok(false);
     }
@@ -63,7 +64,7 @@ fn is_cut_so<E: Entries>(
     want: &[Message],
     fault: Option<Fault>,
     out: &mut Vec<Message>,
-) -> Result<bool, AllocError> {
+) -> Tried<bool> {
     out.clear();
     if decoder.fed() != 0 || front.len() > 100_000 || back.len() > 100_000 {
         return Ok(false);
@@ -82,7 +83,7 @@ fn takes<E: Entries>(
     decoder: &mut Decoder<'_, E>,
     step: Step,
     out: &mut Vec<Message>,
-) -> Result<bool, AllocError> {
+) -> Tried<bool> {
     match step {
         Step::Feed(bytes, end) => feeds(decoder, bytes, end, out),
         Step::Byte(byte, held) => holds_behind(decoder, byte, held, out),
@@ -100,7 +101,7 @@ fn takes_all<E: Entries>(
     decoder: &mut Decoder<'_, E>,
     steps: &[Step],
     out: &mut Vec<Message>,
-) -> Result<bool, AllocError> {
+) -> Tried<bool> {
     for step in steps {
         if !takes(decoder, *step, out)? {
             return Ok(false);
@@ -122,7 +123,7 @@ fn fulfils<E: Entries>(
     decoder: &mut Decoder<'_, E>,
     task: Task,
     out: &mut Vec<Message>,
-) -> Result<bool, AllocError> {
+) -> Tried<bool> {
     match task {
         Task::Follow(steps) => takes_all(decoder, steps, out),
         Task::Cut(front, back, want, fault) => is_cut_so(decoder, front, back, want, fault, out),
@@ -134,7 +135,7 @@ fn fulfils_or_resets<E: Entries>(
     decoder: &mut Decoder<'_, E>,
     task: Task,
     out: &mut Vec<Message>,
-) -> Result<bool, AllocError> {
+) -> Tried<bool> {
     match fulfils(decoder, task, out) {
         Ok(done) => Ok(done),
         Err(error) => {
@@ -156,7 +157,7 @@ fn fulfils_over<E: Entries>(
     entries: E,
     task: Task,
     out: &mut Vec<Message>,
-) -> Result<bool, AllocError>
+) -> Tried<bool>
     requires { ServesAll (E.serves entries) set.now }
 {
     let mut decoder = Decoder::new(alloc, set, mode, entries);
@@ -170,7 +171,7 @@ pub(crate) fn both_fulfil(
     mode: Mode,
     task: Task,
     out: &mut Vec<Message>,
-) -> Result<bool, AllocError> {
+) -> Tried<bool> {
     if !fulfils_over(alloc, set, mode, MapEntries::new(alloc), task, out)? {
         return Ok(false);
     }
@@ -185,7 +186,7 @@ pub(crate) fn follow<E: Entries>(
     mode: Mode,
     entries: E,
     steps: &[Step],
-) -> Result<Vec<Message>, AllocError>
+) -> Tried<Vec<Message>>
     requires { ServesAll (E.serves entries) set.now }
 {
     let mut messages = Vec::new(alloc);
@@ -202,7 +203,7 @@ pub(crate) fn count_in(
     set: &TemplateSet,
     mode: Mode,
     steps: &[Step],
-) -> Result<usize, AllocError> {
+) -> Tried<usize> {
     let messages = follow(rt, alloc, set, mode, MapEntries::new(alloc), steps)?;
     let others = follow(rt, alloc, set, mode, slots_of(alloc, set)?, steps)?;
     same(rt, others.as_slice() == messages.as_slice(), true);
@@ -210,7 +211,7 @@ pub(crate) fn count_in(
 }
 
 // The same of the worked templates and plain messages.
-pub(crate) fn count(rt: &impl Abort, alloc: Global, steps: &[Step]) -> Result<usize, AllocError> {
+pub(crate) fn count(rt: &impl Abort, alloc: Global, steps: &[Step]) -> Tried<usize> {
     let set = worked(rt, alloc)?;
     count_in(rt, alloc, &set, PLAIN, steps)
 }

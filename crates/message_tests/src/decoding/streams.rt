@@ -12,18 +12,20 @@ use fast_dictionary::{Entries, MapEntries};
 use fast_io::{ByteInput, Counted, ScriptInput};
 use fast_stream::{Cause, Fault, Message};
 use fast_template::TemplateSet;
-use std::alloc::{AllocError, Global};
+use std::alloc::Global;
 use std::process::Abort;
 use stream_rows::ends::End;
 use stream_rows::modes::{PLAIN, STRICT};
 use stream_rows::quotes::{BOTH, ONE, QUOTE, quote};
+use stream_rows::sent::Shown::{Absent, Bytes, Decimal, Group, Number, Sequence, Text, Unicode};
 use stream_rows::sent::{Sent, Shown, messages};
+use test_rows::{Tried, rows};
 
 // Whether a reader gives these messages.
 fn gives_all<R: ByteInput, E: Entries>(
     input: &mut MessageInputStream<'_, R, E>,
     want: &[Message],
-) -> Result<bool, AllocError> {
+) -> Tried<bool> {
     for message in want {
         match input.read_message() {
             Ok(Some(found)) if found == *message => {}
@@ -41,7 +43,7 @@ fn gives_all<R: ByteInput, E: Entries>(
 fn ends_so<R: ByteInput, E: Entries>(
     input: &mut MessageInputStream<'_, R, E>,
     fault: Option<Fault>,
-) -> Result<bool, AllocError> {
+) -> Tried<bool> {
     match input.read_message() {
         Ok(None) => Ok(fault.is_none()),
         Ok(Some(_)) => Ok(false),
@@ -54,14 +56,14 @@ fn reads_all<R: ByteInput, E: Entries>(
     input: &mut MessageInputStream<'_, R, E>,
     want: &[Message],
     fault: Option<Fault>,
-) -> Result<bool, AllocError> {
+) -> Tried<bool> {
     Ok(gives_all(input, want)? && ends_so(input, fault)?)
 }
 
 // The faults that two calls answer.
 fn two_faults<R: ByteInput, E: Entries>(
     input: &mut MessageInputStream<'_, R, E>,
-) -> Result<(Option<Fault>, Option<Fault>), AllocError> {
+) -> Tried<(Option<Fault>, Option<Fault>)> {
     let first = granted(input.read_message().err())?;
     let second = granted(input.read_message().err())?;
     Ok((first, second))
@@ -79,7 +81,7 @@ enum Given<'a> {
 fn gives<R: ByteInput, E: Entries>(
     input: &mut MessageInputStream<'_, R, E>,
     given: Given,
-) -> Result<bool, AllocError> {
+) -> Tried<bool> {
     match given {
         Given::Messages(want, fault) => reads_all(input, want, fault),
         Given::Faults(first, second) => Ok(two_faults(input)? == (first, second)),
@@ -103,7 +105,7 @@ fn reads<E: Entries>(
     entries: E,
     script: Script,
     given: Given,
-) -> Result<bool, AllocError>
+) -> Tried<bool>
     requires { ServesAll (E.serves entries) set.now }
 {
     let reader = ScriptInput::new(script.stream, script.step.max(1), script.fails);
@@ -119,7 +121,7 @@ fn both_give(
     mode: Mode,
     script: Script,
     given: Given,
-) -> Result<bool, AllocError> {
+) -> Tried<bool> {
     let map = MapEntries::new(alloc);
     if !reads(alloc, set, mode, map, script, given)? {
         return Ok(false);
@@ -138,7 +140,7 @@ pub(crate) fn both_read(
     step: usize,
     want: &[Message],
     fault: Option<Fault>,
-) -> Result<bool, AllocError> {
+) -> Tried<bool> {
     let script = Script {
         stream,
         step,
@@ -157,7 +159,7 @@ pub(crate) fn both_decode(
     back: &[u8],
     want: &[Message],
     fault: Option<Fault>,
-) -> Result<bool, AllocError> {
+) -> Tried<bool> {
     let task = Task::Cut(front, back, want, fault);
     both_fulfil(alloc, set, mode, task, &mut Vec::new(alloc))
 }
@@ -171,7 +173,7 @@ pub(crate) fn agrees(
     stream: &[u8],
     want: &[Message],
     fault: Option<Fault>,
-) -> Result<bool, AllocError> {
+) -> Tried<bool> {
     for step in 1..4 {
         if !both_read(alloc, set, mode, stream, step, want, fault)? {
             return Ok(false);
@@ -200,7 +202,7 @@ pub(crate) fn is_read(
     set: &TemplateSet,
     mode: Mode,
     row: &Row,
-) -> Result<(), AllocError> {
+) -> Tried {
     let want = messages(alloc, row.want)?;
     let agree = agrees(alloc, set, mode, row.stream, &want, row.end.fault())?;
     same(rt, agree, true);
@@ -213,406 +215,98 @@ pub(crate) fn each_read(
     set: &TemplateSet,
     mode: Mode,
     rows: &[Row],
-) -> Result<(), AllocError> {
+) -> Tried {
     for row in rows {
         is_read(rt, alloc, set, mode, row)?;
     }
     Ok(())
 }
 
-pub(crate) fn all_read_in(
-    rt: &impl Abort,
-    alloc: Global,
-    mode: Mode,
-    rows: &[Row],
-) -> Result<(), AllocError> {
+pub(crate) fn all_read_in(rt: &impl Abort, alloc: Global, mode: Mode, rows: &[Row]) -> Tried {
     let set = worked(rt, alloc)?;
     each_read(rt, alloc, &set, mode, rows)
 }
 
-fn all_read(rt: &impl Abort, alloc: Global, rows: &[Row]) -> Result<(), AllocError> {
+fn all_read(rt: &impl Abort, alloc: Global, rows: &[Row]) -> Tried {
     all_read_in(rt, alloc, PLAIN, rows)
 }
 
 #[test]
-fn streams_that_are_read(rt: HostRuntime) -> Result<(), AllocError> {
-    const ROWS: &[Row] = &[
+fn streams_that_are_read(rt: HostRuntime) -> Tried {
+    const ROWS: &[Row] = rows! { Row { stream, want, end }:
         // fields
-        Row {
-            stream: b"\xF0\x81\x81\x41\xC2\xFE\x00\xE4\x80\x80\x81",
-            want: BOTH,
-            end: End::Whole,
-        },
-        Row {
-            stream: b"\xE0\x82\x0F\x7F\x7F\x7F\xFF\x0F\x7F\x7F\x7F\xFF\x80\x80\x80\x81",
-            want: &[
-                Sent {
-                    template: 2,
-                    fields: &[Shown::Number(4_294_967_295), Shown::Number(4_294_967_295)],
-                },
-                Sent {
-                    template: 2,
-                    fields: &[Shown::Number(0), Shown::Number(4_294_967_295)],
-                },
-            ],
-            end: End::Fault(Cause::D2, 3, 15, 2, 2),
-        },
-        Row {
-            stream: b"\xF0\x83\x80\x85\x90\x39\x45\xA3",
-            want: &[
-                Sent {
-                    template: 3,
-                    fields: &[Shown::Absent, Shown::Number(5)],
-                },
-                Sent {
-                    template: 3,
-                    fields: &[Shown::Decimal(2, 942_755), Shown::Number(5)],
-                },
-            ],
-            end: End::Whole,
-        },
+        b"\xF0\x81\x81\x41\xC2\xFE\x00\xE4\x80\x80\x81", BOTH, End::Whole;
+        b"\xE0\x82\x0F\x7F\x7F\x7F\xFF\x0F\x7F\x7F\x7F\xFF\x80\x80\x80\x81",
+            &[Sent(2, &[Number(4_294_967_295), Number(4_294_967_295)]), Sent(2, &[Number(0), Number(4_294_967_295)])],
+            End::Fault(Cause::D2, 3, 15, 2, 2);
+        b"\xF0\x83\x80\x85\x90\x39\x45\xA3",
+            &[Sent(3, &[Absent, Number(5)]), Sent(3, &[Decimal(2, 942_755), Number(5)])], End::Whole;
         // string deltas
-        Row {
-            stream: b"\xC0\x8A\x80\x47\x45\x48\xB6\x80\x82\x4D\xB6\x80\xFD\x45\xD3",
-            want: &[
-                Sent {
-                    template: 10,
-                    fields: &[Shown::Text(b"GEH6")],
-                },
-                Sent {
-                    template: 10,
-                    fields: &[Shown::Text(b"GEM6")],
-                },
-                Sent {
-                    template: 10,
-                    fields: &[Shown::Text(b"ESM6")],
-                },
-            ],
-            end: End::Whole,
-        },
-        Row {
-            stream: b"\xC0\x8A\x80\x47\x45\x48\xB6\x80\x82\x4D\xB6\x80\xFD\x45\xD3\x80\x85\x80",
-            want: &[
-                Sent {
-                    template: 10,
-                    fields: &[Shown::Text(b"GEH6")],
-                },
-                Sent {
-                    template: 10,
-                    fields: &[Shown::Text(b"GEM6")],
-                },
-                Sent {
-                    template: 10,
-                    fields: &[Shown::Text(b"ESM6")],
-                },
-            ],
-            end: End::Fault(Cause::D7, 4, 16, 10, 1),
-        },
+        b"\xC0\x8A\x80\x47\x45\x48\xB6\x80\x82\x4D\xB6\x80\xFD\x45\xD3",
+            &[Sent(10, &[Text(b"GEH6")]), Sent(10, &[Text(b"GEM6")]), Sent(10, &[Text(b"ESM6")])], End::Whole;
+        b"\xC0\x8A\x80\x47\x45\x48\xB6\x80\x82\x4D\xB6\x80\xFD\x45\xD3\x80\x85\x80",
+            &[Sent(10, &[Text(b"GEH6")]), Sent(10, &[Text(b"GEM6")]), Sent(10, &[Text(b"ESM6")])],
+            End::Fault(Cause::D7, 4, 16, 10, 1);
         // segments
-        Row {
-            stream: b"\xC0\x84\x80\x80\x81\x80\x83\x85\x86",
-            want: &[
-                Sent {
-                    template: 4,
-                    fields: &[Shown::Absent],
-                },
-                Sent {
-                    template: 4,
-                    fields: &[Shown::Sequence(&[])],
-                },
-                Sent {
-                    template: 4,
-                    fields: &[Shown::Sequence(&[&[5], &[6]])],
-                },
-            ],
-            end: End::Whole,
-        },
-        Row {
-            stream: b"\xC0\x85\x82\xC0\x85\x80",
-            want: &[Sent {
-                template: 5,
-                fields: &[Shown::Sequence(&[&[5], &[5]])],
-            }],
-            end: End::Whole,
-        },
-        Row {
-            stream: b"\xF0\x8B\xC0\x85\x86\x80\xA0\x80",
-            want: &[
-                Sent {
-                    template: 11,
-                    fields: &[Shown::Group(&[5]), Shown::Number(6)],
-                },
-                Sent {
-                    template: 11,
-                    fields: &[Shown::Absent, Shown::Number(6)],
-                },
-                Sent {
-                    template: 11,
-                    fields: &[Shown::Group(&[5]), Shown::Number(6)],
-                },
-            ],
-            end: End::Whole,
-        },
+        b"\xC0\x84\x80\x80\x81\x80\x83\x85\x86",
+            &[Sent(4, &[Absent]), Sent(4, &[Sequence(&[])]), Sent(4, &[Sequence(&[&[5], &[6]])])], End::Whole;
+        b"\xC0\x85\x82\xC0\x85\x80", &[Sent(5, &[Sequence(&[&[5], &[5]])])], End::Whole;
+        b"\xF0\x8B\xC0\x85\x86\x80\xA0\x80",
+            &[Sent(11, &[Group(&[5]), Number(6)]), Sent(11, &[Absent, Number(6)]), Sent(11, &[Group(&[5]), Number(6)])],
+            End::Whole;
         // refusals
-        Row {
-            stream: b"",
-            want: &[],
-            end: End::Whole,
-        },
-        Row {
-            stream: b"\x80",
-            want: &[],
-            end: End::Fault(Cause::D5, 1, 1, 0, 0),
-        },
-        Row {
-            stream: b"\xC0\xE4",
-            want: &[],
-            end: End::Fault(Cause::D9, 1, 1, 0, 0),
-        },
-        Row {
-            stream: b"\xC0\x84\x04\x00\x81",
-            want: &[],
-            end: End::Fault(Cause::Limit, 1, 2, 4, 1),
-        },
-        Row {
-            stream: b"\xC0\x8D\x85",
-            want: &[],
-            end: End::Fault(Cause::D6, 1, 2, 13, 2),
-        },
-        Row {
-            stream: b"\xF0\x81\x81\x41\xC2\x00\xC0",
-            want: &[],
-            end: End::Fault(Cause::R1, 1, 5, 1, 3),
-        },
-        Row {
-            stream: b"\xF0\x81\x81\x41\xC2\xC0",
-            want: &[],
-            end: End::Fault(Cause::R1, 1, 5, 1, 3),
-        },
-        Row {
-            stream: b"\xF0\x87\x85\xC1\x80",
-            want: &[Sent {
-                template: 7,
-                fields: &[Shown::Number(5), Shown::Text(b"A")],
-            }],
-            end: End::Fault(Cause::D4, 2, 5, 7, 1),
-        },
-        Row {
-            stream: b"\xF0\x81\0\0\0\0\0\0\0\0\0\0",
-            want: &[],
-            end: End::Fault(Cause::Limit, 1, 2, 1, 1),
-        },
-        Row {
-            stream: b"\xF0\x81\0\0\0\0\0\0\0\0\0",
-            want: &[],
-            end: End::Fault(Cause::Truncated, 1, 2, 1, 1),
-        },
+        b"", &[], End::Whole;
+        b"\x80", &[], End::Fault(Cause::D5, 1, 1, 0, 0);
+        b"\xC0\xE4", &[], End::Fault(Cause::D9, 1, 1, 0, 0);
+        b"\xC0\x84\x04\x00\x81", &[], End::Fault(Cause::Limit, 1, 2, 4, 1);
+        b"\xC0\x8D\x85", &[], End::Fault(Cause::D6, 1, 2, 13, 2);
+        b"\xF0\x81\x81\x41\xC2\x00\xC0", &[], End::Fault(Cause::R1, 1, 5, 1, 3);
+        b"\xF0\x81\x81\x41\xC2\xC0", &[], End::Fault(Cause::R1, 1, 5, 1, 3);
+        b"\xF0\x87\x85\xC1\x80", &[Sent(7, &[Number(5), Text(b"A")])], End::Fault(Cause::D4, 2, 5, 7, 1);
+        b"\xF0\x81\0\0\0\0\0\0\0\0\0\0", &[], End::Fault(Cause::Limit, 1, 2, 1, 1);
+        b"\xF0\x81\0\0\0\0\0\0\0\0\0", &[], End::Fault(Cause::Truncated, 1, 2, 1, 1);
         // cut off
-        Row {
-            stream: b"\xF0",
-            want: &[],
-            end: End::Fault(Cause::Truncated, 1, 1, 0, 0),
-        },
-        Row {
-            stream: b"\xF0\x81",
-            want: &[],
-            end: End::Fault(Cause::Truncated, 1, 2, 1, 1),
-        },
-        Row {
-            stream: b"\xF0\x81\x81",
-            want: &[],
-            end: End::Fault(Cause::Truncated, 1, 3, 1, 2),
-        },
-        Row {
-            stream: b"\xF0\x81\x81\x41",
-            want: &[],
-            end: End::Fault(Cause::Truncated, 1, 3, 1, 2),
-        },
-        Row {
-            stream: b"\xF0\x81\x81\x41\xC2",
-            want: &[],
-            end: End::Fault(Cause::Truncated, 1, 5, 1, 3),
-        },
-        Row {
-            stream: b"\xF0\x81\x81\x41\xC2\xFE",
-            want: &[],
-            end: End::Fault(Cause::Truncated, 1, 5, 1, 3),
-        },
-        Row {
-            stream: b"\xF0\x81\x81\x41\xC2\xFE\x00",
-            want: &[],
-            end: End::Fault(Cause::Truncated, 1, 5, 1, 3),
-        },
-    ];
+        b"\xF0", &[], End::Fault(Cause::Truncated, 1, 1, 0, 0);
+        b"\xF0\x81", &[], End::Fault(Cause::Truncated, 1, 2, 1, 1);
+        b"\xF0\x81\x81", &[], End::Fault(Cause::Truncated, 1, 3, 1, 2);
+        b"\xF0\x81\x81\x41", &[], End::Fault(Cause::Truncated, 1, 3, 1, 2);
+        b"\xF0\x81\x81\x41\xC2", &[], End::Fault(Cause::Truncated, 1, 5, 1, 3);
+        b"\xF0\x81\x81\x41\xC2\xFE", &[], End::Fault(Cause::Truncated, 1, 5, 1, 3);
+        b"\xF0\x81\x81\x41\xC2\xFE\x00", &[], End::Fault(Cause::Truncated, 1, 5, 1, 3);
+    };
     all_read(&rt, rt.alloc(), ROWS)
 }
 
 // What the rows above leave out: spellings that are longer than they must be, tails, Unicode, byte vectors, constants.
 #[test]
-fn other_streams_that_are_read(rt: HostRuntime) -> Result<(), AllocError> {
-    const ROWS: &[Row] = &[
+fn other_streams_that_are_read(rt: HostRuntime) -> Tried {
+    const ROWS: &[Row] = rows! { Row { stream, want, end }:
         // longer than they must be
-        Row {
-            stream: b"\xF0\x81\x81\x41\xC2\xFE\x00\xE4\xF8\x81\x82\x41\xC2\x80\x81\x80",
-            want: BOTH,
-            end: End::Whole,
-        },
-        Row {
-            stream: b"\xF0\x81\x00\x00\x81\x41\xC2\xFE\x00\xE4",
-            want: ONE,
-            end: End::Whole,
-        },
-        Row {
-            stream: b"\x70\x00\x80\x81\x81\x41\xC2\xFE\x00\xE4",
-            want: ONE,
-            end: End::Whole,
-        },
-        Row {
-            stream: b"\xF1\x81\x81\x41\xC2\xFE\x00\xE4",
-            want: ONE,
-            end: End::Whole,
-        },
-        Row {
-            stream: b"\xF0\x83\x80\x85\xB0\x83\x39\x45\xA3",
-            want: &[
-                Sent {
-                    template: 3,
-                    fields: &[Shown::Absent, Shown::Number(5)],
-                },
-                Sent {
-                    template: 3,
-                    fields: &[Shown::Decimal(2, 942_755), Shown::Number(5)],
-                },
-            ],
-            end: End::Whole,
-        },
-        Row {
-            stream: b"\xC0\x8A\x80\x47\x45\x48\xB6\x80\x82\x4D\xB6\x80\xFD\x45\xD3\x80\xFF\x80",
-            want: &[
-                Sent {
-                    template: 10,
-                    fields: &[Shown::Text(b"GEH6")],
-                },
-                Sent {
-                    template: 10,
-                    fields: &[Shown::Text(b"GEM6")],
-                },
-                Sent {
-                    template: 10,
-                    fields: &[Shown::Text(b"ESM6")],
-                },
-                Sent {
-                    template: 10,
-                    fields: &[Shown::Text(b"ESM6")],
-                },
-            ],
-            end: End::Whole,
-        },
+        b"\xF0\x81\x81\x41\xC2\xFE\x00\xE4\xF8\x81\x82\x41\xC2\x80\x81\x80", BOTH, End::Whole;
+        b"\xF0\x81\x00\x00\x81\x41\xC2\xFE\x00\xE4", ONE, End::Whole;
+        b"\x70\x00\x80\x81\x81\x41\xC2\xFE\x00\xE4", ONE, End::Whole;
+        b"\xF1\x81\x81\x41\xC2\xFE\x00\xE4", ONE, End::Whole;
+        b"\xF0\x83\x80\x85\xB0\x83\x39\x45\xA3",
+            &[Sent(3, &[Absent, Number(5)]), Sent(3, &[Decimal(2, 942_755), Number(5)])], End::Whole;
+        b"\xC0\x8A\x80\x47\x45\x48\xB6\x80\x82\x4D\xB6\x80\xFD\x45\xD3\x80\xFF\x80", &[Sent(10, &[Text(b"GEH6")]),
+            Sent(10, &[Text(b"GEM6")]), Sent(10, &[Text(b"ESM6")]), Sent(10, &[Text(b"ESM6")])], End::Whole;
         // tails
-        Row {
-            stream: b"\xE0\x88\x78\x61\xE2\xA0\x00\x00\x00\xE2",
-            want: &[
-                Sent {
-                    template: 8,
-                    fields: &[Shown::Text(b"xab")],
-                },
-                Sent {
-                    template: 8,
-                    fields: &[Shown::Text(b"x\0b")],
-                },
-            ],
-            end: End::Whole,
-        },
-        Row {
-            stream: b"\xE0\x89\x80\xA0\x00\x80",
-            want: &[
-                Sent {
-                    template: 9,
-                    fields: &[Shown::Absent],
-                },
-                Sent {
-                    template: 9,
-                    fields: &[Shown::Text(b"ab")],
-                },
-            ],
-            end: End::Whole,
-        },
-        Row {
-            stream: b"\xE0\x8C\x82\xC3\xA9\xA0\x81\xA8\xA0\x81\x41",
-            want: &[
-                Sent {
-                    template: 12,
-                    fields: &[Shown::Unicode("é")],
-                },
-                Sent {
-                    template: 12,
-                    fields: &[Shown::Unicode("è")],
-                },
-            ],
-            end: End::Fault(Cause::R2, 3, 9, 12, 1),
-        },
+        b"\xE0\x88\x78\x61\xE2\xA0\x00\x00\x00\xE2", &[Sent(8, &[Text(b"xab")]), Sent(8, &[Text(b"x\0b")])], End::Whole;
+        b"\xE0\x89\x80\xA0\x00\x80", &[Sent(9, &[Absent]), Sent(9, &[Text(b"ab")])], End::Whole;
+        b"\xE0\x8C\x82\xC3\xA9\xA0\x81\xA8\xA0\x81\x41", &[Sent(12, &[Unicode("é")]), Sent(12, &[Unicode("è")])],
+            End::Fault(Cause::R2, 3, 9, 12, 1);
         // constants, a default, keys and an identifier
-        Row {
-            stream: b"\xE0\x8E\x80\x90\x83\x90\x10\x00\x00\x00\x80",
-            want: &[
-                Sent {
-                    template: 14,
-                    fields: &[Shown::Number(7), Shown::Number(9), Shown::Number(3)],
-                },
-                Sent {
-                    template: 14,
-                    fields: &[Shown::Number(7), Shown::Absent, Shown::Number(3)],
-                },
-                Sent {
-                    template: 14,
-                    fields: &[Shown::Number(7), Shown::Absent, Shown::Number(3)],
-                },
-            ],
-            end: End::Fault(Cause::D2, 4, 6, 14, 3),
-        },
-        Row {
-            stream: b"\xE0\x8F\x00\xE4\x83\x0A\xFF\x80\x81",
-            want: &[
-                Sent {
-                    template: 15,
-                    fields: &[Shown::Decimal(-2, 100), Shown::Bytes(b"\x0a\xff")],
-                },
-                Sent {
-                    template: 15,
-                    fields: &[Shown::Decimal(-2, 101), Shown::Bytes(b"\x0a\xff")],
-                },
-            ],
-            end: End::Whole,
-        },
-        Row {
-            stream: b"\xF0\x87\x85\xC1\xB0\x86\xC1",
-            want: &[
-                Sent {
-                    template: 7,
-                    fields: &[Shown::Number(5), Shown::Text(b"A")],
-                },
-                Sent {
-                    template: 7,
-                    fields: &[Shown::Number(6), Shown::Text(b"A")],
-                },
-            ],
-            end: End::Whole,
-        },
-        Row {
-            stream: b"\xE0\x90\x85\x86\xE0\x90\x87\x86",
-            want: &[
-                Sent {
-                    template: 16,
-                    fields: &[Shown::Number(5), Shown::Number(6)],
-                },
-                Sent {
-                    template: 16,
-                    fields: &[Shown::Number(7), Shown::Number(6)],
-                },
-            ],
-            end: End::Whole,
-        },
-    ];
+        b"\xE0\x8E\x80\x90\x83\x90\x10\x00\x00\x00\x80", &[Sent(14, &[Number(7), Number(9), Number(3)]),
+            Sent(14, &[Number(7), Absent, Number(3)]), Sent(14, &[Number(7), Absent, Number(3)])],
+            End::Fault(Cause::D2, 4, 6, 14, 3);
+        b"\xE0\x8F\x00\xE4\x83\x0A\xFF\x80\x81",
+            &[Sent(15, &[Decimal(-2, 100), Bytes(b"\x0a\xff")]), Sent(15, &[Decimal(-2, 101), Bytes(b"\x0a\xff")])],
+            End::Whole;
+        b"\xF0\x87\x85\xC1\xB0\x86\xC1", &[Sent(7, &[Number(5), Text(b"A")]), Sent(7, &[Number(6), Text(b"A")])],
+            End::Whole;
+        b"\xE0\x90\x85\x86\xE0\x90\x87\x86", &[Sent(16, &[Number(5), Number(6)]), Sent(16, &[Number(7), Number(6)])],
+            End::Whole;
+    };
     all_read(&rt, rt.alloc(), ROWS)
 }
 
@@ -623,18 +317,12 @@ const NEST: &str = r#"{"templates":[{"name":"Nest","id":1,"instructions":[
       {"kind":"uInt32","name":"A","operator":"copy"}]}]}]}]}"#;
 
 #[test]
-fn a_group_in_a_group(rt: HostRuntime) -> Result<(), AllocError> {
+fn a_group_in_a_group(rt: HostRuntime) -> Tried {
     const ROW: Row = Row {
         stream: b"\xC0\x81\xC0\xC0\x85\x80\xC0\x80\x80\xC0",
         want: &[
-            Sent {
-                template: 1,
-                fields: &[Shown::GroupInGroup(&[5])],
-            },
-            Sent {
-                template: 1,
-                fields: &[Shown::GroupInGroup(&[5])],
-            },
+            Sent(1, &[Shown::GroupInGroup(&[5])]),
+            Sent(1, &[Shown::GroupInGroup(&[5])]),
         ],
         end: End::Fault(Cause::Truncated, 3, 10, 1, 2),
     };
@@ -644,7 +332,7 @@ fn a_group_in_a_group(rt: HostRuntime) -> Result<(), AllocError> {
 }
 
 // A quote with this symbol but for its last letter, an A.
-fn long_stream(alloc: Global, symbol: &[u8]) -> Result<Vec<u8>, AllocError> {
+fn long_stream(alloc: Global, symbol: &[u8]) -> Tried<Vec<u8>> {
     let mut stream = Vec::new(alloc);
     stream.extend_from_slice(&[0xF0, 0x81, 0x81])?;
     stream.extend_from_slice(symbol)?;
@@ -653,7 +341,7 @@ fn long_stream(alloc: Global, symbol: &[u8]) -> Result<Vec<u8>, AllocError> {
 }
 
 // Its message, with the whole symbol.
-fn long_message(alloc: Global, symbol: &[u8]) -> Result<Message, AllocError> {
+fn long_message(alloc: Global, symbol: &[u8]) -> Tried<Message> {
     let mut whole = symbol.to_vec(alloc)?;
     whole.push(0x41)?;
     quote(alloc, &whole, -2, 100)
@@ -668,7 +356,7 @@ fn is_read_in_reads(
     stream: &[u8],
     want: &[Message],
     fault: Option<Fault>,
-) -> Result<(), AllocError> {
+) -> Tried {
     let want = if fault.is_none() { want } else { &[] };
     let read = both_read(alloc, set, mode, stream, 4096, want, fault)?;
     same(rt, read, true);
@@ -683,14 +371,14 @@ fn is_read_long(
     mode: Mode,
     symbol: &[u8],
     fault: Option<Fault>,
-) -> Result<(), AllocError> {
+) -> Tried {
     let stream = long_stream(alloc, symbol)?;
     let want = [long_message(alloc, symbol)?];
     is_read_in_reads(rt, alloc, set, mode, &stream, &want, fault)
 }
 
 // So many zero groups and so many letters.
-fn long_symbol(alloc: Global, zeros: usize, letters: usize) -> Result<Vec<u8>, AllocError> {
+fn long_symbol(alloc: Global, zeros: usize, letters: usize) -> Tried<Vec<u8>> {
     let mut symbol = vec![in alloc; 0x00; zeros]?;
     symbol.extend_from_slice(&vec![in alloc; 0x41; letters]?)?;
     Ok(symbol)
@@ -704,14 +392,14 @@ pub(crate) fn long(
     zeros: usize,
     letters: usize,
     fault: Option<Fault>,
-) -> Result<(), AllocError> {
+) -> Tried {
     let symbol = long_symbol(alloc, zeros, letters)?;
     let set = worked(rt, alloc)?;
     is_read_long(rt, alloc, &set, mode, &symbol, fault)
 }
 
 #[test]
-fn long_strings(rt: HostRuntime) -> Result<(), AllocError> {
+fn long_strings(rt: HostRuntime) -> Tried {
     let alloc = rt.alloc();
     long(&rt, alloc, PLAIN, 0, 65_534, None)?;
     let fault = End::Fault(Cause::Limit, 1, 3, 1, 2).fault();
@@ -721,7 +409,7 @@ fn long_strings(rt: HostRuntime) -> Result<(), AllocError> {
 }
 
 #[test]
-fn held_byte_by_byte(rt: HostRuntime) -> Result<(), AllocError> {
+fn held_byte_by_byte(rt: HostRuntime) -> Tried {
     const STRING: &[Step] = &[
         Step::Byte(0xF0, 0),
         Step::Byte(0x81, 0),
@@ -747,12 +435,7 @@ fn held_byte_by_byte(rt: HostRuntime) -> Result<(), AllocError> {
 }
 
 // The messages of a delta of 65,535 bytes, of which the most are held while the last is missing.
-fn held_most(
-    rt: &impl Abort,
-    alloc: Global,
-    set: &TemplateSet,
-    part: &[u8],
-) -> Result<usize, AllocError> {
+fn held_most(rt: &impl Abort, alloc: Global, set: &TemplateSet, part: &[u8]) -> Tried<usize> {
     const LENGTHS: &[u8] = b"\xC0\x81\0\0\0\0\0\0\0\0\0\x80\0\0\0\0\0\0\0\x03\x7F\xFF";
     let steps = [
         Step::Feed(LENGTHS, End::Whole),
@@ -768,7 +451,7 @@ fn held_most(
 }
 
 #[test]
-fn the_most_held(rt: HostRuntime) -> Result<(), AllocError> {
+fn the_most_held(rt: HostRuntime) -> Tried {
     const RAW: &str = r#"{"templates":[{"name":"Raw","id":1,"instructions":[
         {"kind":"byteVector","name":"B","operator":"delta"}]}]}"#;
     let part = vec![in rt.alloc(); 0x41; 65_534]?;
@@ -793,7 +476,7 @@ fn both_answer(
     set: &TemplateSet,
     mode: Mode,
     row: &Reading,
-) -> Result<(), AllocError> {
+) -> Tried {
     let script = Script {
         stream: row.stream,
         step: row.step,
@@ -806,41 +489,17 @@ fn both_answer(
 }
 
 #[test]
-fn failed_and_used_up_reads(rt: HostRuntime) -> Result<(), AllocError> {
+fn failed_and_used_up_reads(rt: HostRuntime) -> Tried {
     const FAILED: End = End::Fault(Cause::Read, 1, 2, 1, 1);
     const USED_UP: End = End::Fault(Cause::Turns, 1, 2, 1, 1);
     const LATER: End = End::Fault(Cause::Turns, 2, 8, 0, 0);
-    const ROWS: &[Reading] = &[
-        Reading {
-            stream: b"\xF0\x81",
-            step: 2,
-            fails: 2,
-            turns: 9,
-            ends: [FAILED, FAILED],
-        },
-        Reading {
-            stream: QUOTE,
-            step: 1,
-            fails: 0,
-            turns: 2,
-            ends: [USED_UP, USED_UP],
-        },
+    const ROWS: &[Reading] = rows! { Reading { stream, step, fails, turns, ends }:
+        b"\xF0\x81", 2, 2, 9, [FAILED, FAILED];
+        QUOTE, 1, 0, 2, [USED_UP, USED_UP];
         // eight reads for a message, and one that meets the end
-        Reading {
-            stream: QUOTE,
-            step: 1,
-            fails: 0,
-            turns: 9,
-            ends: [End::Whole, End::Whole],
-        },
-        Reading {
-            stream: QUOTE,
-            step: 1,
-            fails: 0,
-            turns: 8,
-            ends: [End::Whole, LATER],
-        },
-    ];
+        QUOTE, 1, 0, 9, [End::Whole, End::Whole];
+        QUOTE, 1, 0, 8, [End::Whole, LATER];
+    };
     let set = worked(&rt, rt.alloc())?;
     for row in ROWS {
         both_answer(&rt, rt.alloc(), &set, PLAIN, row)?;
@@ -851,7 +510,7 @@ fn failed_and_used_up_reads(rt: HostRuntime) -> Result<(), AllocError> {
 
 // A stream is refused, and another behind it, before the decoder begins again.
 #[test]
-fn reset(rt: HostRuntime) -> Result<(), AllocError> {
+fn reset(rt: HostRuntime) -> Tried {
     const STEPS: &[Step] = &[
         Step::Feed(b"\x80", End::Fault(Cause::D5, 1, 1, 0, 0)),
         Step::Feed(QUOTE, End::Fault(Cause::D5, 1, 1, 0, 0)),

@@ -5,8 +5,7 @@ ghost use Rattle.fast_walk.specs.Traversals.{ServesAll};
 use crate::decoding::steps::{Step, follow};
 use crate::same::same;
 use crate::slots::slots_of;
-use crate::worked::worked;
-use fast_build::{Load, LoadCause};
+use crate::worked::{loaded, worked};
 use fast_dictionary::{Entries, MapEntries};
 use fast_encoder::{EncodeCause, EncodeFault, Encoder, MessageOutputStream};
 use fast_io::{ByteOutput, Counted, ScriptOutput};
@@ -14,10 +13,12 @@ use fast_stream::{Message, Node};
 use fast_template::{Scalar, TemplateSet, UnicodeText};
 use std::alloc::{AllocError, Global};
 use std::process::Abort;
+use std::str::from_utf8;
 use stream_rows::ends::End;
 use stream_rows::modes::PLAIN;
 use stream_rows::quotes::quote;
 use stream_rows::sent::text;
+use test_rows::{Tried, rows};
 
 // The messages of a stream.
 fn decoded(
@@ -25,7 +26,7 @@ fn decoded(
     alloc: Global,
     set: &TemplateSet,
     stream: &[u8],
-) -> Result<Vec<Message>, AllocError> {
+) -> Tried<Vec<Message>> {
     let steps = [Step::Feed(stream, End::Whole)];
     follow(rt, alloc, set, PLAIN, MapEntries::new(alloc), &steps)
 }
@@ -45,7 +46,7 @@ fn answers<E: Entries>(
     message: &Message,
     want: Result<(), EncodeFault>,
     out: &mut Vec<u8>,
-) -> Result<bool, AllocError> {
+) -> Tried<bool> {
     let size = out.len();
     let given = encoder.encode(message, out);
     if !is_for_memory(given) {
@@ -62,7 +63,7 @@ fn encodes_all<E: Entries>(
     encoder: &mut Encoder<'_, E>,
     messages: &[Message],
     out: &mut Vec<u8>,
-) -> Result<bool, AllocError> {
+) -> Tried<bool> {
     for message in messages {
         if !answers(encoder, message, Ok(()), out)? {
             return Ok(false);
@@ -77,7 +78,7 @@ fn encodes<E: Entries>(
     messages: &[Message],
     canonical: &[u8],
     out: &mut Vec<u8>,
-) -> Result<bool, AllocError> {
+) -> Tried<bool> {
     Ok(encodes_all(encoder, messages, out)? && out.as_slice() == canonical)
 }
 
@@ -88,7 +89,7 @@ fn refuses_behind<E: Entries>(
     message: &Message,
     fault: EncodeFault,
     out: &mut Vec<u8>,
-) -> Result<bool, AllocError> {
+) -> Tried<bool> {
     if !encodes_all(encoder, before, out)? {
         return Ok(false);
     }
@@ -102,7 +103,7 @@ fn goes_on<E: Entries>(
     long: &Message,
     short: &Message,
     out: &mut Vec<u8>,
-) -> Result<bool, AllocError> {
+) -> Tried<bool> {
     const WANT: &[u8] = b"\xe0\x88\x78\x61\xe2\x80\xe0\x88\x78\x61\xe2";
     let first = answers(encoder, long, Ok(()), out)?;
     let second = encoder.encode(short, out).is_err();
@@ -114,7 +115,7 @@ fn goes_on<E: Entries>(
 
 // What an encoder that is new must do.
 #[derive(Clone, Copy)]
-enum Task<'a> {
+pub(crate) enum Task<'a> {
     // Give messages these canonical bytes.
     Encode(&'a [Message], &'a [u8]),
     // Refuse a message for this behind others, and append nothing.
@@ -128,7 +129,7 @@ fn fulfils<E: Entries>(
     encoder: &mut Encoder<'_, E>,
     task: &Task,
     out: &mut Vec<u8>,
-) -> Result<bool, AllocError> {
+) -> Tried<bool> {
     match task {
         Task::Encode(messages, canonical) => encodes(encoder, messages, canonical, out),
         Task::Refuse(before, message, fault) => {
@@ -144,7 +145,7 @@ fn fulfils_over<E: Entries>(
     set: &TemplateSet,
     entries: E,
     task: &Task,
-) -> Result<bool, AllocError>
+) -> Tried<bool>
     requires { ServesAll (E.serves entries) set.now }
 {
     let mut encoder = Encoder::new(alloc, set, entries);
@@ -153,12 +154,7 @@ fn fulfils_over<E: Entries>(
 }
 
 // Encoders over both kinds of entries do.
-fn both_fulfil(
-    rt: &impl Abort,
-    alloc: Global,
-    set: &TemplateSet,
-    task: &Task,
-) -> Result<(), AllocError> {
+pub(crate) fn both_fulfil(rt: &impl Abort, alloc: Global, set: &TemplateSet, task: &Task) -> Tried {
     let map = MapEntries::new(alloc);
     same(rt, fulfils_over(alloc, set, map, task)?, true);
     let slots = slots_of(alloc, set)?;
@@ -167,23 +163,19 @@ fn both_fulfil(
 }
 
 // The messages of a stream have these canonical bytes.
-fn has_canonical(
+pub(crate) fn has_canonical(
     rt: &impl Abort,
     alloc: Global,
     set: &TemplateSet,
     stream: &[u8],
     canonical: &[u8],
-) -> Result<(), AllocError> {
+) -> Tried {
     let messages = decoded(rt, alloc, set, stream)?;
     both_fulfil(rt, alloc, set, &Task::Encode(&messages, canonical))
 }
 
 // Streams, and their canonical bytes.
-fn all_have_canonical(
-    rt: &impl Abort,
-    alloc: Global,
-    rows: &[(&[u8], &[u8])],
-) -> Result<(), AllocError> {
+fn all_have_canonical(rt: &impl Abort, alloc: Global, rows: &[(&[u8], &[u8])]) -> Tried {
     let set = worked(rt, alloc)?;
     for (stream, canonical) in rows {
         has_canonical(rt, alloc, &set, stream, canonical)?;
@@ -192,40 +184,21 @@ fn all_have_canonical(
 }
 
 #[test]
-fn canonical_messages(rt: HostRuntime) -> Result<(), AllocError> {
-    const ROWS: &[(&[u8], &[u8])] = &[
+fn canonical_messages(rt: HostRuntime) -> Tried {
+    const ROWS: &[(&[u8], &[u8])] = rows! {
         // messages of streams
-        (
-            b"\xf0\x81\x81\x41\xc2\xfe\x00\xe4",
-            b"\xf0\x81\x81\x41\xc2\xfe\x00\xe4",
-        ),
-        (
-            b"\xf0\x81\x81\x41\xc2\xfe\x00\xe4\x80\x80\x81",
-            b"\xf0\x81\x81\x41\xc2\xfe\x00\xe4\x80\x80\x81",
-        ),
-        (
-            b"\xf0\x81\x81\x41\xc2\xfe\x00\xe4\xf8\x81\x82\x41\xc2\x80\x81\x80",
-            b"\xf0\x81\x81\x41\xc2\xfe\x00\xe4\x80\x80\x81",
-        ),
-        (
-            b"\xc0\x8a\x80\x47\x45\x48\xb6\x80\x82\x4d\xb6\x80\xfd\x45\xd3",
-            b"\xc0\x8a\x80\x47\x45\x48\xb6\x80\x82\x4d\xb6\x80\xfd\x45\xd3",
-        ),
+        b"\xf0\x81\x81\x41\xc2\xfe\x00\xe4", b"\xf0\x81\x81\x41\xc2\xfe\x00\xe4";
+        b"\xf0\x81\x81\x41\xc2\xfe\x00\xe4\x80\x80\x81", b"\xf0\x81\x81\x41\xc2\xfe\x00\xe4\x80\x80\x81";
+        b"\xf0\x81\x81\x41\xc2\xfe\x00\xe4\xf8\x81\x82\x41\xc2\x80\x81\x80",
+            b"\xf0\x81\x81\x41\xc2\xfe\x00\xe4\x80\x80\x81";
+        b"\xc0\x8a\x80\x47\x45\x48\xb6\x80\x82\x4d\xb6\x80\xfd\x45\xd3",
+            b"\xc0\x8a\x80\x47\x45\x48\xb6\x80\x82\x4d\xb6\x80\xfd\x45\xd3";
         // messages with others inside
-        (
-            b"\xf0\x83\x80\x85\x90\x39\x45\xa3",
-            b"\xf0\x83\x80\x85\x90\x39\x45\xa3",
-        ),
-        (
-            b"\xc0\x84\x80\x80\x81\x80\x83\x85\x86",
-            b"\xc0\x84\x80\x80\x81\x80\x83\x85\x86",
-        ),
-        (b"\xc0\x85\x82\xc0\x85\x80", b"\xc0\x85\x82\xc0\x85\x80"),
-        (
-            b"\xf0\x8b\xc0\x85\x86\x80\xa0\x80",
-            b"\xf0\x8b\xc0\x85\x86\x80\xa0\x80",
-        ),
-    ];
+        b"\xf0\x83\x80\x85\x90\x39\x45\xa3", b"\xf0\x83\x80\x85\x90\x39\x45\xa3";
+        b"\xc0\x84\x80\x80\x81\x80\x83\x85\x86", b"\xc0\x84\x80\x80\x81\x80\x83\x85\x86";
+        b"\xc0\x85\x82\xc0\x85\x80", b"\xc0\x85\x82\xc0\x85\x80";
+        b"\xf0\x8b\xc0\x85\x86\x80\xa0\x80", b"\xf0\x8b\xc0\x85\x86\x80\xa0\x80";
+    };
     all_have_canonical(&rt, rt.alloc(), ROWS)
 }
 
@@ -237,37 +210,37 @@ fn is_refused(
     message: &Message,
     cause: EncodeCause,
     instruction: u32,
-) -> Result<(), AllocError> {
+) -> Tried {
     let fault = EncodeFault { cause, instruction };
     let set = worked(rt, alloc)?;
     both_fulfil(rt, alloc, &set, &Task::Refuse(before, message, fault))
 }
 
-fn message(template: u32, fields: Vec<Node>) -> Message {
+pub(crate) fn message(template: u32, fields: Vec<Node>) -> Message {
     Message { template, fields }
 }
 
 // A message of one string.
-fn string(alloc: Global, template: u32, characters: &[u8]) -> Result<Message, AllocError> {
+fn string(alloc: Global, template: u32, characters: &[u8]) -> Tried<Message> {
     let string = text(alloc, characters)?;
     Ok(message(template, vec![in alloc; string]?))
 }
 
 // The first nodes of a Quote with this symbol, whose exponent is out of its range.
-fn far_quote(alloc: Global, symbol: &[u8], nodes: usize) -> Result<Message, AllocError> {
+fn far_quote(alloc: Global, symbol: &[u8], nodes: usize) -> Tried<Message> {
     let mut quote = quote(alloc, symbol, 64, 1)?;
     quote.fields.truncate(nodes);
     Ok(quote)
 }
 
 // The same with a symbol that is too long.
-fn long_quote(alloc: Global, nodes: usize) -> Result<Message, AllocError> {
+fn long_quote(alloc: Global, nodes: usize) -> Tried<Message> {
     let symbol = vec![in alloc; b'A'; 65_536]?;
     far_quote(alloc, &symbol, nodes)
 }
 
 // A message of constants with another first value.
-fn constants(alloc: Global) -> Result<Message, AllocError> {
+fn constants(alloc: Global) -> Tried<Message> {
     let fields = vec![in alloc;
         Node::Value(Scalar::U32(8)),
         Node::Absent,
@@ -277,7 +250,7 @@ fn constants(alloc: Global) -> Result<Message, AllocError> {
 }
 
 // A message whose decimal has another exponent than the constant one.
-fn fixed(alloc: Global) -> Result<Message, AllocError> {
+fn fixed(alloc: Global) -> Tried<Message> {
     let decimal = Scalar::Decimal {
         exponent: -1,
         mantissa: 100,
@@ -287,13 +260,13 @@ fn fixed(alloc: Global) -> Result<Message, AllocError> {
 }
 
 // A message whose first field makes the entry empty that its second one needs.
-fn emptied(alloc: Global) -> Result<Message, AllocError> {
+fn emptied(alloc: Global) -> Tried<Message> {
     let fields = vec![in alloc; Node::Absent, Node::Value(Scalar::U32(5))]?;
     Ok(message(13, fields))
 }
 
 // A message of one character beyond ASCII.
-fn unicode(alloc: Global) -> Result<Message, AllocError> {
+fn unicode(alloc: Global) -> Tried<Message> {
     let value = UnicodeText::from_string("é".to_string(alloc)?);
     let fields = vec![in alloc; Node::Value(Scalar::Unicode(value))]?;
     Ok(message(12, fields))
@@ -317,7 +290,7 @@ enum Odd {
 }
 
 impl Odd {
-    fn message(self, alloc: Global) -> Result<Message, AllocError> {
+    fn message(self, alloc: Global) -> Tried<Message> {
         match self {
             Odd::Unknown => Ok(message(100, Vec::new(alloc))),
             Odd::Far(symbol, nodes) => far_quote(alloc, symbol, nodes),
@@ -334,12 +307,7 @@ impl Odd {
 // A message, why it is refused, and the instruction.
 struct Refused(Odd, EncodeCause, u32);
 
-fn all_refused(
-    rt: &impl Abort,
-    alloc: Global,
-    before: &[Message],
-    rows: &[Refused],
-) -> Result<(), AllocError> {
+fn all_refused(rt: &impl Abort, alloc: Global, before: &[Message], rows: &[Refused]) -> Tried {
     for Refused(odd, cause, instruction) in rows {
         let message = odd.message(alloc)?;
         is_refused(rt, alloc, before, &message, *cause, *instruction)?;
@@ -348,38 +316,38 @@ fn all_refused(
 }
 
 #[test]
-fn messages_that_are_refused(rt: HostRuntime) -> Result<(), AllocError> {
-    const ROWS: &[Refused] = &[
+fn messages_that_are_refused(rt: HostRuntime) -> Tried {
+    const ROWS: &[Refused] = rows! { Refused:
         // a message is judged before its fields
-        Refused(Odd::Unknown, EncodeCause::D9, 0),
-        Refused(Odd::Far(b"AB", 3), EncodeCause::Mismatch, 0),
-        Refused(Odd::Far(b"A\x80", 4), EncodeCause::Mismatch, 0),
-        Refused(Odd::Long(4), EncodeCause::Limit, 0),
-        Refused(Odd::Long(3), EncodeCause::Mismatch, 0),
+        Odd::Unknown, EncodeCause::D9, 0;
+        Odd::Far(b"AB", 3), EncodeCause::Mismatch, 0;
+        Odd::Far(b"A\x80", 4), EncodeCause::Mismatch, 0;
+        Odd::Long(4), EncodeCause::Limit, 0;
+        Odd::Long(3), EncodeCause::Mismatch, 0;
         // its template, shape and limits are as they must be, and the exponent of its decimal is out of its range
-        Refused(Odd::Far(b"AB", 4), EncodeCause::R1, 3),
-        Refused(Odd::Far(&[], 4), EncodeCause::R1, 3),
+        Odd::Far(b"AB", 4), EncodeCause::R1, 3;
+        Odd::Far(&[], 4), EncodeCause::R1, 3;
         // fields without a form
-        Refused(Odd::Constants, EncodeCause::NotConstant, 1),
-        Refused(Odd::Fixed, EncodeCause::D3, 1),
-        Refused(Odd::Emptied, EncodeCause::D6, 2),
-    ];
+        Odd::Constants, EncodeCause::NotConstant, 1;
+        Odd::Fixed, EncodeCause::D3, 1;
+        Odd::Emptied, EncodeCause::D6, 2;
+    };
     all_refused(&rt, rt.alloc(), &[], ROWS)
 }
 
 // The same behind a message of a string.
 #[test]
-fn messages_that_are_refused_behind_another(rt: HostRuntime) -> Result<(), AllocError> {
-    const ROWS: &[Refused] = &[
-        Refused(Odd::Unicode, EncodeCause::D4, 1),
-        Refused(Odd::Short, EncodeCause::TooShort, 1),
-    ];
+fn messages_that_are_refused_behind_another(rt: HostRuntime) -> Tried {
+    const ROWS: &[Refused] = rows! { Refused:
+        Odd::Unicode, EncodeCause::D4, 1;
+        Odd::Short, EncodeCause::TooShort, 1;
+    };
     let before = string(rt.alloc(), 8, b"xab")?;
     all_refused(&rt, rt.alloc(), &[before], ROWS)
 }
 
 #[test]
-fn a_refusal_changes_nothing(rt: HostRuntime) -> Result<(), AllocError> {
+fn a_refusal_changes_nothing(rt: HostRuntime) -> Tried {
     let long = string(rt.alloc(), 8, b"xab")?;
     let short = string(rt.alloc(), 8, b"x")?;
     let set = worked(&rt, rt.alloc())?;
@@ -395,7 +363,7 @@ const WRITE: EncodeFault = EncodeFault {
 fn fails<W: ByteOutput, E: Entries>(
     stream: &mut MessageOutputStream<'_, W, E>,
     first: &Message,
-) -> Result<bool, AllocError> {
+) -> Tried<bool> {
     let answer = stream.write_message(first);
     if is_for_memory(answer) {
         return Err(AllocError);
@@ -407,7 +375,7 @@ fn fails<W: ByteOutput, E: Entries>(
 fn fails_thrice<W: ByteOutput, E: Entries>(
     stream: &mut MessageOutputStream<'_, W, E>,
     first: &Message,
-) -> Result<bool, AllocError> {
+) -> Tried<bool> {
     let once = fails(stream, first)?;
     let twice = fails(stream, first)?;
     stream.reset();
@@ -418,7 +386,7 @@ fn fails_thrice<W: ByteOutput, E: Entries>(
 fn writes<W: ByteOutput, E: Entries>(
     stream: &mut MessageOutputStream<'_, W, E>,
     message: &Message,
-) -> Result<bool, AllocError> {
+) -> Tried<bool> {
     let answer = stream.write_message(message);
     if is_for_memory(answer) || answer == Err(WRITE) {
         return Err(AllocError);
@@ -430,7 +398,7 @@ fn writes<W: ByteOutput, E: Entries>(
 fn writes_each<W: ByteOutput, E: Entries>(
     stream: &mut MessageOutputStream<'_, W, E>,
     two: &[Message],
-) -> Result<bool, AllocError> {
+) -> Tried<bool> {
     for message in two {
         if !writes(stream, message)? {
             return Ok(false);
@@ -455,7 +423,7 @@ enum Writer<'a> {
 fn meets<W: ByteOutput, E: Entries>(
     stream: &mut MessageOutputStream<'_, W, E>,
     writer: Writer,
-) -> Result<bool, AllocError> {
+) -> Tried<bool> {
     match writer {
         Writer::Fails(first) => fails_thrice(stream, first),
         Writer::Takes(two) => writes_each(stream, two),
@@ -468,7 +436,7 @@ fn writes_to(
     set: &TemplateSet,
     writer: Writer,
     out: &mut ScriptOutput,
-) -> Result<bool, AllocError> {
+) -> Tried<bool> {
     let counted = Counted::new(out);
     let mut stream = MessageOutputStream::new(alloc, counted, set, MapEntries::new(alloc));
     meets(&mut stream, writer)
@@ -482,7 +450,7 @@ fn fails_behind(
     first: &Message,
     writer: ScriptOutput,
     taken: &[u8],
-) -> Result<(), AllocError> {
+) -> Tried {
     let mut out = writer;
     let failing = Writer::Fails(first);
     same(rt, writes_to(alloc, set, failing, &mut out)?, true);
@@ -493,24 +461,14 @@ fn fails_behind(
     Ok(())
 }
 
-fn writers_fail(
-    rt: &impl Abort,
-    alloc: Global,
-    set: &TemplateSet,
-    first: &Message,
-) -> Result<(), AllocError> {
+fn writers_fail(rt: &impl Abort, alloc: Global, set: &TemplateSet, first: &Message) -> Tried {
     let full = ScriptOutput::new(alloc, 3, false, false);
     fails_behind(rt, alloc, set, first, full, &[0xf0, 0x81, 0x81])?;
     let none = ScriptOutput::new(alloc, 0, true, false);
     fails_behind(rt, alloc, set, first, none, &[])
 }
 
-fn writers_fail_at(
-    rt: &impl Abort,
-    alloc: Global,
-    set: &TemplateSet,
-    stream: &[u8],
-) -> Result<(), AllocError> {
+fn writers_fail_at(rt: &impl Abort, alloc: Global, set: &TemplateSet, stream: &[u8]) -> Tried {
     let messages = decoded(rt, alloc, set, stream)?;
     match messages.first() {
         Some(first) => writers_fail(rt, alloc, set, first),
@@ -519,7 +477,7 @@ fn writers_fail_at(
 }
 
 #[test]
-fn a_writer_that_fails(rt: HostRuntime) -> Result<(), AllocError> {
+fn a_writer_that_fails(rt: HostRuntime) -> Tried {
     let set = worked(&rt, rt.alloc())?;
     writers_fail_at(&rt, rt.alloc(), &set, b"\xf0\x81\x81\x41\xc2\xfe\x00\xe4")
 }
@@ -531,7 +489,7 @@ fn are_written(
     set: &TemplateSet,
     stream: &[u8],
     want: &[u8],
-) -> Result<(), AllocError> {
+) -> Tried {
     let two = decoded(rt, alloc, set, stream)?;
     let mut out = ScriptOutput::new(alloc, 100, false, false);
     let written = writes_to(alloc, set, Writer::Takes(&two), &mut out);
@@ -543,7 +501,7 @@ fn are_written(
 }
 
 #[test]
-fn a_writer_that_takes_all(rt: HostRuntime) -> Result<(), AllocError> {
+fn a_writer_that_takes_all(rt: HostRuntime) -> Tried {
     const TWO: &[u8] = b"\xf0\x81\x81\x41\xc2\xfe\x00\xe4\x80\x80\x81";
     const WANT: &[u8] =
         b"\xf0\x81\x81\x41\xc2\xfe\x00\xe4\x80\x80\x81\xf0\x81\x81\x41\xc2\xfe\x00\xe4";
@@ -557,7 +515,7 @@ fn digit(number: u32) -> u8 {
 }
 
 // A mandatory copy field with this number in its name.
-fn push_field(text: &mut Vec<u8>, number: u32) -> Result<(), AllocError> {
+fn push_field(text: &mut Vec<u8>, number: u32) -> Tried {
     let digits = [
         digit(number / 1000),
         digit(number / 100),
@@ -574,7 +532,7 @@ fn push_field(text: &mut Vec<u8>, number: u32) -> Result<(), AllocError> {
 }
 
 // A template of so many such fields.
-fn wide_template(alloc: Global, fields: u32) -> Result<Vec<u8>, AllocError> {
+fn wide_template(alloc: Global, fields: u32) -> Tried<Vec<u8>> {
     let mut text = Vec::new(alloc);
     text.extend_from_slice(b"{\"templates\":[{\"name\":\"Wide\",\"id\":1,\"instructions\":[")?;
     for number in 0..fields {
@@ -585,7 +543,7 @@ fn wide_template(alloc: Global, fields: u32) -> Result<Vec<u8>, AllocError> {
 }
 
 // Its message, in which each field is 1.
-fn wide_message(alloc: Global, fields: u32) -> Result<Message, AllocError> {
+fn wide_message(alloc: Global, fields: u32) -> Tried<Message> {
     let mut nodes = Vec::new(alloc);
     for _ in 0..fields {
         nodes.push(Node::Value(Scalar::U32(1)))?;
@@ -594,7 +552,7 @@ fn wide_message(alloc: Global, fields: u32) -> Result<Message, AllocError> {
 }
 
 // Whether a message with a map bit too many is refused.
-fn refuses_wide(alloc: Global, set: &TemplateSet, wide: &Message) -> Result<bool, AllocError> {
+fn refuses_wide(alloc: Global, set: &TemplateSet, wide: &Message) -> Tried<bool> {
     let fault = EncodeFault {
         cause: EncodeCause::Limit,
         instruction: 0,
@@ -604,15 +562,10 @@ fn refuses_wide(alloc: Global, set: &TemplateSet, wide: &Message) -> Result<bool
 }
 
 #[test]
-fn a_map_without_room(rt: HostRuntime) -> Result<(), AllocError> {
+fn a_map_without_room(rt: HostRuntime) -> Tried {
     let template = wide_template(rt.alloc(), 1792)?;
     let wide = wide_message(rt.alloc(), 1792)?;
-    match TemplateSet::from_json(rt.alloc(), &template) {
-        Ok(set) => same(&rt, refuses_wide(rt.alloc(), &set, &wide)?, true),
-        Err(fault) => {
-            same(&rt, fault.cause, LoadCause::Memory);
-            return Err(AllocError);
-        }
-    }
+    let set = loaded(&rt, rt.alloc(), from_utf8(&template).unwrap_or(""))?;
+    same(&rt, refuses_wide(rt.alloc(), &set, &wide)?, true);
     Ok(())
 }

@@ -14,6 +14,7 @@ use fast_writer::Writer;
 use std::alloc::{AllocError, Global};
 use std::process::Abort;
 use stream_rows::modes::PLAIN;
+use test_rows::{Tried, rows};
 
 // More than the bytes of any stream here; a machine asks how many it is fed.
 const LONGEST: usize = 4096;
@@ -26,10 +27,7 @@ struct Row {
 }
 
 // Whether a machine that is new refuses a stream.
-fn is_refused(
-    machine: &mut Machine<'_, Writer, SlotEntries<'_>>,
-    stream: &[u8],
-) -> Result<bool, AllocError>
+fn is_refused(machine: &mut Machine<'_, Writer, SlotEntries<'_>>, stream: &[u8]) -> Tried<bool>
     requires { machine.now.fed ≡ 0 }
 {
     if stream.len() > LONGEST || granted(machine.feed(stream).err())?.is_some() {
@@ -44,7 +42,7 @@ fn waits(
     alloc: Global,
     machine: &mut Machine<'_, Writer, SlotEntries<'_>>,
     canonical: &[u8],
-) -> Result<(), AllocError> {
+) -> Tried {
     same(rt, machine.receiver.finished(), canonical);
     same(rt, machine.receiver.hand_on(alloc)?, false);
     same(rt, machine.receiver.finished().len(), 0);
@@ -57,7 +55,7 @@ fn relays(
     alloc: Global,
     machine: &mut Machine<'_, Writer, SlotEntries<'_>>,
     row: &Row,
-) -> Result<(), AllocError>
+) -> Tried
     requires { machine.now.fed ≡ 0 }
 {
     let refused = is_refused(machine, row.stream);
@@ -82,7 +80,7 @@ fn tells_apart(
     rt: &impl Abort,
     machine: &mut Machine<'_, Writer, SlotEntries<'_>>,
     row: &Growing,
-) -> Result<(), AllocError>
+) -> Tried
     requires { machine.now.fed ≡ 0 }
 {
     match is_refused(machine, row.stream) {
@@ -110,7 +108,7 @@ fn fulfils(
     alloc: Global,
     machine: &mut Machine<'_, Writer, SlotEntries<'_>>,
     task: &Task,
-) -> Result<(), AllocError>
+) -> Tried
     requires { machine.now.fed ≡ 0 }
 {
     match task {
@@ -120,18 +118,13 @@ fn fulfils(
 }
 
 // A machine over a writer does.
-fn is_done(
-    rt: &impl Abort,
-    alloc: Global,
-    set: &TemplateSet,
-    task: &Task,
-) -> Result<(), AllocError> {
+fn is_done(rt: &impl Abort, alloc: Global, set: &TemplateSet, task: &Task) -> Tried {
     let entries = slots_of(alloc, set)?;
     let mut machine = Machine::new(alloc, set, PLAIN, Writer::new(alloc), entries);
     fulfils(rt, alloc, &mut machine, task)
 }
 
-fn all_relayed(rt: &impl Abort, alloc: Global, rows: &[Row]) -> Result<(), AllocError> {
+fn all_relayed(rt: &impl Abort, alloc: Global, rows: &[Row]) -> Tried {
     let set = worked(rt, alloc)?;
     for row in rows {
         is_done(rt, alloc, &set, &Task::Relay(row))?;
@@ -141,24 +134,15 @@ fn all_relayed(rt: &impl Abort, alloc: Global, rows: &[Row]) -> Result<(), Alloc
 
 // (`bench/refused.py` refuses each growth)
 #[test]
-fn growths_are_told_apart(rt: HostRuntime) -> Result<(), AllocError> {
-    const ROWS: &[Growing] = &[
+fn growths_are_told_apart(rt: HostRuntime) -> Tried {
+    const ROWS: &[Growing] = rows! { Growing { stream, of_receiver }:
         // the bytes of an identifier that is not whole
-        Growing {
-            stream: b"\xc0\x01",
-            of_receiver: false,
-        },
+        b"\xc0\x01", false;
         // the bits of a map of ten bytes too
-        Growing {
-            stream: b"\x40\x00\x00\x00\x00\x00\x00\x00\x00\x80\x01",
-            of_receiver: false,
-        },
+        b"\x40\x00\x00\x00\x00\x00\x00\x00\x00\x80\x01", false;
         // numbers and texts, and their entries
-        Growing {
-            stream: b"\xf0\x81\x81\x41\xc2\xfe\x00\xe4",
-            of_receiver: true,
-        },
-    ];
+        b"\xf0\x81\x81\x41\xc2\xfe\x00\xe4", true;
+    };
     let set = worked(&rt, rt.alloc())?;
     for row in ROWS {
         is_done(&rt, rt.alloc(), &set, &Task::TellApart(row))?;
@@ -167,150 +151,46 @@ fn growths_are_told_apart(rt: HostRuntime) -> Result<(), AllocError> {
 }
 
 #[test]
-fn streams_that_are_relayed(rt: HostRuntime) -> Result<(), AllocError> {
-    const ROWS: &[Row] = &[
+fn streams_that_are_relayed(rt: HostRuntime) -> Tried {
+    const ROWS: &[Row] = rows! { Row { stream, canonical, refused }:
         // numbers and texts
-        Row {
-            stream: b"\xf0\x81\x81\x41\xc2\xfe\x00\xe4",
-            canonical: b"\xf0\x81\x81\x41\xc2\xfe\x00\xe4",
-            refused: false,
-        },
-        Row {
-            stream: b"\xf0\x81\x81\x41\xc2\xfe\x00\xe4\xf8\x81\x82\x41\xc2\x80\x81\x80",
-            canonical: b"\xf0\x81\x81\x41\xc2\xfe\x00\xe4\x80\x80\x81",
-            refused: false,
-        },
-        Row {
-            stream: b"\xf0\x81\x81\x41\xc2\xfe\x00\xe4\x80\x80\x81",
-            canonical: b"\xf0\x81\x81\x41\xc2\xfe\x00\xe4\x80\x80\x81",
-            refused: false,
-        },
-        Row {
-            stream: b"",
-            canonical: b"",
-            refused: false,
-        },
-        Row {
-            stream: b"\xf0\x81\x00\x00\x81\x41\xc2\xfe\x00\xe4",
-            canonical: b"\xf0\x81\x81\x41\xc2\xfe\x00\xe4",
-            refused: false,
-        },
-        Row {
-            stream: b"\x70\x00\x80\x81\x81\x41\xc2\xfe\x00\xe4",
-            canonical: b"\xf0\x81\x81\x41\xc2\xfe\x00\xe4",
-            refused: false,
-        },
-        Row {
-            stream: b"\xf1\x81\x81\x41\xc2\xfe\x00\xe4",
-            canonical: b"\xf0\x81\x81\x41\xc2\xfe\x00\xe4",
-            refused: false,
-        },
+        b"\xf0\x81\x81\x41\xc2\xfe\x00\xe4", b"\xf0\x81\x81\x41\xc2\xfe\x00\xe4", false;
+        b"\xf0\x81\x81\x41\xc2\xfe\x00\xe4\xf8\x81\x82\x41\xc2\x80\x81\x80",
+            b"\xf0\x81\x81\x41\xc2\xfe\x00\xe4\x80\x80\x81", false;
+        b"\xf0\x81\x81\x41\xc2\xfe\x00\xe4\x80\x80\x81", b"\xf0\x81\x81\x41\xc2\xfe\x00\xe4\x80\x80\x81", false;
+        b"", b"", false;
+        b"\xf0\x81\x00\x00\x81\x41\xc2\xfe\x00\xe4", b"\xf0\x81\x81\x41\xc2\xfe\x00\xe4", false;
+        b"\x70\x00\x80\x81\x81\x41\xc2\xfe\x00\xe4", b"\xf0\x81\x81\x41\xc2\xfe\x00\xe4", false;
+        b"\xf1\x81\x81\x41\xc2\xfe\x00\xe4", b"\xf0\x81\x81\x41\xc2\xfe\x00\xe4", false;
         // deltas and tails
-        Row {
-            stream: b"\xc0\x8a\x80\x47\x45\x48\xb6\x80\x82\x4d\xb6\x80\xfd\x45\xd3",
-            canonical: b"\xc0\x8a\x80\x47\x45\x48\xb6\x80\x82\x4d\xb6\x80\xfd\x45\xd3",
-            refused: false,
-        },
-        Row {
-            stream: b"\xc0\x8a\x80\x47\x45\x48\xb6\x80\x82\x4d\xb6\x80\xfd\x45\xd3\x80\xff\x80",
-            canonical: b"\xc0\x8a\x80\x47\x45\x48\xb6\x80\x82\x4d\xb6\x80\xfd\x45\xd3\x80\x80\x80",
-            refused: false,
-        },
-        Row {
-            stream: b"\xe0\x88\x78\x61\xe2\xa0\x00\x00\x00\xe2",
-            canonical: b"\xe0\x88\x78\x61\xe2\xa0\x78\x00\xe2",
-            refused: false,
-        },
-        Row {
-            stream: b"\xe0\x89\x80\xa0\x00\x80",
-            canonical: b"\xe0\x89\x80\xa0\xe2",
-            refused: false,
-        },
+        b"\xc0\x8a\x80\x47\x45\x48\xb6\x80\x82\x4d\xb6\x80\xfd\x45\xd3",
+            b"\xc0\x8a\x80\x47\x45\x48\xb6\x80\x82\x4d\xb6\x80\xfd\x45\xd3", false;
+        b"\xc0\x8a\x80\x47\x45\x48\xb6\x80\x82\x4d\xb6\x80\xfd\x45\xd3\x80\xff\x80",
+            b"\xc0\x8a\x80\x47\x45\x48\xb6\x80\x82\x4d\xb6\x80\xfd\x45\xd3\x80\x80\x80", false;
+        b"\xe0\x88\x78\x61\xe2\xa0\x00\x00\x00\xe2", b"\xe0\x88\x78\x61\xe2\xa0\x78\x00\xe2", false;
+        b"\xe0\x89\x80\xa0\x00\x80", b"\xe0\x89\x80\xa0\xe2", false;
         // decimals in parts
-        Row {
-            stream: b"\xf0\x83\x80\x85\x90\x39\x45\xa3",
-            canonical: b"\xf0\x83\x80\x85\x90\x39\x45\xa3",
-            refused: false,
-        },
-        Row {
-            stream: b"\xf0\x83\x80\x85\xb0\x83\x39\x45\xa3",
-            canonical: b"\xf0\x83\x80\x85\x90\x39\x45\xa3",
-            refused: false,
-        },
-        Row {
-            stream: b"\xe0\x8f\x00\xe4\x83\x0a\xff\x80\x81",
-            canonical: b"\xe0\x8f\x00\xe4\x83\x0a\xff\x80\x81",
-            refused: false,
-        },
+        b"\xf0\x83\x80\x85\x90\x39\x45\xa3", b"\xf0\x83\x80\x85\x90\x39\x45\xa3", false;
+        b"\xf0\x83\x80\x85\xb0\x83\x39\x45\xa3", b"\xf0\x83\x80\x85\x90\x39\x45\xa3", false;
+        b"\xe0\x8f\x00\xe4\x83\x0a\xff\x80\x81", b"\xe0\x8f\x00\xe4\x83\x0a\xff\x80\x81", false;
         // groups and sequences
-        Row {
-            stream: b"\xc0\x84\x80\x80\x81\x80\x83\x85\x86",
-            canonical: b"\xc0\x84\x80\x80\x81\x80\x83\x85\x86",
-            refused: false,
-        },
-        Row {
-            stream: b"\xc0\x85\x82\xc0\x85\x80",
-            canonical: b"\xc0\x85\x82\xc0\x85\x80",
-            refused: false,
-        },
-        Row {
-            stream: b"\xf0\x8b\xc0\x85\x86\x80\xa0\x80",
-            canonical: b"\xf0\x8b\xc0\x85\x86\x80\xa0\x80",
-            refused: false,
-        },
+        b"\xc0\x84\x80\x80\x81\x80\x83\x85\x86", b"\xc0\x84\x80\x80\x81\x80\x83\x85\x86", false;
+        b"\xc0\x85\x82\xc0\x85\x80", b"\xc0\x85\x82\xc0\x85\x80", false;
+        b"\xf0\x8b\xc0\x85\x86\x80\xa0\x80", b"\xf0\x8b\xc0\x85\x86\x80\xa0\x80", false;
         // identifiers and keys
-        Row {
-            stream: b"\xe0\x90\x85\x86\xe0\x90\x87\x86",
-            canonical: b"\xe0\x90\x85\x86\x80\x87",
-            refused: false,
-        },
-        Row {
-            stream: b"\xf0\x87\x85\xc1\xb0\x86\xc1",
-            canonical: b"\xf0\x87\x85\xc1\xb0\x86\xc1",
-            refused: false,
-        },
+        b"\xe0\x90\x85\x86\xe0\x90\x87\x86", b"\xe0\x90\x85\x86\x80\x87", false;
+        b"\xf0\x87\x85\xc1\xb0\x86\xc1", b"\xf0\x87\x85\xc1\xb0\x86\xc1", false;
         // what comes before a fault
-        Row {
-            stream: b"\x80",
-            canonical: b"",
-            refused: true,
-        },
-        Row {
-            stream: b"\xc0\xe4",
-            canonical: b"",
-            refused: true,
-        },
-        Row {
-            stream: b"\xe0\x82\x0f\x7f\x7f\x7f\xff\x0f\x7f\x7f\x7f\xff\x80\x80\x80\x81",
-            canonical: b"\xe0\x82\x0f\x7f\x7f\x7f\xff\x0f\x7f\x7f\x7f\xff\x80\x80",
-            refused: true,
-        },
-        Row {
-            stream: b"\xe0\x8e\x80\x90\x83\x90\x10\x00\x00\x00\x80",
-            canonical: b"\xe0\x8e\x80\x80",
-            refused: true,
-        },
-        Row {
-            stream: b"\xf0\x87\x85\xc1\x80",
-            canonical: b"\xf0\x87\x85\xc1",
-            refused: true,
-        },
-        Row {
-            stream: b"\xe0\x8c\x82\xc3\xa9\xa0\x81\xa8\xa0\x81\x41",
-            canonical: b"\xe0\x8c\x82\xc3\xa9\xa0\x81\xa8",
-            refused: true,
-        },
-        Row {
-            stream: b"\xf0\x81\x81\x41\xc2\xfe",
-            canonical: b"",
-            refused: true,
-        },
+        b"\x80", b"", true;
+        b"\xc0\xe4", b"", true;
+        b"\xe0\x82\x0f\x7f\x7f\x7f\xff\x0f\x7f\x7f\x7f\xff\x80\x80\x80\x81",
+            b"\xe0\x82\x0f\x7f\x7f\x7f\xff\x0f\x7f\x7f\x7f\xff\x80\x80", true;
+        b"\xe0\x8e\x80\x90\x83\x90\x10\x00\x00\x00\x80", b"\xe0\x8e\x80\x80", true;
+        b"\xf0\x87\x85\xc1\x80", b"\xf0\x87\x85\xc1", true;
+        b"\xe0\x8c\x82\xc3\xa9\xa0\x81\xa8\xa0\x81\x41", b"\xe0\x8c\x82\xc3\xa9\xa0\x81\xa8", true;
+        b"\xf0\x81\x81\x41\xc2\xfe", b"", true;
         // many elements of nothing
-        Row {
-            stream: b"\xc0\x86\x03\x7f\xff",
-            canonical: b"\xc0\x86\x03\x7f\xff",
-            refused: false,
-        },
-    ];
+        b"\xc0\x86\x03\x7f\xff", b"\xc0\x86\x03\x7f\xff", false;
+    };
     all_relayed(&rt, rt.alloc(), ROWS)
 }

@@ -21,6 +21,7 @@ use std::alloc::{AllocError, Global};
 use std::process::Abort;
 use stream_rows::modes::PLAIN;
 use template_tests::generated::{Numbers, put_sent};
+use test_rows::Tried;
 
 // More than the bytes of any stream here; a decoder asks how many it is fed.
 const LONGEST: usize = 65_536;
@@ -78,7 +79,7 @@ fn append_part(
     part: &FieldPart,
     entries: &mut MapEntries,
     made: &mut Made,
-) -> Result<Option<bool>, AllocError> {
+) -> Tried<Option<bool>> {
     let needs = part_needs_bit(part);
     for _ in 0..TRIES {
         let bit = !needs || numbers.below(2) > 0;
@@ -110,7 +111,7 @@ fn append_field(
     flat: &Flat,
     entries: &mut MapEntries,
     made: &mut Made,
-) -> Result<bool, AllocError> {
+) -> Tried<bool> {
     let there = match flat {
         Flat::Field { whole, .. } => append_part(alloc, numbers, whole, entries, made)?,
         Flat::Parts {
@@ -134,7 +135,7 @@ fn append_message(
     template: &FlatTemplate,
     entries: &mut MapEntries,
     stream: &mut Vec<u8>,
-) -> Result<bool, AllocError>
+) -> Tried<bool>
     requires { id < 128 }
 {
     let mut made = Made {
@@ -162,11 +163,7 @@ fn append_message(
 }
 
 // Some messages that have a reading, one after the other.
-fn generated(
-    alloc: Global,
-    numbers: &mut Numbers,
-    set: &TemplateSet,
-) -> Result<Vec<u8>, AllocError> {
+fn generated(alloc: Global, numbers: &mut Numbers, set: &TemplateSet) -> Tried<Vec<u8>> {
     let mut entries = MapEntries::new(alloc);
     let mut stream = Vec::new(alloc);
     for _ in 0..MESSAGES {
@@ -185,7 +182,7 @@ fn decoded(
     alloc: Global,
     set: &TemplateSet,
     stream: &[u8],
-) -> Result<(Vec<Message>, Option<Fault>), AllocError> {
+) -> Tried<(Vec<Message>, Option<Fault>)> {
     let mut decoder = Decoder::new(alloc, set, PLAIN, slots_of(alloc, set)?);
     let mut messages = Vec::new(alloc);
     if stream.len() > LONGEST {
@@ -204,7 +201,7 @@ fn encoded(
     alloc: Global,
     set: &TemplateSet,
     messages: &[Message],
-) -> Result<Vec<u8>, AllocError> {
+) -> Tried<Vec<u8>> {
     let mut encoder = Encoder::new(alloc, set, slots_of(alloc, set)?);
     let mut canonical = Vec::new(alloc);
     for message in messages {
@@ -221,7 +218,7 @@ fn fault_in_pieces(
     machine: &mut Machine<'_, Writer, SlotEntries<'_>>,
     stream: &[u8],
     size: usize,
-) -> Result<Option<Fault>, AllocError>
+) -> Tried<Option<Fault>>
     requires { 0 < size }
 {
     for piece in stream.chunks(size) {
@@ -236,12 +233,7 @@ fn fault_in_pieces(
 }
 
 // A stream that is read and written at once has the canonical bytes, and the fault, of one that is decoded and encoded.
-fn goes_both_ways(
-    rt: &impl Abort,
-    alloc: Global,
-    set: &TemplateSet,
-    stream: &[u8],
-) -> Result<(), AllocError> {
+fn goes_both_ways(rt: &impl Abort, alloc: Global, set: &TemplateSet, stream: &[u8]) -> Tried {
     let (messages, fault) = decoded(alloc, set, stream)?;
     let canonical = encoded(rt, alloc, set, &messages)?;
     for size in [LONGEST, 1, 2, 7] {
@@ -262,7 +254,7 @@ fn goes_on_both_ways(
     set: &TemplateSet,
     stream: &[u8],
     at: usize,
-) -> Result<(), AllocError> {
+) -> Tried {
     let mut other = stream.to_vec(alloc)?;
     if let Some(byte) = other.get_mut(at) {
         *byte = numbers.below(255);
@@ -272,7 +264,7 @@ fn goes_on_both_ways(
 }
 
 #[test]
-fn generated_streams_go_the_same_both_ways(rt: HostRuntime) -> Result<(), AllocError> {
+fn generated_streams_go_the_same_both_ways(rt: HostRuntime) -> Tried {
     let alloc = rt.alloc();
     let set = loaded(&rt, alloc, TEMPLATES)?;
     let mut numbers = Numbers::new(2);

@@ -5,6 +5,7 @@ use crate::serving::devices::{After, STREAM};
 use crate::serving::programs::{Case, Ended, nothing, serve_case};
 use std::alloc::{AllocError, Global};
 use std::process::Abort;
+use test_rows::Tried;
 
 /// Whether a command line has a word.
 fn has_word(words: &[&str], wanted: &str) -> bool {
@@ -32,7 +33,7 @@ fn with_flags<'a>(
     command: &'a str,
     words: &[&'a str],
     left_out: &str,
-) -> Result<Vec<&'a str>, AllocError> {
+) -> Tried<Vec<&'a str>> {
     let mut list = Vec::new(alloc);
     list.push("fastcat")?;
     list.push(command)?;
@@ -45,19 +46,19 @@ fn with_flags<'a>(
 }
 
 /// Those of `show` in JSON.
-fn showing<'a>(alloc: Global, words: &[&'a str]) -> Result<Vec<&'a str>, AllocError> {
+fn showing<'a>(alloc: Global, words: &[&'a str]) -> Tried<Vec<&'a str>> {
     let mut list = with_flags(alloc, "show", words, "")?;
     list.push("--json")?;
     Ok(list)
 }
 
 /// Those of `write`, which reads what was shown.
-fn writing<'a>(alloc: Global, words: &[&'a str]) -> Result<Vec<&'a str>, AllocError> {
+fn writing<'a>(alloc: Global, words: &[&'a str]) -> Tried<Vec<&'a str>> {
     with_flags(alloc, "write", words, STREAM)
 }
 
 /// What comes of a case. Where memory is refused, the test ends.
-pub fn ended(alloc: Global, case: &Case) -> Result<Ended, AllocError> {
+pub fn ended(alloc: Global, case: &Case) -> Tried<Ended> {
     let mut ended = nothing(alloc)?;
     serve_case(alloc, case, &mut ended);
     if ended.status == 3 {
@@ -72,7 +73,7 @@ fn ended_over<'a>(
     words: &'a [&'a str],
     input: &'a [u8],
     case: Case<'a>,
-) -> Result<Ended, AllocError> {
+) -> Tried<Ended> {
     ended(
         alloc,
         &Case {
@@ -84,7 +85,7 @@ fn ended_over<'a>(
 }
 
 /// A stream that is canonicalised is shown in JSON, and these lines are written as its canonical bytes.
-pub fn is_written_back(rt: &impl Abort, alloc: Global, case: &Case) -> Result<(), AllocError> {
+pub fn is_written_back(rt: &impl Abort, alloc: Global, case: &Case) -> Tried {
     if !is_canonicalised(case) {
         return Ok(());
     }

@@ -2,8 +2,9 @@
 
 use crate::serving::devices::{STREAM, TEMPLATES};
 use crate::serving::programs::{CASE, Case, Templates, served};
-use std::alloc::{AllocError, Global};
+use std::alloc::Global;
 use std::process::Abort;
+use test_rows::{Tried, words};
 
 // The text of book.json.
 pub const BOOK: &str = r#"{"templates":[
@@ -27,43 +28,15 @@ pub const TRADE: &str = r#"{"templates":[
 
 const SHOW: &[&str] = &["fastcat", "show", "--hex", "--templates", TEMPLATES, STREAM];
 
-const CHECK: &[&str] = &[
-    "fastcat",
-    "check",
-    "--hex",
-    "--templates",
-    TEMPLATES,
-    STREAM,
-];
+const CHECK: &[&str] = words! { "fastcat", "check", "--hex", "--templates", TEMPLATES, STREAM };
 
-const CANON: &[&str] = &[
-    "fastcat",
-    "canon",
-    "--hex",
-    "--templates",
-    TEMPLATES,
-    STREAM,
-];
+const CANON: &[&str] = words! { "fastcat", "canon", "--hex", "--templates", TEMPLATES, STREAM };
 
-const SHOW_STRICTLY: &[&str] = &[
-    "fastcat",
-    "show",
-    "--strict",
-    "--hex",
-    "--templates",
-    TEMPLATES,
-    STREAM,
-];
+const SHOW_STRICTLY: &[&str] =
+    words! { "fastcat", "show", "--strict", "--hex", "--templates", TEMPLATES, STREAM };
 
-const CANON_STRICTLY: &[&str] = &[
-    "fastcat",
-    "canon",
-    "--strict",
-    "--hex",
-    "--templates",
-    TEMPLATES,
-    STREAM,
-];
+const CANON_STRICTLY: &[&str] =
+    words! { "fastcat", "canon", "--strict", "--hex", "--templates", TEMPLATES, STREAM };
 
 // Serves a line over templates and a stream in hex text.
 fn is_served<'a>(
@@ -73,7 +46,7 @@ fn is_served<'a>(
     templates: Templates<'a>,
     stream: &'a str,
     want: &'a str,
-) -> Result<(), AllocError> {
+) -> Tried {
     let case = Case {
         words,
         templates,
@@ -93,7 +66,7 @@ fn example(
     lines: &str,
     canon: &str,
     told: &str,
-) -> Result<(), AllocError> {
+) -> Tried {
     let rows: [(&[&str], &str); 4] = [
         (SHOW, lines),
         (SHOW_STRICTLY, lines),
@@ -108,7 +81,7 @@ fn example(
 }
 
 #[test]
-fn an_order_book(rt: HostRuntime) -> Result<(), AllocError> {
+fn an_order_book(rt: HostRuntime) -> Tried {
     let stream = "f0 81 81 45 d3 82 d0 80 1b 3b e9 8a c0 81 99\nf0 81 82 45 d3 81 d0 81 99 84\n";
     let lines = concat!(
         "1 Book Seq=1 Symbol=\"ES\" Entries=[{Side=0 Price=450025e-2 Size=10} ",
@@ -121,7 +94,7 @@ fn an_order_book(rt: HostRuntime) -> Result<(), AllocError> {
 }
 
 #[test]
-fn a_trade_feed(rt: HostRuntime) -> Result<(), AllocError> {
+fn a_trade_feed(rt: HostRuntime) -> Tried {
     let stream = concat!(
         "c0 82 10 27 33 c0 80 45 53 5a b6 fe 1b 3b e9\n",
         "b0 8f 80 80 80 99 01 fa 83 0a ff\n",

@@ -4,8 +4,9 @@ use crate::same::same_of;
 use crate::serving::back::{ended, is_written_back};
 use crate::serving::devices::TEMPLATES;
 use crate::serving::programs::{CASE, Case, Templates};
-use std::alloc::{AllocError, Global};
+use std::alloc::Global;
 use std::process::Abort;
+use test_rows::Tried;
 
 /// Messages of the worked templates that can be read from any entries that these leave.
 const MESSAGES: &[&[u8]] = &[
@@ -49,7 +50,7 @@ fn drawn(number: u64) -> &'static [u8] {
 }
 
 /// A stream of so many runs of messages.
-fn streams_of(alloc: Global, seed: u64, runs: u64) -> Result<Generated, AllocError> {
+fn streams_of(alloc: Global, seed: u64, runs: u64) -> Tried<Generated> {
     let mut number = next_of(seed);
     let mut plain = Vec::new(alloc);
     let mut framed = Vec::new(alloc);
@@ -75,12 +76,7 @@ const BLOCKS: &[&str] = &["fastcat", "canon", "--blocks", "--templates", TEMPLAT
 const PACKETS: &[&str] = &["fastcat", "canon", "--packets", "--templates", TEMPLATES];
 
 /// What a command line that canonicalises writes of a stream, which is accepted, is written back.
-fn goes_back<'a>(
-    rt: &impl Abort,
-    alloc: Global,
-    words: &'a [&'a str],
-    input: &'a [u8],
-) -> Result<(), AllocError> {
+fn goes_back<'a>(rt: &impl Abort, alloc: Global, words: &'a [&'a str], input: &'a [u8]) -> Tried {
     let case = Case {
         words,
         templates: Templates::Worked,
@@ -94,7 +90,7 @@ fn goes_back<'a>(
 }
 
 #[test]
-fn generated_streams_go_back(rt: HostRuntime) -> Result<(), AllocError> {
+fn generated_streams_go_back(rt: HostRuntime) -> Tried {
     for seed in 0..24 {
         let streams = streams_of(rt.alloc(), seed, 8)?;
         goes_back(&rt, rt.alloc(), PLAIN, &streams.plain)?;

@@ -5,6 +5,7 @@ use crate::same::same_of;
 use crate::serving::programs::{Case, Ended};
 use std::alloc::AllocError;
 use std::process::Abort;
+use test_rows::Tried;
 
 /// What is said where memory is refused.
 const MEMORY: &[u8] = b"fault memory\n";
@@ -56,7 +57,7 @@ fn asks_to_explain(words: &[&str]) -> bool {
 
 /// Ends a test where memory was refused. Where that is said, what was written and told is a front of what else would be. Where a
 /// refusal is said but less is explained, all else is as it would be. Where nothing can be said, the status tells it.
-pub fn granted(rt: &impl Abort, case: &Case, ended: &Ended) -> Result<(), AllocError> {
+pub fn granted(rt: &impl Abort, case: &Case, ended: &Ended) -> Tried {
     let (said, wanted) = (ended.err.as_slice(), case.err.as_bytes());
     if said.starts_with(MEMORY) && !wanted.starts_with(MEMORY) {
         same_of(rt, case.words, ended.status, 3);

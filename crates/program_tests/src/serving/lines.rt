@@ -3,8 +3,9 @@
 use crate::serving::devices::TEMPLATES;
 use crate::serving::programs::{CASE, Case, Templates, rows_are_served, served};
 use line_rows::{LineRow, ROWS, row_of};
-use std::alloc::{AllocError, Global};
+use std::alloc::Global;
 use std::process::Abort;
+use test_rows::{Tried, rows};
 
 const WRITE_HEX: &[&str] = &["fastcat", "write", "--templates", TEMPLATES, "--hex"];
 
@@ -17,7 +18,7 @@ const OVER_LINES: Case = Case {
 };
 
 /// A row's line is answered as it says, in one read and in reads of one byte.
-fn is_answered(rt: &impl Abort, alloc: Global, row: &LineRow<'_>) -> Result<(), AllocError> {
+fn is_answered(rt: &impl Abort, alloc: Global, row: &LineRow<'_>) -> Tried {
     let case = Case {
         input: row.line.as_bytes(),
         status: if row.said.is_empty() { 0 } else { 1 },
@@ -30,7 +31,7 @@ fn is_answered(rt: &impl Abort, alloc: Global, row: &LineRow<'_>) -> Result<(), 
 }
 
 #[test]
-fn each_line_is_answered(rt: HostRuntime) -> Result<(), AllocError> {
+fn each_line_is_answered(rt: HostRuntime) -> Tried {
     for row in ROWS.split_inclusive('\n') {
         is_answered(&rt, rt.alloc(), &row_of(row))?;
     }
@@ -38,66 +39,32 @@ fn each_line_is_answered(rt: HostRuntime) -> Result<(), AllocError> {
 }
 
 #[test]
-fn lines_in_a_text(rt: HostRuntime) -> Result<(), AllocError> {
-    const ROWS: &[Case] = &[
-        Case {
-            out: b"\n",
-            ..OVER_LINES
-        },
-        Case {
-            input: b"\n \t\r\n",
-            out: b"\n",
-            ..OVER_LINES
-        },
-        Case {
-            input: b"{\"id\":9,\"fields\":{}}\r",
-            out: b"c089\n",
-            ..OVER_LINES
-        },
-        Case {
+fn lines_in_a_text(rt: HostRuntime) -> Tried {
+    const ROWS: &[Case] = rows! { Case { .. }:
+        OVER_LINES, out: b"\n";
+        OVER_LINES, input: b"\n \t\r\n", out: b"\n";
+        OVER_LINES, input: b"{\"id\":9,\"fields\":{}}\r", out: b"c089\n";
+        OVER_LINES,
             input: b"{\"id\":9,\"fields\":{}}\n{\"id\":9,\"fields\":{}}\n{\"id\":9,\"fields\":{\"a\":1}}\n{\"id\":9,\"fields\":{}}",
-            status: 1,
-            out: b"c08980\n",
-            err: "refused Member line=3 template=9 instruction=0\n",
-            ..OVER_LINES
-        },
-        Case {
+            status: 1, out: b"c08980\n", err: "refused Member line=3 template=9 instruction=0\n";
+        OVER_LINES,
             input: b"\n{\"id\":4,\"fields\":{\"L\":[],\"K\":\"x\"}}\n{\"id\":4,\"fields\":{\"L\":[],\"K\":\"\"}}",
-            status: 1,
-            out: b"c08480\n",
-            err: "refused NotConstant line=3 template=4 instruction=4\n",
-            ..OVER_LINES
-        },
-        Case {
-            input: b"\xef\xbb\xbf{\"id\":9,\"fields\":{}}",
-            status: 1,
-            out: b"\n",
-            err: "refused Json line=1 template=0 instruction=0\n",
-            ..OVER_LINES
-        },
+            status: 1, out: b"c08480\n", err: "refused NotConstant line=3 template=4 instruction=4\n";
+        OVER_LINES, input: b"\xef\xbb\xbf{\"id\":9,\"fields\":{}}", status: 1, out: b"\n",
+            err: "refused Json line=1 template=0 instruction=0\n";
         // no UTF-8, and a sign that is to be escaped
-        Case {
-            input: b"{\"id\":1,\"fields\":{\"Seq\":1,\"Sym\":\"AB\",\"Px\":1,\"U\":\"\xff\"}}",
-            status: 1,
-            out: b"\n",
-            err: "refused Json line=1 template=0 instruction=0\n",
-            ..OVER_LINES
-        },
-        Case {
-            input: b"{\"id\":1,\"fields\":{\"Seq\":1,\"Sym\":\"AB\",\"Px\":1,\"U\":\"a\x01\"}}",
-            status: 1,
-            out: b"\n",
-            err: "refused Json line=1 template=0 instruction=0\n",
-            ..OVER_LINES
-        },
-    ];
+        OVER_LINES, input: b"{\"id\":1,\"fields\":{\"Seq\":1,\"Sym\":\"AB\",\"Px\":1,\"U\":\"\xff\"}}", status: 1,
+            out: b"\n", err: "refused Json line=1 template=0 instruction=0\n";
+        OVER_LINES, input: b"{\"id\":1,\"fields\":{\"Seq\":1,\"Sym\":\"AB\",\"Px\":1,\"U\":\"a\x01\"}}", status: 1,
+            out: b"\n", err: "refused Json line=1 template=0 instruction=0\n";
+    };
     rows_are_served(&rt, rt.alloc(), ROWS)
 }
 
 /// Texts, each so many times one behind the other.
 type Runs = &'static [(usize, &'static [u8])];
 
-fn joined(alloc: Global, runs: &[(usize, &[u8])]) -> Result<Vec<u8>, AllocError> {
+fn joined(alloc: Global, runs: &[(usize, &[u8])]) -> Tried<Vec<u8>> {
     let mut joined = Vec::new(alloc);
     for (count, text) in runs {
         for _ in 0..*count {
@@ -123,7 +90,7 @@ fn is_served<'a>(
     input: &'a [u8],
     out: &'a [u8],
     said: &'a str,
-) -> Result<(), AllocError> {
+) -> Tried {
     let case = Case {
         words,
         input,
@@ -136,46 +103,24 @@ fn is_served<'a>(
     served(rt, alloc, &case)
 }
 
-fn large_is_served(rt: &impl Abort, alloc: Global, row: &Large) -> Result<(), AllocError> {
+fn large_is_served(rt: &impl Abort, alloc: Global, row: &Large) -> Tried {
     let input = joined(alloc, row.input)?;
     let out = joined(alloc, row.out)?;
     is_served(rt, alloc, row.words, &input, &out, row.said)
 }
 
 /// Lines of 16,777,216 bytes, and of one more; and one of blanks.
-const LONG_LINES: &[Large] = &[
-    Large {
-        words: WRITE_HEX,
-        input: &[
-            (1, b"{\"id\":9,\"fields\":{}}\n{\"id\":9,"),
-            (16_777_196, b" "),
-            (1, b"\"fields\":{}}"),
-        ],
-        out: &[(1, b"c08980\n")],
-        said: "",
-    },
-    Large {
-        words: WRITE_HEX,
-        input: &[
-            (1, b"{\"id\":9,"),
-            (16_777_196, b" "),
-            (1, b"\"fields\":{}}\n{\"id\":9,"),
-            (16_777_197, b" "),
-            (1, b"\"fields\":{}}\n"),
-        ],
-        out: &[(1, b"c089\n")],
-        said: "refused Limit line=2 template=0 instruction=0\n",
-    },
-    Large {
-        words: WRITE_HEX,
-        input: &[(16_777_216, b" "), (1, b"\n"), (16_777_217, b" ")],
-        out: &[(1, b"\n")],
-        said: "refused Limit line=2 template=0 instruction=0\n",
-    },
-];
+const LONG_LINES: &[Large] = rows! { Large { words, input, out, said }:
+    WRITE_HEX, &[(1, b"{\"id\":9,\"fields\":{}}\n{\"id\":9,"), (16_777_196, b" "), (1, b"\"fields\":{}}")],
+        &[(1, b"c08980\n")], "";
+    WRITE_HEX, &[(1, b"{\"id\":9,"), (16_777_196, b" "), (1, b"\"fields\":{}}\n{\"id\":9,"), (16_777_197, b" "),
+        (1, b"\"fields\":{}}\n")], &[(1, b"c089\n")], "refused Limit line=2 template=0 instruction=0\n";
+    WRITE_HEX, &[(16_777_216, b" "), (1, b"\n"), (16_777_217, b" ")], &[(1, b"\n")],
+        "refused Limit line=2 template=0 instruction=0\n";
+};
 
 #[test]
-fn long_texts_of_lines(rt: HostRuntime) -> Result<(), AllocError> {
+fn long_texts_of_lines(rt: HostRuntime) -> Tried {
     for row in LONG_LINES {
         large_is_served(&rt, rt.alloc(), row)?;
     }
@@ -183,131 +128,36 @@ fn long_texts_of_lines(rt: HostRuntime) -> Result<(), AllocError> {
 }
 
 /// Levels of JSON, strings, nodes, lines and packets, each as large as may be, and one more.
-const LARGE: &[Large] = &[
-    Large {
-        words: WRITE_HEX,
-        input: &[
-            (1, b"{\"id\":9,\"fields\":"),
-            (127, b"["),
-            (127, b"]"),
-            (1, b"}"),
-        ],
-        out: &[(1, b"\n")],
-        said: "refused Line line=1 template=0 instruction=0\n",
-    },
-    Large {
-        words: WRITE_HEX,
-        input: &[
-            (1, b"{\"id\":9,\"fields\":"),
-            (128, b"["),
-            (128, b"]"),
-            (1, b"}"),
-        ],
-        out: &[(1, b"\n")],
-        said: "refused Json line=1 template=0 instruction=0\n",
-    },
-    Large {
-        words: WRITE_HEX,
-        input: &[
-            (1, b"{\"id\":1,\"fields\":{\"Seq\":1,\"Px\":1,\"Sym\":\""),
-            (65_535, b"a"),
-            (1, b"\"}}\n"),
-        ],
-        out: &[(1, b"f08181"), (65_534, b"61"), (1, b"e18081808080\n")],
-        said: "",
-    },
-    Large {
-        words: WRITE_HEX,
-        input: &[
-            (1, b"{\"id\":1,\"fields\":{\"Seq\":1,\"Px\":1,\"Sym\":\""),
-            (65_536, b"a"),
-            (1, b"\"}}\n"),
-        ],
-        out: &[(1, b"\n")],
-        said: "refused Limit line=1 template=1 instruction=2\n",
-    },
+const LARGE: &[Large] = rows! { Large { words, input, out, said }:
+    WRITE_HEX, &[(1, b"{\"id\":9,\"fields\":"), (127, b"["), (127, b"]"), (1, b"}")], &[(1, b"\n")],
+        "refused Line line=1 template=0 instruction=0\n";
+    WRITE_HEX, &[(1, b"{\"id\":9,\"fields\":"), (128, b"["), (128, b"]"), (1, b"}")], &[(1, b"\n")],
+        "refused Json line=1 template=0 instruction=0\n";
+    WRITE_HEX, &[(1, b"{\"id\":1,\"fields\":{\"Seq\":1,\"Px\":1,\"Sym\":\""), (65_535, b"a"), (1, b"\"}}\n")],
+        &[(1, b"f08181"), (65_534, b"61"), (1, b"e18081808080\n")], "";
+    WRITE_HEX, &[(1, b"{\"id\":1,\"fields\":{\"Seq\":1,\"Px\":1,\"Sym\":\""), (65_536, b"a"), (1, b"\"}}\n")],
+        &[(1, b"\n")], "refused Limit line=1 template=1 instruction=2\n";
     // three nodes of each element, and two besides
-    Large {
-        words: WRITE_HEX,
-        input: &[
-            (1, b"{\"id\":4,\"fields\":{\"K\":\"x\",\"L\":[{\"P\":5}"),
-            (21_843, b",{\"P\":5}"),
-            (1, b"]}}"),
-        ],
-        out: &[(1, b"c084012ad4"), (21_844, b"8580"), (1, b"\n")],
-        said: "",
-    },
-    Large {
-        words: WRITE_HEX,
-        input: &[
-            (1, b"{\"id\":4,\"fields\":{\"K\":\"x\",\"L\":[{\"P\":5}"),
-            (21_844, b",{\"P\":5}"),
-            (1, b"]}}"),
-        ],
-        out: &[(1, b"\n")],
-        said: "refused Limit line=1 template=4 instruction=1\n",
-    },
-    Large {
-        words: WRITE_HEX,
-        input: &[(50_000, b"{\"id\":9,\"fields\":{}}\n")],
-        out: &[(1, b"c089"), (49_999, b"80"), (1, b"\n")],
-        said: "",
-    },
+    WRITE_HEX, &[(1, b"{\"id\":4,\"fields\":{\"K\":\"x\",\"L\":[{\"P\":5}"), (21_843, b",{\"P\":5}"), (1, b"]}}")],
+        &[(1, b"c084012ad4"), (21_844, b"8580"), (1, b"\n")], "";
+    WRITE_HEX, &[(1, b"{\"id\":4,\"fields\":{\"K\":\"x\",\"L\":[{\"P\":5}"), (21_844, b",{\"P\":5}"), (1, b"]}}")],
+        &[(1, b"\n")], "refused Limit line=1 template=4 instruction=1\n";
+    WRITE_HEX, &[(50_000, b"{\"id\":9,\"fields\":{}}\n")], &[(1, b"c089"), (49_999, b"80"), (1, b"\n")], "";
     // eight bytes of the first message besides its string, and two of the second
-    Large {
-        words: WRITE_PACKETS,
-        input: &[
-            (
-                1,
-                b"{\"packet\":1,\"id\":1,\"fields\":{\"Seq\":1,\"Px\":1,\"Sym\":\"",
-            ),
-            (65_525, b"a"),
-            (1, b"\"}}\n{\"packet\":1,\"id\":9,\"fields\":{}}\n"),
-        ],
-        out: &[
-            (1, b"\x03\x7f\xff\xf0\x81\x81"),
-            (65_524, b"a"),
-            (1, b"\xe1\x80\x81\x80\x80\x80\xc0\x89"),
-        ],
-        said: "",
-    },
-    Large {
-        words: WRITE_PACKETS,
-        input: &[
-            (
-                1,
-                b"{\"packet\":1,\"id\":1,\"fields\":{\"Seq\":1,\"Px\":1,\"Sym\":\"",
-            ),
-            (65_525, b"a"),
-            (
-                1,
-                b"\"}}\n{\"packet\":1,\"id\":9,\"fields\":{}}\n{\"packet\":1,\"id\":9,\"fields\":{}}\n",
-            ),
-        ],
-        out: &[
-            (1, b"\x03\x7f\xff\xf0\x81\x81"),
-            (65_524, b"a"),
-            (1, b"\xe1\x80\x81\x80\x80\x80\xc0\x89"),
-        ],
-        said: "refused Limit line=3 template=0 instruction=0\n",
-    },
-    Large {
-        words: WRITE_PACKETS,
-        input: &[
-            (
-                1,
-                b"{\"packet\":1,\"id\":1,\"fields\":{\"Seq\":1,\"Px\":1,\"Sym\":\"",
-            ),
-            (65_528, b"a"),
-            (1, b"\"}}"),
-        ],
-        out: &[],
-        said: "refused Limit line=1 template=0 instruction=0\n",
-    },
-];
+    WRITE_PACKETS, &[(1, b"{\"packet\":1,\"id\":1,\"fields\":{\"Seq\":1,\"Px\":1,\"Sym\":\""), (65_525, b"a"),
+        (1, b"\"}}\n{\"packet\":1,\"id\":9,\"fields\":{}}\n")],
+        &[(1, b"\x03\x7f\xff\xf0\x81\x81"), (65_524, b"a"), (1, b"\xe1\x80\x81\x80\x80\x80\xc0\x89")], "";
+    WRITE_PACKETS, &[(1, b"{\"packet\":1,\"id\":1,\"fields\":{\"Seq\":1,\"Px\":1,\"Sym\":\""), (65_525, b"a"),
+        (1, b"\"}}\n{\"packet\":1,\"id\":9,\"fields\":{}}\n{\"packet\":1,\"id\":9,\"fields\":{}}\n")],
+        &[(1, b"\x03\x7f\xff\xf0\x81\x81"), (65_524, b"a"), (1, b"\xe1\x80\x81\x80\x80\x80\xc0\x89")],
+        "refused Limit line=3 template=0 instruction=0\n";
+    WRITE_PACKETS,
+        &[(1, b"{\"packet\":1,\"id\":1,\"fields\":{\"Seq\":1,\"Px\":1,\"Sym\":\""), (65_528, b"a"), (1, b"\"}}")], &[],
+        "refused Limit line=1 template=0 instruction=0\n";
+};
 
 #[test]
-fn long_texts_at_each_limit(rt: HostRuntime) -> Result<(), AllocError> {
+fn long_texts_at_each_limit(rt: HostRuntime) -> Tried {
     for row in LARGE {
         large_is_served(&rt, rt.alloc(), row)?;
     }

@@ -9,11 +9,12 @@ use crate::serving::granted::granted;
 use crate::serving::strict::QUOTES;
 use fast_io::Counted;
 use fast_serve::serve::{TURNS, serve, serve_words};
-use std::alloc::{AllocError, Global};
+use std::alloc::Global;
 use std::io;
 use std::process::Abort;
 use std::str::from_utf8;
 use template_tests::texts::{BARE, WORKED};
+use test_rows::{Tried, rows, words};
 
 // The template of the streams, as examples/worked.json has it.
 const FIRST: &str = r#"{"templates":[{"name":"First","id":16,"instructions":[
@@ -38,14 +39,8 @@ const CANON_HEX: &[&str] = &["fastcat", "canon", "--hex", "--templates", TEMPLAT
 
 const EXPLAINED: &[&str] = &["fastcat", "canon", "--explain", "--templates", TEMPLATES];
 
-const EXPLAINED_HEX: &[&str] = &[
-    "fastcat",
-    "canon",
-    "--hex",
-    "--explain",
-    "--templates",
-    TEMPLATES,
-];
+const EXPLAINED_HEX: &[&str] =
+    words! { "fastcat", "canon", "--hex", "--explain", "--templates", TEMPLATES };
 
 const TWO: &[u8] = b"\xe0\x90\x85\x86\xe0\x90\x87\x86";
 
@@ -152,7 +147,7 @@ pub struct Ended {
 }
 
 /// Nothing yet, with room for all that a case writes or says, so that no writer of a test has to grow.
-pub fn nothing(alloc: Global) -> Result<Ended, AllocError> {
+pub fn nothing(alloc: Global) -> Tried<Ended> {
     Ok(Ended {
         status: 0,
         out: Vec::with_capacity(alloc, 4096)?,
@@ -177,7 +172,7 @@ pub fn serve_case(alloc: Global, case: &Case, ended: &mut Ended) {
 }
 
 /// A case is answered as it is to be, and its output is flushed once where it is read to its end.
-fn is_answered(rt: &impl Abort, case: &Case, ended: &Ended) -> Result<(), AllocError> {
+fn is_answered(rt: &impl Abort, case: &Case, ended: &Ended) -> Tried {
     granted(rt, case, ended)?;
     same_of(rt, case.words, ended.err.as_slice(), case.err.as_bytes());
     same_of(rt, case.words, ended.out.as_slice(), case.out);
@@ -189,7 +184,7 @@ fn is_answered(rt: &impl Abort, case: &Case, ended: &Ended) -> Result<(), AllocE
 }
 
 /// Serves a case, which is answered as it is to be; and what is canonicalised is written back.
-pub fn served(rt: &impl Abort, alloc: Global, case: &Case) -> Result<(), AllocError> {
+pub fn served(rt: &impl Abort, alloc: Global, case: &Case) -> Tried {
     let mut ended = nothing(alloc)?;
     serve_case(alloc, case, &mut ended);
     is_answered(rt, case, &ended)?;
@@ -197,7 +192,7 @@ pub fn served(rt: &impl Abort, alloc: Global, case: &Case) -> Result<(), AllocEr
 }
 
 /// Serves cases.
-pub fn cases_are_served(rt: &impl Abort, alloc: Global, cases: &[Case]) -> Result<(), AllocError> {
+pub fn cases_are_served(rt: &impl Abort, alloc: Global, cases: &[Case]) -> Tried {
     for case in cases {
         served(rt, alloc, case)?;
     }
@@ -205,7 +200,7 @@ pub fn cases_are_served(rt: &impl Abort, alloc: Global, cases: &[Case]) -> Resul
 }
 
 /// Serves cases, whole and from reads of each size up to their input's.
-pub fn rows_are_served(rt: &impl Abort, alloc: Global, rows: &[Case]) -> Result<(), AllocError> {
+pub fn rows_are_served(rt: &impl Abort, alloc: Global, rows: &[Case]) -> Tried {
     for row in rows {
         served(rt, alloc, row)?;
         let mut narrow = *row;
@@ -218,208 +213,57 @@ pub fn rows_are_served(rt: &impl Abort, alloc: Global, rows: &[Case]) -> Result<
 }
 
 #[test]
-fn streams_are_served(rt: HostRuntime) -> Result<(), AllocError> {
-    const ROWS: &[Case] = &[
-        Case {
-            words: SHOW,
-            input: TWO,
-            out: TWO_LINES,
-            ..CASE
-        },
-        Case {
-            words: CHECK,
-            input: TWO,
-            out: TWO_COUNTED,
-            ..CASE
-        },
-        Case {
-            input: TWO,
-            out: b"\xe0\x90\x85\x86\x80\x87",
-            ..CASE
-        },
-        Case {
-            words: SHOW,
-            ..CASE
-        },
-        Case {
-            words: CHECK,
-            out: b"ok messages=0 bytes=0 canonical=0\n",
-            ..CASE
-        },
-        Case { ..CASE },
-        Case {
-            words: &["fastcat", "show", STREAM, "--templates", TEMPLATES],
-            stream: TWO,
-            out: TWO_LINES,
-            ..CASE
-        },
-        Case {
-            words: &["fastcat", "show", "-", "--templates", TEMPLATES],
-            input: TWO,
-            out: TWO_LINES,
-            ..CASE
-        },
-        Case {
-            words: &["fastcat", "show", STREAM, "--templates", "-"],
-            input: FIRST_BYTES,
-            stream: TWO,
-            out: TWO_LINES,
-            ..CASE
-        },
-        Case {
-            words: SHOW,
-            input: b"\x80",
-            status: 1,
-            err: "refused D5 message=1 offset=1 template=0 instruction=0\n",
-            ..CASE
-        },
-        Case {
-            words: CHECK,
-            input: b"\x80",
-            status: 1,
-            err: "refused D5 message=1 offset=1 template=0 instruction=0\n",
-            ..CASE
-        },
-        Case {
-            input: b"\x80",
-            status: 1,
-            err: "refused D5 message=1 offset=1 template=0 instruction=0\n",
-            ..CASE
-        },
-        Case {
-            words: CHECK,
-            input: b"\xe0\x90\x85\x86\x80",
-            status: 1,
-            err: "refused Truncated message=2 offset=5 template=16 instruction=1\n",
-            ..CASE
-        },
-        Case {
-            words: SHOW,
-            input: b"\xe0\x90\x85\x86\xc0\xe4",
-            status: 1,
-            out: b"16 First A=5 B=6\n",
-            err: "refused D9 message=2 offset=5 template=0 instruction=0\n",
-            ..CASE
-        },
-    ];
+fn streams_are_served(rt: HostRuntime) -> Tried {
+    const ROWS: &[Case] = rows! { Case { .. }:
+        CASE, words: SHOW, input: TWO, out: TWO_LINES;
+        CASE, words: CHECK, input: TWO, out: TWO_COUNTED;
+        CASE, input: TWO, out: b"\xe0\x90\x85\x86\x80\x87";
+        CASE, words: SHOW;
+        CASE, words: CHECK, out: b"ok messages=0 bytes=0 canonical=0\n";
+        CASE;
+        CASE, words: &["fastcat", "show", STREAM, "--templates", TEMPLATES], stream: TWO, out: TWO_LINES;
+        CASE, words: &["fastcat", "show", "-", "--templates", TEMPLATES], input: TWO, out: TWO_LINES;
+        CASE, words: &["fastcat", "show", STREAM, "--templates", "-"], input: FIRST_BYTES, stream: TWO, out: TWO_LINES;
+        CASE, words: SHOW, input: b"\x80", status: 1, err: "refused D5 message=1 offset=1 template=0 instruction=0\n";
+        CASE, words: CHECK, input: b"\x80", status: 1, err: "refused D5 message=1 offset=1 template=0 instruction=0\n";
+        CASE, input: b"\x80", status: 1, err: "refused D5 message=1 offset=1 template=0 instruction=0\n";
+        CASE, words: CHECK, input: b"\xe0\x90\x85\x86\x80", status: 1,
+            err: "refused Truncated message=2 offset=5 template=16 instruction=1\n";
+        CASE, words: SHOW, input: b"\xe0\x90\x85\x86\xc0\xe4", status: 1, out: b"16 First A=5 B=6\n",
+            err: "refused D9 message=2 offset=5 template=0 instruction=0\n";
+    };
     rows_are_served(&rt, rt.alloc(), ROWS)
 }
 
 #[test]
-fn hex_texts_are_served(rt: HostRuntime) -> Result<(), AllocError> {
-    const ROWS: &[Case] = &[
-        Case {
-            words: CANON_HEX,
-            input: b"e0908586e0908786\n",
-            out: b"e09085868087\n",
-            ..CASE
-        },
-        Case {
-            words: CANON_HEX,
-            input: b"E0 90\t85 86\r\ne0 9\n0 87 8 6 ",
-            out: b"e09085868087\n",
-            ..CASE
-        },
-        Case {
-            words: CANON_HEX,
-            out: b"\n",
-            ..CASE
-        },
-        Case {
-            words: SHOW_HEX,
-            input: b"e0908586e0908786",
-            out: TWO_LINES,
-            ..CASE
-        },
-        Case {
-            words: SHOW_HEX,
-            input: b"\n",
-            ..CASE
-        },
-        Case {
-            words: CHECK_HEX,
-            input: b"e0908586e0908786",
-            out: TWO_COUNTED,
-            ..CASE
-        },
-        Case {
-            words: CANON_HEX,
-            input: b"e0908586 e0901000000080",
-            status: 1,
-            out: b"e0908586\n",
-            err: "refused D2 message=2 offset=6 template=16 instruction=1\n",
-            ..CASE
-        },
-        Case {
-            words: CANON_HEX,
-            input: b"e09000000000000000000000",
-            status: 1,
-            out: b"\n",
-            err: "refused Limit message=1 offset=2 template=16 instruction=1\n",
-            ..CASE
-        },
-        Case {
-            words: SHOW_HEX,
-            input: b"e090",
-            status: 1,
-            err: "refused Truncated message=1 offset=2 template=16 instruction=1\n",
-            ..CASE
-        },
-        Case {
-            words: CANON_HEX,
-            input: b"e0908586",
-            out: b"e0908586\n",
-            ..CASE
-        },
-        Case {
-            words: CANON_HEX,
-            input: b"80",
-            status: 1,
-            out: b"\n",
-            err: "refused D5 message=1 offset=1 template=0 instruction=0\n",
-            ..CASE
-        },
-        Case {
-            words: CANON_HEX,
-            input: b"zz",
-            status: 2,
-            err: "input is not hex\n",
-            ..CASE
-        },
-        Case {
-            words: CANON_HEX,
-            input: b"e09",
-            status: 2,
-            err: "input is not hex\n",
-            ..CASE
-        },
-        Case {
-            words: CANON_HEX,
-            input: b"0xe0",
-            status: 2,
-            err: "input is not hex\n",
-            ..CASE
-        },
-        Case {
-            words: CANON_HEX,
-            input: b"e0\x0b",
-            status: 2,
-            err: "input is not hex\n",
-            ..CASE
-        },
-        Case {
-            words: CANON_HEX,
-            input: b"e0\x0c90",
-            status: 2,
-            err: "input is not hex\n",
-            ..CASE
-        },
-    ];
+fn hex_texts_are_served(rt: HostRuntime) -> Tried {
+    const ROWS: &[Case] = rows! { Case { .. }:
+        CASE, words: CANON_HEX, input: b"e0908586e0908786\n", out: b"e09085868087\n";
+        CASE, words: CANON_HEX, input: b"E0 90\t85 86\r\ne0 9\n0 87 8 6 ", out: b"e09085868087\n";
+        CASE, words: CANON_HEX, out: b"\n";
+        CASE, words: SHOW_HEX, input: b"e0908586e0908786", out: TWO_LINES;
+        CASE, words: SHOW_HEX, input: b"\n";
+        CASE, words: CHECK_HEX, input: b"e0908586e0908786", out: TWO_COUNTED;
+        CASE, words: CANON_HEX, input: b"e0908586 e0901000000080", status: 1, out: b"e0908586\n",
+            err: "refused D2 message=2 offset=6 template=16 instruction=1\n";
+        CASE, words: CANON_HEX, input: b"e09000000000000000000000", status: 1, out: b"\n",
+            err: "refused Limit message=1 offset=2 template=16 instruction=1\n";
+        CASE, words: SHOW_HEX, input: b"e090", status: 1,
+            err: "refused Truncated message=1 offset=2 template=16 instruction=1\n";
+        CASE, words: CANON_HEX, input: b"e0908586", out: b"e0908586\n";
+        CASE, words: CANON_HEX, input: b"80", status: 1, out: b"\n",
+            err: "refused D5 message=1 offset=1 template=0 instruction=0\n";
+        CASE, words: CANON_HEX, input: b"zz", status: 2, err: "input is not hex\n";
+        CASE, words: CANON_HEX, input: b"e09", status: 2, err: "input is not hex\n";
+        CASE, words: CANON_HEX, input: b"0xe0", status: 2, err: "input is not hex\n";
+        CASE, words: CANON_HEX, input: b"e0\x0b", status: 2, err: "input is not hex\n";
+        CASE, words: CANON_HEX, input: b"e0\x0c90", status: 2, err: "input is not hex\n";
+    };
     rows_are_served(&rt, rt.alloc(), ROWS)
 }
 
 // A line is not taken: the help is said, or what is wrong with the line.
-fn is_not_taken(rt: &impl Abort, case: &Case, ended: &Ended) -> Result<(), AllocError> {
+fn is_not_taken(rt: &impl Abort, case: &Case, ended: &Ended) -> Tried {
     granted(rt, case, ended)?;
     same_of(rt, case.words, ended.status, 2);
     same_of(rt, case.words, ended.out.is_empty(), true);
@@ -427,7 +271,7 @@ fn is_not_taken(rt: &impl Abort, case: &Case, ended: &Ended) -> Result<(), Alloc
     Ok(())
 }
 
-fn not_taken(rt: &impl Abort, alloc: Global, words: &[&str]) -> Result<(), AllocError> {
+fn not_taken(rt: &impl Abort, alloc: Global, words: &[&str]) -> Tried {
     let case = Case { words, ..CASE };
     let mut ended = nothing(alloc)?;
     serve_case(alloc, &case, &mut ended);
@@ -435,38 +279,17 @@ fn not_taken(rt: &impl Abort, alloc: Global, words: &[&str]) -> Result<(), Alloc
 }
 
 #[test]
-fn command_lines(rt: HostRuntime) -> Result<(), AllocError> {
+fn command_lines(rt: HostRuntime) -> Tried {
     const LINES: &[&[&str]] = &[
         &[],
         &["fastcat"],
         &["fastcat", "show"],
         &["fastcat", "list", "--templates", TEMPLATES],
         &["fastcat", "canon", "--templates"],
-        &[
-            "fastcat",
-            "show",
-            "--packets",
-            "--blocks",
-            "--templates",
-            TEMPLATES,
-        ],
+        words! { "fastcat", "show", "--packets", "--blocks", "--templates", TEMPLATES },
         &["fastcat", "show", "--keep-going", "--templates", TEMPLATES],
-        &[
-            "fastcat",
-            "write",
-            "--packets",
-            "--keep-going",
-            "--templates",
-            TEMPLATES,
-        ],
-        &[
-            "fastcat",
-            "canon",
-            "--packets",
-            "--keep-going",
-            "--templates",
-            TEMPLATES,
-        ],
+        words! { "fastcat", "write", "--packets", "--keep-going", "--templates", TEMPLATES },
+        words! { "fastcat", "canon", "--packets", "--keep-going", "--templates", TEMPLATES },
         &["fastcat", "canon", STREAM, STREAM, "--templates", TEMPLATES],
         &["fastcat", "canon", "--Hex", "--templates", TEMPLATES],
         &["fastcat", "canon", "--templates", "-"],
@@ -481,7 +304,7 @@ fn command_lines(rt: HostRuntime) -> Result<(), AllocError> {
 }
 
 #[test]
-fn templates_and_inputs_that_fail(rt: HostRuntime) -> Result<(), AllocError> {
+fn templates_and_inputs_that_fail(rt: HostRuntime) -> Tried {
     const TEXT: &str = r#"{"templates":[{"name":"T","id":1,"instructions":[
         {"kind":"string","name":"A","operator":"increment"}]}]}"#;
     const MISSING: &[&str] = &["fastcat", "canon", "none", "--templates", TEMPLATES];
@@ -492,131 +315,35 @@ fn templates_and_inputs_that_fail(rt: HostRuntime) -> Result<(), AllocError> {
         status: 3,
         ..CASE
     };
-    const ROWS: &[Case] = &[
+    const ROWS: &[Case] = rows! { Case { .. }:
         // templates come first
-        Case {
-            words: CANON_HEX,
-            templates: Templates::Text(TEXT),
-            input: b"zz",
-            status: 2,
-            err: "templates refused S2 template=1 instruction=1\n",
-            ..FAILED
-        },
-        Case {
-            words: MISSING,
-            templates: Templates::Text(TEXT),
-            input: b"zz",
-            status: 2,
-            err: "templates refused S2 template=1 instruction=1\n",
-            ..FAILED
-        },
-        Case {
-            templates: Templates::Text("{\"templates\":["),
-            input: b"zz",
-            status: 2,
-            err: "templates refused S1 template=0 instruction=0\n",
-            ..FAILED
-        },
-        Case {
-            templates: Templates::Text("{"),
-            templates_end: After::Error,
-            input: b"zz",
-            err: "fault read\n",
-            ..FAILED
-        },
-        Case {
-            templates: Templates::Text("{"),
-            templates_end: After::Error,
-            input: b"zz",
-            turns: 1,
-            err: "fault turns\n",
-            ..FAILED
-        },
+        FAILED, words: CANON_HEX, templates: Templates::Text(TEXT), input: b"zz", status: 2,
+            err: "templates refused S2 template=1 instruction=1\n";
+        FAILED, words: MISSING, templates: Templates::Text(TEXT), input: b"zz", status: 2,
+            err: "templates refused S2 template=1 instruction=1\n";
+        FAILED, templates: Templates::Text("{\"templates\":["), input: b"zz", status: 2,
+            err: "templates refused S1 template=0 instruction=0\n";
+        FAILED, templates: Templates::Text("{"), templates_end: After::Error, input: b"zz", err: "fault read\n";
+        FAILED, templates: Templates::Text("{"), templates_end: After::Error, input: b"zz", turns: 1,
+            err: "fault turns\n";
         // files that are not there
-        Case {
-            words: &["fastcat", "canon", "--templates", "none", "--hex"],
-            input: TWO,
-            err: "fault open\n",
-            ..FAILED
-        },
-        Case {
-            words: &["fastcat", "show", "none", "--templates", TEMPLATES],
-            input: TWO,
-            err: "fault open\n",
-            ..FAILED
-        },
+        FAILED, words: &["fastcat", "canon", "--templates", "none", "--hex"], input: TWO, err: "fault open\n";
+        FAILED, words: &["fastcat", "show", "none", "--templates", TEMPLATES], input: TWO, err: "fault open\n";
         // a reader that fails, or has no end within the reads
-        Case {
-            input: ONE,
-            width: 1,
-            input_end: After::Error,
-            out: ONE,
-            err: "fault read\n",
-            ..FAILED
-        },
-        Case {
-            words: SHOW,
-            input: ONE,
-            width: 1,
-            input_end: After::Error,
-            out: LINE,
-            err: "fault read\n",
-            ..FAILED
-        },
-        Case {
-            words: CHECK,
-            input: ONE,
-            width: 1,
-            input_end: After::Error,
-            err: "fault read\n",
-            ..FAILED
-        },
-        Case {
-            input: ONE,
-            width: 1,
-            turns: 4,
-            out: ONE,
-            err: "fault turns\n",
-            ..FAILED
-        },
-        Case {
-            words: CHECK,
-            input: ONE,
-            width: 1,
-            turns: 4,
-            err: "fault turns\n",
-            ..FAILED
-        },
-        Case {
-            words: CANON_HEX,
-            input: b"e0908586",
-            width: 1,
-            input_end: After::Error,
-            err: "fault read\n",
-            ..FAILED
-        },
-        Case {
-            words: CANON_HEX,
-            input: b"e0908586",
-            width: 1,
-            turns: 8,
-            err: "fault turns\n",
-            ..FAILED
-        },
-        Case {
-            words: SHOW_HEX,
-            input: b"zz",
-            width: 1,
-            turns: 2,
-            err: "fault turns\n",
-            ..FAILED
-        },
-    ];
+        FAILED, input: ONE, width: 1, input_end: After::Error, out: ONE, err: "fault read\n";
+        FAILED, words: SHOW, input: ONE, width: 1, input_end: After::Error, out: LINE, err: "fault read\n";
+        FAILED, words: CHECK, input: ONE, width: 1, input_end: After::Error, err: "fault read\n";
+        FAILED, input: ONE, width: 1, turns: 4, out: ONE, err: "fault turns\n";
+        FAILED, words: CHECK, input: ONE, width: 1, turns: 4, err: "fault turns\n";
+        FAILED, words: CANON_HEX, input: b"e0908586", width: 1, input_end: After::Error, err: "fault read\n";
+        FAILED, words: CANON_HEX, input: b"e0908586", width: 1, turns: 8, err: "fault turns\n";
+        FAILED, words: SHOW_HEX, input: b"zz", width: 1, turns: 2, err: "fault turns\n";
+    };
     cases_are_served(&rt, rt.alloc(), ROWS)
 }
 
 #[test]
-fn failing_outputs(rt: HostRuntime) -> Result<(), AllocError> {
+fn failing_outputs(rt: HostRuntime) -> Tried {
     const FAILED: Case = Case {
         input: TWO,
         turns: 9,
@@ -636,68 +363,20 @@ fn failing_outputs(rt: HostRuntime) -> Result<(), AllocError> {
         err_room: (0, Full::Error),
         ..CASE
     };
-    const ROWS: &[Case] = &[
-        Case {
-            room: (3, Full::Error),
-            out: b"\xe0\x90\x85",
-            ..FAILED
-        },
-        Case {
-            words: SHOW,
-            room: (2, Full::Nothing),
-            out: b"16",
-            ..FAILED
-        },
-        Case {
-            words: CHECK,
-            room: (7, Full::Nothing),
-            out: b"ok mess",
-            ..FAILED
-        },
-        Case {
-            room: (8, Full::Nothing),
-            out: b"e0908586",
-            ..HEX
-        },
-        Case {
-            room: (9, Full::Flush),
-            out: b"e0908586\n",
-            ..HEX
-        },
-        Case {
-            words: CHECK,
-            input: b"",
-            room: (34, Full::Flush),
-            out: b"ok messages=0 bytes=0 canonical=0\n",
-            ..FAILED
-        },
+    const ROWS: &[Case] = rows! { Case { .. }:
+        FAILED, room: (3, Full::Error), out: b"\xe0\x90\x85";
+        FAILED, words: SHOW, room: (2, Full::Nothing), out: b"16";
+        FAILED, words: CHECK, room: (7, Full::Nothing), out: b"ok mess";
+        HEX, room: (8, Full::Nothing), out: b"e0908586";
+        HEX, room: (9, Full::Flush), out: b"e0908586\n";
+        FAILED, words: CHECK, input: b"", room: (34, Full::Flush), out: b"ok messages=0 bytes=0 canonical=0\n";
         // the line feed of a refused stream does not go through
-        Case {
-            input: b"80",
-            room: (0, Full::Error),
-            ..HEX
-        },
-        Case {
-            turns: 2,
-            status: 1,
-            ..SILENT
-        },
-        Case {
-            words: CANON_HEX,
-            status: 2,
-            ..SILENT
-        },
-        Case {
-            words: &["fastcat"],
-            status: 2,
-            ..SILENT
-        },
-        Case {
-            turns: 0,
-            status: 3,
-            ..SILENT
-        },
-    ];
+        HEX, input: b"80", room: (0, Full::Error);
+        SILENT, turns: 2, status: 1;
+        SILENT, words: CANON_HEX, status: 2;
+        SILENT, words: &["fastcat"], status: 2;
+        SILENT, turns: 0, status: 3;
+    };
     cases_are_served(&rt, rt.alloc(), ROWS)
 }
 
@@ -721,14 +400,14 @@ fn words_are_served(
     alloc: Global,
     words: io::Result<Vec<String>>,
     case: &Case,
-) -> Result<(), AllocError> {
+) -> Tried {
     let mut ended = nothing(alloc)?;
     serve_process(alloc, words, case, &mut ended);
     is_answered(rt, case, &ended)
 }
 
 // The words of a process.
-fn owned(alloc: Global, words: &[&str]) -> Result<Vec<String>, AllocError> {
+fn owned(alloc: Global, words: &[&str]) -> Tried<Vec<String>> {
     let mut list = Vec::new(alloc);
     for word in words {
         list.push(String::from_str(alloc, word)?)?;
@@ -741,7 +420,7 @@ fn words_of(
     alloc: Global,
     words: &[&str],
     error: Option<io::ErrorKind>,
-) -> Result<io::Result<Vec<String>>, AllocError> {
+) -> Tried<io::Result<Vec<String>>> {
     match error {
         Some(kind) => Ok(Err(io::Error::from(kind))),
         None => Ok(Ok(owned(alloc, words)?)),
@@ -749,35 +428,12 @@ fn words_of(
 }
 
 #[test]
-fn process_words(rt: HostRuntime) -> Result<(), AllocError> {
-    const ROWS: &[(Option<io::ErrorKind>, Case)] = &[
-        (
-            None,
-            Case {
-                input: TWO,
-                out: b"\xe0\x90\x85\x86\x80\x87",
-                ..CASE
-            },
-        ),
-        (
-            Some(io::ErrorKind::InvalidData),
-            Case {
-                words: &[],
-                status: 2,
-                err: "command line is not UTF-8\n",
-                ..CASE
-            },
-        ),
-        (
-            Some(io::ErrorKind::OutOfMemory),
-            Case {
-                words: &[],
-                status: 3,
-                err: "fault memory\n",
-                ..CASE
-            },
-        ),
-    ];
+fn process_words(rt: HostRuntime) -> Tried {
+    const ROWS: &[(Option<io::ErrorKind>, Case)] = rows! {
+        None, Case { input: TWO, out: b"\xe0\x90\x85\x86\x80\x87", ..CASE };
+        Some(io::ErrorKind::InvalidData), Case { words: &[], status: 2, err: "command line is not UTF-8\n", ..CASE };
+        Some(io::ErrorKind::OutOfMemory), Case { words: &[], status: 3, err: "fault memory\n", ..CASE };
+    };
     same_of(&rt, &[], TURNS, 1_099_511_627_776);
     for (error, case) in ROWS {
         let words = words_of(rt.alloc(), case.words, *error)?;
@@ -787,7 +443,7 @@ fn process_words(rt: HostRuntime) -> Result<(), AllocError> {
 }
 
 // So many blanks.
-fn blanks(alloc: Global, count: usize) -> Result<Vec<u8>, AllocError> {
+fn blanks(alloc: Global, count: usize) -> Tried<Vec<u8>> {
     let mut text = Vec::new(alloc);
     text.resize(count, b' ')?;
     Ok(text)
@@ -800,7 +456,7 @@ fn long_text(
     count: usize,
     is_templates: bool,
     case: &Case,
-) -> Result<(), AllocError> {
+) -> Tried {
     let text = blanks(alloc, count)?;
     let case = if is_templates {
         let templates = Templates::Text(from_utf8(&text).unwrap_or(""));
@@ -815,44 +471,20 @@ fn long_text(
 }
 
 #[test]
-fn long_texts(rt: HostRuntime) -> Result<(), AllocError> {
+fn long_texts(rt: HostRuntime) -> Tried {
     const LONG: Case = Case {
         words: EXPLAINED_HEX,
         turns: 1 << 20,
         status: 2,
         ..CASE
     };
-    const ROWS: &[(usize, bool, Case)] = &[
-        (
-            16_777_216,
-            false,
-            Case {
-                status: 0,
-                out: b"\n",
-                ..LONG
-            },
-        ),
-        (
-            16_777_217,
-            false,
-            Case {
-                err: "input too long\n\
-                    explain: the standard input has more than 16777216 bytes; give the stream's own bytes, without --hex\n",
-                ..LONG
-            },
-        ),
-        (
-            16_777_217,
-            true,
-            Case {
-                words: EXPLAINED,
-                input: b"zz",
-                err: "templates too long\n\
-                    explain: the templates' file \"templates.json\" has more than 16777216 bytes; leave out templates that the stream does not need\n",
-                ..LONG
-            },
-        ),
-    ];
+    const ROWS: &[(usize, bool, Case)] = rows! {
+        16_777_216, false, Case { status: 0, out: b"\n", ..LONG };
+        16_777_217, false, Case { input_end: After::Error, err: "input too long\n\
+                    explain: the standard input has more than 16777216 bytes; give the stream's own bytes, without --hex\n", ..LONG };
+        16_777_217, true, Case { words: EXPLAINED, templates_end: After::Error, input: b"zz", err: "templates too long\n\
+                    explain: the templates' file \"templates.json\" has more than 16777216 bytes; leave out templates that the stream does not need\n", ..LONG };
+    };
     for (count, is_templates, case) in ROWS {
         long_text(&rt, rt.alloc(), *count, *is_templates, case)?;
     }

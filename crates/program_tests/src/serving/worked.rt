@@ -3,8 +3,9 @@
 
 use crate::serving::devices::{After, Feed, Full, TEMPLATES, whole};
 use crate::serving::programs::{CASE, Case, Templates, cases_are_served, served};
-use std::alloc::{AllocError, Global};
+use std::alloc::Global;
 use std::process::Abort;
+use test_rows::{Tried, rows};
 
 /// The line of each command in a mode.
 #[derive(Clone, Copy)]
@@ -70,7 +71,7 @@ fn is_served<'a>(
     standard: Feed<'a>,
     out: &'a [u8],
     made: Made<'a>,
-) -> Result<(), AllocError> {
+) -> Tried {
     let case = Case {
         words,
         templates: Templates::Worked,
@@ -92,7 +93,7 @@ fn each_serves(
     words: &Lines,
     standard: Feed<'_>,
     made: Made<'_>,
-) -> Result<(), AllocError> {
+) -> Tried {
     is_served(rt, alloc, words.show, standard, made.lines, made)?;
     is_served(rt, alloc, words.check, standard, made.told, made)?;
     is_served(rt, alloc, words.canon, standard, made.canonical, made)
@@ -107,7 +108,7 @@ struct Stream {
     said: &'static str,
 }
 
-fn stream_is_served(rt: &impl Abort, alloc: Global, row: &Stream) -> Result<(), AllocError> {
+fn stream_is_served(rt: &impl Abort, alloc: Global, row: &Stream) -> Tried {
     let made = Made {
         lines: row.lines.as_bytes(),
         told: row.told.as_bytes(),
@@ -125,149 +126,54 @@ fn stream_is_served(rt: &impl Abort, alloc: Global, row: &Stream) -> Result<(), 
 }
 
 #[test]
-fn worked_streams(rt: HostRuntime) -> Result<(), AllocError> {
-    const ROWS: &[Stream] = &[
-        Stream {
-            input: b"\xf0\x81\x81\x41\xc2\xfe\x00\xe4\xf8\x81\x82\x41\xc2\x80\x81\x80",
-            lines: "1 Quote Seq=1 Sym=\"AB\" Px=100e-2 Qty=-\n1 Quote Seq=2 Sym=\"AB\" Px=101e-2 Qty=-\n",
-            told: "ok messages=2 bytes=16 canonical=11\n",
-            canonical: b"\xf0\x81\x81\x41\xc2\xfe\x00\xe4\x80\x80\x81",
-            said: "",
-        },
-        Stream {
-            input: b"\xf0\x81\x00\x00\x81\x41\xc2\xfe\x00\xe4",
-            lines: "1 Quote Seq=1 Sym=\"AB\" Px=100e-2 Qty=-\n",
-            told: "ok messages=1 bytes=10 canonical=8\n",
-            canonical: b"\xf0\x81\x81\x41\xc2\xfe\x00\xe4",
-            said: "",
-        },
-        Stream {
-            input: b"\x70\x00\x80\x81\x81\x41\xc2\xfe\x00\xe4",
-            lines: "1 Quote Seq=1 Sym=\"AB\" Px=100e-2 Qty=-\n",
-            told: "ok messages=1 bytes=10 canonical=8\n",
-            canonical: b"\xf0\x81\x81\x41\xc2\xfe\x00\xe4",
-            said: "",
-        },
-        Stream {
-            input: b"\xf1\x81\x81\x41\xc2\xfe\x00\xe4",
-            lines: "1 Quote Seq=1 Sym=\"AB\" Px=100e-2 Qty=-\n",
-            told: "ok messages=1 bytes=8 canonical=8\n",
-            canonical: b"\xf0\x81\x81\x41\xc2\xfe\x00\xe4",
-            said: "",
-        },
-        Stream {
-            input: b"\xc0\x8a\x80\x47\x45\x48\xb6\x80\x82\x4d\xb6\x80\xfd\x45\xd3\x80\xff\x80",
-            lines: "10 Delta S=\"GEH6\"\n10 Delta S=\"GEM6\"\n10 Delta S=\"ESM6\"\n10 Delta S=\"ESM6\"\n",
-            told: "ok messages=4 bytes=18 canonical=18\n",
-            canonical: b"\xc0\x8a\x80\x47\x45\x48\xb6\x80\x82\x4d\xb6\x80\xfd\x45\xd3\x80\x80\x80",
-            said: "",
-        },
-        Stream {
-            input: b"\xc0\x8a\x80\x47\x45\x48\xb6\x80\x82\x4d\xb6\x80\xfd\x45\xd3\x80\x85\x80",
-            lines: "10 Delta S=\"GEH6\"\n10 Delta S=\"GEM6\"\n10 Delta S=\"ESM6\"\n",
-            told: "",
-            canonical: b"\xc0\x8a\x80\x47\x45\x48\xb6\x80\x82\x4d\xb6\x80\xfd\x45\xd3",
-            said: "refused D7 message=4 offset=16 template=10 instruction=1\n",
-        },
-        Stream {
-            input: b"\xe0\x88\x78\x61\xe2\xa0\x00\x00\x00\xe2",
-            lines: "8 Tail S=\"xab\"\n8 Tail S=\"x\\x00b\"\n",
-            told: "ok messages=2 bytes=10 canonical=9\n",
-            canonical: b"\xe0\x88\x78\x61\xe2\xa0\x78\x00\xe2",
-            said: "",
-        },
-        Stream {
-            input: b"\xe0\x89\x80\xa0\x00\x80",
-            lines: "9 Init S=-\n9 Init S=\"ab\"\n",
-            told: "ok messages=2 bytes=6 canonical=5\n",
-            canonical: b"\xe0\x89\x80\xa0\xe2",
-            said: "",
-        },
-        Stream {
-            input: b"\xe0\x82\x0f\x7f\x7f\x7f\xff\x0f\x7f\x7f\x7f\xff\x80\x80\x80\x81",
-            lines: "2 Wrap A=4294967295 B=4294967295\n2 Wrap A=0 B=4294967295\n",
-            told: "",
-            canonical: b"\xe0\x82\x0f\x7f\x7f\x7f\xff\x0f\x7f\x7f\x7f\xff\x80\x80",
-            said: "refused D2 message=3 offset=15 template=2 instruction=2\n",
-        },
-        Stream {
-            input: b"\xf0\x83\x80\x85\x90\x39\x45\xa3",
-            lines: "3 Opt Px=- Flag=5\n3 Opt Px=942755e2 Flag=5\n",
-            told: "ok messages=2 bytes=8 canonical=8\n",
-            canonical: b"\xf0\x83\x80\x85\x90\x39\x45\xa3",
-            said: "",
-        },
-        Stream {
-            input: b"\xf0\x83\x80\x85\xb0\x83\x39\x45\xa3",
-            lines: "3 Opt Px=- Flag=5\n3 Opt Px=942755e2 Flag=5\n",
-            told: "ok messages=2 bytes=9 canonical=8\n",
-            canonical: b"\xf0\x83\x80\x85\x90\x39\x45\xa3",
-            said: "",
-        },
-        Stream {
-            input: b"\xc0\x84\x04\x00\x81",
-            lines: "",
-            told: "",
-            canonical: b"",
-            said: "refused Limit message=1 offset=2 template=4 instruction=1\n",
-        },
-        Stream {
-            input: b"\xf0\x87\x85\xc1\x80",
-            lines: "7 Clash A=5 B=\"A\"\n",
-            told: "",
-            canonical: b"\xf0\x87\x85\xc1",
-            said: "refused D4 message=2 offset=5 template=7 instruction=1\n",
-        },
-        Stream {
-            input: b"\xf0\x87\x85\xc1\xb0\x86\xc1",
-            lines: "7 Clash A=5 B=\"A\"\n7 Clash A=6 B=\"A\"\n",
-            told: "ok messages=2 bytes=7 canonical=7\n",
-            canonical: b"\xf0\x87\x85\xc1\xb0\x86\xc1",
-            said: "",
-        },
-        Stream {
-            input: b"\xe0\x8c\x82\xc3\xa9\xa0\x81\xa8\xa0\x81\x41",
-            lines: "12 Uni S=\"\\xc3\\xa9\"\n12 Uni S=\"\\xc3\\xa8\"\n",
-            told: "",
-            canonical: b"\xe0\x8c\x82\xc3\xa9\xa0\x81\xa8",
-            said: "refused R2 message=3 offset=9 template=12 instruction=1\n",
-        },
-        Stream {
-            input: b"\xc0\x8d\x85",
-            lines: "",
-            told: "",
-            canonical: b"",
-            said: "refused D6 message=1 offset=2 template=13 instruction=2\n",
-        },
-        Stream {
-            input: b"\xe0\x8e\x80\x90\x83\x90\x10\x00\x00\x00\x80",
-            lines: "14 Const K=7 O=9 D=3\n14 Const K=7 O=- D=3\n14 Const K=7 O=- D=3\n",
-            told: "",
-            canonical: b"\xe0\x8e\x80\x80",
-            said: "refused D2 message=4 offset=6 template=14 instruction=3\n",
-        },
-        Stream {
-            input: b"\xe0\x8f\x00\xe4\x83\x0a\xff\x80\x81",
-            lines: "15 Fixed Px=100e-2 Raw=x0aff\n15 Fixed Px=101e-2 Raw=x0aff\n",
-            told: "ok messages=2 bytes=9 canonical=9\n",
-            canonical: b"\xe0\x8f\x00\xe4\x83\x0a\xff\x80\x81",
-            said: "",
-        },
-        Stream {
-            input: b"\xf0\x81\x81\x41\xc2\x00\xc0",
-            lines: "",
-            told: "",
-            canonical: b"",
-            said: "refused R1 message=1 offset=5 template=1 instruction=3\n",
-        },
-        Stream {
-            input: b"\xf0\x81\x00\x00\x00\x00\x00\x00\x00\x00\x00\x00",
-            lines: "",
-            told: "",
-            canonical: b"",
-            said: "refused Limit message=1 offset=2 template=1 instruction=1\n",
-        },
-    ];
+fn worked_streams(rt: HostRuntime) -> Tried {
+    const ROWS: &[Stream] = rows! { Stream { input, lines, told, canonical, said }:
+        b"\xf0\x81\x81\x41\xc2\xfe\x00\xe4\xf8\x81\x82\x41\xc2\x80\x81\x80",
+            "1 Quote Seq=1 Sym=\"AB\" Px=100e-2 Qty=-\n1 Quote Seq=2 Sym=\"AB\" Px=101e-2 Qty=-\n",
+            "ok messages=2 bytes=16 canonical=11\n", b"\xf0\x81\x81\x41\xc2\xfe\x00\xe4\x80\x80\x81", "";
+        b"\xf0\x81\x00\x00\x81\x41\xc2\xfe\x00\xe4", "1 Quote Seq=1 Sym=\"AB\" Px=100e-2 Qty=-\n",
+            "ok messages=1 bytes=10 canonical=8\n", b"\xf0\x81\x81\x41\xc2\xfe\x00\xe4", "";
+        b"\x70\x00\x80\x81\x81\x41\xc2\xfe\x00\xe4", "1 Quote Seq=1 Sym=\"AB\" Px=100e-2 Qty=-\n",
+            "ok messages=1 bytes=10 canonical=8\n", b"\xf0\x81\x81\x41\xc2\xfe\x00\xe4", "";
+        b"\xf1\x81\x81\x41\xc2\xfe\x00\xe4", "1 Quote Seq=1 Sym=\"AB\" Px=100e-2 Qty=-\n",
+            "ok messages=1 bytes=8 canonical=8\n", b"\xf0\x81\x81\x41\xc2\xfe\x00\xe4", "";
+        b"\xc0\x8a\x80\x47\x45\x48\xb6\x80\x82\x4d\xb6\x80\xfd\x45\xd3\x80\xff\x80",
+            "10 Delta S=\"GEH6\"\n10 Delta S=\"GEM6\"\n10 Delta S=\"ESM6\"\n10 Delta S=\"ESM6\"\n",
+            "ok messages=4 bytes=18 canonical=18\n",
+            b"\xc0\x8a\x80\x47\x45\x48\xb6\x80\x82\x4d\xb6\x80\xfd\x45\xd3\x80\x80\x80", "";
+        b"\xc0\x8a\x80\x47\x45\x48\xb6\x80\x82\x4d\xb6\x80\xfd\x45\xd3\x80\x85\x80",
+            "10 Delta S=\"GEH6\"\n10 Delta S=\"GEM6\"\n10 Delta S=\"ESM6\"\n", "",
+            b"\xc0\x8a\x80\x47\x45\x48\xb6\x80\x82\x4d\xb6\x80\xfd\x45\xd3",
+            "refused D7 message=4 offset=16 template=10 instruction=1\n";
+        b"\xe0\x88\x78\x61\xe2\xa0\x00\x00\x00\xe2", "8 Tail S=\"xab\"\n8 Tail S=\"x\\x00b\"\n",
+            "ok messages=2 bytes=10 canonical=9\n", b"\xe0\x88\x78\x61\xe2\xa0\x78\x00\xe2", "";
+        b"\xe0\x89\x80\xa0\x00\x80", "9 Init S=-\n9 Init S=\"ab\"\n", "ok messages=2 bytes=6 canonical=5\n",
+            b"\xe0\x89\x80\xa0\xe2", "";
+        b"\xe0\x82\x0f\x7f\x7f\x7f\xff\x0f\x7f\x7f\x7f\xff\x80\x80\x80\x81",
+            "2 Wrap A=4294967295 B=4294967295\n2 Wrap A=0 B=4294967295\n", "",
+            b"\xe0\x82\x0f\x7f\x7f\x7f\xff\x0f\x7f\x7f\x7f\xff\x80\x80",
+            "refused D2 message=3 offset=15 template=2 instruction=2\n";
+        b"\xf0\x83\x80\x85\x90\x39\x45\xa3", "3 Opt Px=- Flag=5\n3 Opt Px=942755e2 Flag=5\n",
+            "ok messages=2 bytes=8 canonical=8\n", b"\xf0\x83\x80\x85\x90\x39\x45\xa3", "";
+        b"\xf0\x83\x80\x85\xb0\x83\x39\x45\xa3", "3 Opt Px=- Flag=5\n3 Opt Px=942755e2 Flag=5\n",
+            "ok messages=2 bytes=9 canonical=8\n", b"\xf0\x83\x80\x85\x90\x39\x45\xa3", "";
+        b"\xc0\x84\x04\x00\x81", "", "", b"", "refused Limit message=1 offset=2 template=4 instruction=1\n";
+        b"\xf0\x87\x85\xc1\x80", "7 Clash A=5 B=\"A\"\n", "", b"\xf0\x87\x85\xc1",
+            "refused D4 message=2 offset=5 template=7 instruction=1\n";
+        b"\xf0\x87\x85\xc1\xb0\x86\xc1", "7 Clash A=5 B=\"A\"\n7 Clash A=6 B=\"A\"\n",
+            "ok messages=2 bytes=7 canonical=7\n", b"\xf0\x87\x85\xc1\xb0\x86\xc1", "";
+        b"\xe0\x8c\x82\xc3\xa9\xa0\x81\xa8\xa0\x81\x41", "12 Uni S=\"\\xc3\\xa9\"\n12 Uni S=\"\\xc3\\xa8\"\n", "",
+            b"\xe0\x8c\x82\xc3\xa9\xa0\x81\xa8", "refused R2 message=3 offset=9 template=12 instruction=1\n";
+        b"\xc0\x8d\x85", "", "", b"", "refused D6 message=1 offset=2 template=13 instruction=2\n";
+        b"\xe0\x8e\x80\x90\x83\x90\x10\x00\x00\x00\x80",
+            "14 Const K=7 O=9 D=3\n14 Const K=7 O=- D=3\n14 Const K=7 O=- D=3\n", "", b"\xe0\x8e\x80\x80",
+            "refused D2 message=4 offset=6 template=14 instruction=3\n";
+        b"\xe0\x8f\x00\xe4\x83\x0a\xff\x80\x81", "15 Fixed Px=100e-2 Raw=x0aff\n15 Fixed Px=101e-2 Raw=x0aff\n",
+            "ok messages=2 bytes=9 canonical=9\n", b"\xe0\x8f\x00\xe4\x83\x0a\xff\x80\x81", "";
+        b"\xf0\x81\x81\x41\xc2\x00\xc0", "", "", b"", "refused R1 message=1 offset=5 template=1 instruction=3\n";
+        b"\xf0\x81\x00\x00\x00\x00\x00\x00\x00\x00\x00\x00", "", "", b"",
+            "refused Limit message=1 offset=2 template=1 instruction=1\n";
+    };
     for row in ROWS {
         stream_is_served(&rt, rt.alloc(), row)?;
     }
@@ -282,103 +188,60 @@ struct Cut {
     said: &'static [&'static str],
 }
 
-const CUTS: &[Cut] = &[
-    Cut {
-        stream: b"\xf0\x81\x81\x41\xc2\xfe\x00\xe4",
-        lines: "1 Quote Seq=1 Sym=\"AB\" Px=100e-2 Qty=-\n",
-        said: &[
-            "refused Truncated message=1 offset=1 template=0 instruction=0\n",
-            "refused Truncated message=1 offset=2 template=1 instruction=1\n",
-            "refused Truncated message=1 offset=3 template=1 instruction=2\n",
-            "refused Truncated message=1 offset=3 template=1 instruction=2\n",
-            "refused Truncated message=1 offset=5 template=1 instruction=3\n",
-            "refused Truncated message=1 offset=5 template=1 instruction=3\n",
-            "refused Truncated message=1 offset=5 template=1 instruction=3\n",
-            "",
-        ],
-    },
-    Cut {
-        stream: b"\xc0\x8a\x80\x47\x45\x48\xb6\x80\x82\x4d\xb6\x80\xfd\x45\xd3",
-        lines: "10 Delta S=\"GEH6\"\n10 Delta S=\"GEM6\"\n10 Delta S=\"ESM6\"\n",
-        said: &[
-            "refused Truncated message=1 offset=1 template=0 instruction=0\n",
-            "refused Truncated message=1 offset=2 template=10 instruction=1\n",
-            "refused Truncated message=1 offset=2 template=10 instruction=1\n",
-            "refused Truncated message=1 offset=2 template=10 instruction=1\n",
-            "refused Truncated message=1 offset=2 template=10 instruction=1\n",
-            "refused Truncated message=1 offset=2 template=10 instruction=1\n",
-            "",
-            "refused Truncated message=2 offset=8 template=10 instruction=1\n",
-            "refused Truncated message=2 offset=8 template=10 instruction=1\n",
-            "refused Truncated message=2 offset=8 template=10 instruction=1\n",
-            "",
-            "refused Truncated message=3 offset=12 template=10 instruction=1\n",
-            "refused Truncated message=3 offset=12 template=10 instruction=1\n",
-            "refused Truncated message=3 offset=12 template=10 instruction=1\n",
-            "",
-        ],
-    },
-    Cut {
-        stream: b"\xc0\x84\x80\x80\x81\x80\x83\x85\x86",
-        lines: "4 Legs L=-\n4 Legs L=[]\n4 Legs L=[{P=5} {P=6}]\n",
-        said: &[
-            "refused Truncated message=1 offset=1 template=0 instruction=0\n",
-            "refused Truncated message=1 offset=2 template=4 instruction=1\n",
-            "",
-            "refused Truncated message=2 offset=4 template=4 instruction=1\n",
-            "",
-            "refused Truncated message=3 offset=6 template=4 instruction=1\n",
-            "refused Truncated message=3 offset=7 template=4 instruction=2\n",
-            "refused Truncated message=3 offset=8 template=4 instruction=2\n",
-            "",
-        ],
-    },
-    Cut {
-        stream: b"\xf0\x8b\xc0\x85\x86\x80\xa0\x80",
-        lines: "11 Grp Hd={A=5} B=6\n11 Grp Hd=- B=6\n11 Grp Hd={A=5} B=6\n",
-        said: &[
-            "refused Truncated message=1 offset=1 template=0 instruction=0\n",
-            "refused Truncated message=1 offset=2 template=11 instruction=1\n",
-            "refused Truncated message=1 offset=3 template=11 instruction=2\n",
-            "refused Truncated message=1 offset=4 template=11 instruction=3\n",
-            "",
-            "",
-            "refused Truncated message=3 offset=7 template=11 instruction=1\n",
-            "",
-        ],
-    },
-    Cut {
-        stream: b"\xe0\x8c\x82\xc3\xa9\xa0\x81\xa8\xa0\x81",
-        lines: "12 Uni S=\"\\xc3\\xa9\"\n12 Uni S=\"\\xc3\\xa8\"\n",
-        said: &[
-            "refused Truncated message=1 offset=1 template=0 instruction=0\n",
-            "refused Truncated message=1 offset=2 template=12 instruction=1\n",
-            "refused Truncated message=1 offset=2 template=12 instruction=1\n",
-            "refused Truncated message=1 offset=2 template=12 instruction=1\n",
-            "",
-            "refused Truncated message=2 offset=6 template=12 instruction=1\n",
-            "refused Truncated message=2 offset=6 template=12 instruction=1\n",
-            "",
-            "refused Truncated message=3 offset=9 template=12 instruction=1\n",
-            "refused Truncated message=3 offset=9 template=12 instruction=1\n",
-        ],
-    },
-    Cut {
-        stream: b"\xe0\x8f\x00\xe4\x83\x0a\xff\x80\x81",
-        lines: "15 Fixed Px=100e-2 Raw=x0aff\n15 Fixed Px=101e-2 Raw=x0aff\n",
-        said: &[
-            "refused Truncated message=1 offset=1 template=0 instruction=0\n",
-            "refused Truncated message=1 offset=2 template=15 instruction=1\n",
-            "refused Truncated message=1 offset=2 template=15 instruction=1\n",
-            "refused Truncated message=1 offset=4 template=15 instruction=2\n",
-            "refused Truncated message=1 offset=4 template=15 instruction=2\n",
-            "refused Truncated message=1 offset=4 template=15 instruction=2\n",
-            "",
-            "refused Truncated message=2 offset=8 template=15 instruction=1\n",
-            "",
-        ],
-    },
-];
+const CUTS: &[Cut] = rows! { Cut { stream, lines, said }:
+    b"\xf0\x81\x81\x41\xc2\xfe\x00\xe4", "1 Quote Seq=1 Sym=\"AB\" Px=100e-2 Qty=-\n",
+        &["refused Truncated message=1 offset=1 template=0 instruction=0\n",
+        "refused Truncated message=1 offset=2 template=1 instruction=1\n",
+        "refused Truncated message=1 offset=3 template=1 instruction=2\n",
+        "refused Truncated message=1 offset=3 template=1 instruction=2\n",
+        "refused Truncated message=1 offset=5 template=1 instruction=3\n",
+        "refused Truncated message=1 offset=5 template=1 instruction=3\n",
+        "refused Truncated message=1 offset=5 template=1 instruction=3\n", ""];
+    b"\xc0\x8a\x80\x47\x45\x48\xb6\x80\x82\x4d\xb6\x80\xfd\x45\xd3",
+        "10 Delta S=\"GEH6\"\n10 Delta S=\"GEM6\"\n10 Delta S=\"ESM6\"\n",
+        &["refused Truncated message=1 offset=1 template=0 instruction=0\n",
+        "refused Truncated message=1 offset=2 template=10 instruction=1\n",
+        "refused Truncated message=1 offset=2 template=10 instruction=1\n",
+        "refused Truncated message=1 offset=2 template=10 instruction=1\n",
+        "refused Truncated message=1 offset=2 template=10 instruction=1\n",
+        "refused Truncated message=1 offset=2 template=10 instruction=1\n", "",
+        "refused Truncated message=2 offset=8 template=10 instruction=1\n",
+        "refused Truncated message=2 offset=8 template=10 instruction=1\n",
+        "refused Truncated message=2 offset=8 template=10 instruction=1\n", "",
+        "refused Truncated message=3 offset=12 template=10 instruction=1\n",
+        "refused Truncated message=3 offset=12 template=10 instruction=1\n",
+        "refused Truncated message=3 offset=12 template=10 instruction=1\n", ""];
+    b"\xc0\x84\x80\x80\x81\x80\x83\x85\x86", "4 Legs L=-\n4 Legs L=[]\n4 Legs L=[{P=5} {P=6}]\n",
+        &["refused Truncated message=1 offset=1 template=0 instruction=0\n",
+        "refused Truncated message=1 offset=2 template=4 instruction=1\n", "",
+        "refused Truncated message=2 offset=4 template=4 instruction=1\n", "",
+        "refused Truncated message=3 offset=6 template=4 instruction=1\n",
+        "refused Truncated message=3 offset=7 template=4 instruction=2\n",
+        "refused Truncated message=3 offset=8 template=4 instruction=2\n", ""];
+    b"\xf0\x8b\xc0\x85\x86\x80\xa0\x80", "11 Grp Hd={A=5} B=6\n11 Grp Hd=- B=6\n11 Grp Hd={A=5} B=6\n",
+        &["refused Truncated message=1 offset=1 template=0 instruction=0\n",
+        "refused Truncated message=1 offset=2 template=11 instruction=1\n",
+        "refused Truncated message=1 offset=3 template=11 instruction=2\n",
+        "refused Truncated message=1 offset=4 template=11 instruction=3\n", "", "",
+        "refused Truncated message=3 offset=7 template=11 instruction=1\n", ""];
+    b"\xe0\x8c\x82\xc3\xa9\xa0\x81\xa8\xa0\x81", "12 Uni S=\"\\xc3\\xa9\"\n12 Uni S=\"\\xc3\\xa8\"\n",
+        &["refused Truncated message=1 offset=1 template=0 instruction=0\n",
+        "refused Truncated message=1 offset=2 template=12 instruction=1\n",
+        "refused Truncated message=1 offset=2 template=12 instruction=1\n",
+        "refused Truncated message=1 offset=2 template=12 instruction=1\n", "",
+        "refused Truncated message=2 offset=6 template=12 instruction=1\n",
+        "refused Truncated message=2 offset=6 template=12 instruction=1\n", "",
+        "refused Truncated message=3 offset=9 template=12 instruction=1\n",
+        "refused Truncated message=3 offset=9 template=12 instruction=1\n"];
+    b"\xe0\x8f\x00\xe4\x83\x0a\xff\x80\x81", "15 Fixed Px=100e-2 Raw=x0aff\n15 Fixed Px=101e-2 Raw=x0aff\n",
+        &["refused Truncated message=1 offset=1 template=0 instruction=0\n",
+        "refused Truncated message=1 offset=2 template=15 instruction=1\n",
+        "refused Truncated message=1 offset=2 template=15 instruction=1\n",
+        "refused Truncated message=1 offset=4 template=15 instruction=2\n",
+        "refused Truncated message=1 offset=4 template=15 instruction=2\n",
+        "refused Truncated message=1 offset=4 template=15 instruction=2\n", "",
+        "refused Truncated message=2 offset=8 template=15 instruction=1\n", ""];
+};
 
 /// The first lines, so many.
 fn first_lines(lines: &str, count: usize) -> &[u8] {
@@ -409,7 +272,7 @@ fn front(row: &Cut, count: usize) -> (usize, usize) {
 }
 
 /// What is told of so many messages whose bytes are canonical, where nothing is said of a refusal.
-fn told(alloc: Global, messages: usize, bytes: usize, said: &str) -> Result<String, AllocError> {
+fn told(alloc: Global, messages: usize, bytes: usize, said: &str) -> Tried<String> {
     if !said.is_empty() {
         return Ok(String::new(alloc));
     }
@@ -441,7 +304,7 @@ fn cut_serves(
     (width, after): (usize, After),
     told: &str,
     said: &str,
-) -> Result<(), AllocError> {
+) -> Tried {
     let (messages, bytes) = front(row, count);
     let made = Made {
         lines: first_lines(row.lines, messages),
@@ -456,20 +319,14 @@ fn cut_serves(
     each_serves(rt, alloc, &STRICT, standard, made)
 }
 
-fn cut_is_served(
-    rt: &impl Abort,
-    alloc: Global,
-    row: &Cut,
-    count: usize,
-    said: &str,
-) -> Result<(), AllocError> {
+fn cut_is_served(rt: &impl Abort, alloc: Global, row: &Cut, count: usize, said: &str) -> Tried {
     let (messages, bytes) = front(row, count);
     let told = told(alloc, messages, bytes, said)?;
     cut_serves(rt, alloc, row, count, (4096, After::End), &told, said)
 }
 
 #[test]
-fn streams_that_are_cut(rt: HostRuntime) -> Result<(), AllocError> {
+fn streams_that_are_cut(rt: HostRuntime) -> Tried {
     for row in CUTS {
         for (i, said) in row.said.iter().enumerate() {
             cut_is_served(&rt, rt.alloc(), row, i.saturating_add(1), said)?;
@@ -480,7 +337,7 @@ fn streams_that_are_cut(rt: HostRuntime) -> Result<(), AllocError> {
 
 /// The read behind so many bytes of a worked stream fails, one byte a read.
 #[test]
-fn reads_that_fail(rt: HostRuntime) -> Result<(), AllocError> {
+fn reads_that_fail(rt: HostRuntime) -> Tried {
     let given = (1, After::Error);
     for row in CUTS {
         for count in 0..=row.said.len() {
@@ -492,7 +349,7 @@ fn reads_that_fail(rt: HostRuntime) -> Result<(), AllocError> {
 
 // In a block, where the read fails that is to give the size, one of the bytes, or the next size.
 #[test]
-fn reads_that_fail_in_a_block(rt: HostRuntime) -> Result<(), AllocError> {
+fn reads_that_fail_in_a_block(rt: HostRuntime) -> Tried {
     const QUOTE: &[u8] = b"\x88\xf0\x81\x81\x41\xc2\xfe\x00\xe4";
     for count in 0..=9 {
         let is_whole = count == 9;
@@ -524,13 +381,7 @@ const OVER_WORKED: Case = Case {
 };
 
 /// Its output has so much room, and then, if that is not enough, or the flush fails, this is answered and said.
-fn breaks_at(
-    rt: &impl Abort,
-    alloc: Global,
-    row: &Case,
-    count: usize,
-    full: Full,
-) -> Result<(), AllocError> {
+fn breaks_at(rt: &impl Abort, alloc: Global, row: &Case, count: usize, full: Full) -> Tried {
     let mut case = *row;
     case.room = (count, full);
     case.out = first_bytes(row.out, count);
@@ -542,7 +393,7 @@ fn breaks_at(
 }
 
 /// The output fails behind each number of bytes, has room for all of them, takes none, or fails at the flush.
-fn breaks(rt: &impl Abort, alloc: Global, row: &Case) -> Result<(), AllocError> {
+fn breaks(rt: &impl Abort, alloc: Global, row: &Case) -> Tried {
     for count in 0..=row.out.len() {
         breaks_at(rt, alloc, row, count, Full::Error)?;
     }
@@ -551,7 +402,7 @@ fn breaks(rt: &impl Abort, alloc: Global, row: &Case) -> Result<(), AllocError> 
 }
 
 #[test]
-fn writes_that_fail(rt: HostRuntime) -> Result<(), AllocError> {
+fn writes_that_fail(rt: HostRuntime) -> Tried {
     const TWO: &[u8] = b"\xf0\x81\x81\x41\xc2\xfe\x00\xe4\xf8\x81\x82\x41\xc2\x80\x81\x80";
     const BLOCK: &[u8] = b"\x90\xf0\x81\x81\x41\xc2\xfe\x00\xe4\xf8\x81\x82\x41\xc2\x80\x81\x80";
     const HEX: &[u8] = b"f0818141c2fe00e4f8818241c2808180";
@@ -560,68 +411,18 @@ fn writes_that_fail(rt: HostRuntime) -> Result<(), AllocError> {
     const TOLD: &[u8] = b"ok messages=2 bytes=16 canonical=11\n";
     const BLOCK_TOLD: &[u8] = b"ok messages=2 bytes=17 canonical=11\n";
     const SHORT: &[u8] = b"\xf0\x81\x81\x41\xc2\xfe\x00\xe4\x80\x80\x81";
-    const ROWS: &[Case] = &[
-        Case {
-            words: SHOW,
-            input: TWO,
-            out: LINES,
-            ..OVER_WORKED
-        },
-        Case {
-            words: CHECK,
-            input: TWO,
-            out: TOLD,
-            ..OVER_WORKED
-        },
-        Case {
-            words: CANON,
-            input: TWO,
-            out: SHORT,
-            ..OVER_WORKED
-        },
-        Case {
-            words: SHOW_STRICTLY,
-            input: TWO,
-            out: LINES,
-            ..OVER_WORKED
-        },
-        Case {
-            words: CHECK_STRICTLY,
-            input: TWO,
-            out: TOLD,
-            ..OVER_WORKED
-        },
-        Case {
-            words: CANON_STRICTLY,
-            input: TWO,
-            out: SHORT,
-            ..OVER_WORKED
-        },
-        Case {
-            words: SHOW_BLOCKS,
-            input: BLOCK,
-            out: LINES,
-            ..OVER_WORKED
-        },
-        Case {
-            words: CHECK_BLOCKS,
-            input: BLOCK,
-            out: BLOCK_TOLD,
-            ..OVER_WORKED
-        },
-        Case {
-            words: CANON_BLOCKS,
-            input: BLOCK,
-            out: SHORT,
-            ..OVER_WORKED
-        },
-        Case {
-            words: CANON_HEX,
-            input: HEX,
-            out: b"f0818141c2fe00e4808081\n",
-            ..OVER_WORKED
-        },
-    ];
+    const ROWS: &[Case] = rows! { Case { .. }:
+        OVER_WORKED, words: SHOW, input: TWO, out: LINES;
+        OVER_WORKED, words: CHECK, input: TWO, out: TOLD;
+        OVER_WORKED, words: CANON, input: TWO, out: SHORT;
+        OVER_WORKED, words: SHOW_STRICTLY, input: TWO, out: LINES;
+        OVER_WORKED, words: CHECK_STRICTLY, input: TWO, out: TOLD;
+        OVER_WORKED, words: CANON_STRICTLY, input: TWO, out: SHORT;
+        OVER_WORKED, words: SHOW_BLOCKS, input: BLOCK, out: LINES;
+        OVER_WORKED, words: CHECK_BLOCKS, input: BLOCK, out: BLOCK_TOLD;
+        OVER_WORKED, words: CANON_BLOCKS, input: BLOCK, out: SHORT;
+        OVER_WORKED, words: CANON_HEX, input: HEX, out: b"f0818141c2fe00e4808081\n";
+    };
     for row in ROWS {
         breaks(&rt, rt.alloc(), row)?;
     }
@@ -636,7 +437,7 @@ struct Long {
     said: &'static str,
 }
 
-fn stream_of(alloc: Global, pieces: &[(&[u8], usize)]) -> Result<Vec<u8>, AllocError> {
+fn stream_of(alloc: Global, pieces: &[(&[u8], usize)]) -> Tried<Vec<u8>> {
     let mut stream = Vec::new(alloc);
     for (piece, count) in pieces {
         for _ in 0..*count {
@@ -646,13 +447,7 @@ fn stream_of(alloc: Global, pieces: &[(&[u8], usize)]) -> Result<Vec<u8>, AllocE
     Ok(stream)
 }
 
-fn long_serves(
-    rt: &impl Abort,
-    alloc: Global,
-    row: &Long,
-    stream: &[u8],
-    told: &str,
-) -> Result<(), AllocError> {
+fn long_serves(rt: &impl Abort, alloc: Global, row: &Long, stream: &[u8], told: &str) -> Tried {
     let made = Made {
         lines: b"",
         told: told.as_bytes(),
@@ -668,77 +463,29 @@ fn long_serves(
     Ok(())
 }
 
-fn long_is_served(rt: &impl Abort, alloc: Global, row: &Long) -> Result<(), AllocError> {
+fn long_is_served(rt: &impl Abort, alloc: Global, row: &Long) -> Tried {
     let stream = stream_of(alloc, row.pieces)?;
     let told = told(alloc, row.messages, stream.len(), row.said)?;
     long_serves(rt, alloc, row, &stream, &told)
 }
 
 #[test]
-fn long_texts_and_streams(rt: HostRuntime) -> Result<(), AllocError> {
-    const ROWS: &[Long] = &[
-        Long {
-            pieces: &[
-                (b"\xf0\x81\x81\x41\xc2\xfe\x00\xe4", 1),
-                (b"\x80\x80\x81", 10_000),
-            ],
-            messages: 10_001,
-            said: "",
-        },
-        Long {
-            pieces: &[(b"\x00", 255)],
-            messages: 0,
-            said: "refused Truncated message=1 offset=0 template=0 instruction=0\n",
-        },
-        Long {
-            pieces: &[(b"\x00", 256)],
-            messages: 0,
-            said: "refused Limit message=1 offset=0 template=0 instruction=0\n",
-        },
-        Long {
-            pieces: &[(b"\xf0\x81\x81", 1), (b"\x41", 65_539)],
-            messages: 0,
-            said: "refused Truncated message=1 offset=3 template=1 instruction=2\n",
-        },
-        Long {
-            pieces: &[(b"\xf0\x81\x81", 1), (b"\x41", 65_540)],
-            messages: 0,
-            said: "refused Limit message=1 offset=3 template=1 instruction=2\n",
-        },
-        Long {
-            pieces: &[
-                (b"\xf0\x81\x81", 1),
-                (b"\x41", 65_534),
-                (b"\xc1\xfe\x00\xe4", 1),
-            ],
-            messages: 1,
-            said: "",
-        },
-        Long {
-            pieces: &[
-                (b"\xf0\x81\x81", 1),
-                (b"\x41", 65_535),
-                (b"\xc1\xfe\x00\xe4", 1),
-            ],
-            messages: 0,
-            said: "refused Limit message=1 offset=3 template=1 instruction=2\n",
-        },
-        Long {
-            pieces: &[(b"\xc0\x84\x02\x00\x80", 1), (b"\x85", 32_767)],
-            messages: 1,
-            said: "",
-        },
-        Long {
-            pieces: &[(b"\xc0\x84\x02\x00\x81", 1), (b"\x85", 32_767)],
-            messages: 0,
-            said: "refused Limit message=1 offset=32772 template=4 instruction=2\n",
-        },
-        Long {
-            pieces: &[(b"\xc0\x86\x03\x7f\xff", 1)],
-            messages: 1,
-            said: "",
-        },
-    ];
+fn long_texts_and_streams(rt: HostRuntime) -> Tried {
+    const ROWS: &[Long] = rows! { Long { pieces, messages, said }:
+        &[(b"\xf0\x81\x81\x41\xc2\xfe\x00\xe4", 1), (b"\x80\x80\x81", 10_000)], 10_001, "";
+        &[(b"\x00", 255)], 0, "refused Truncated message=1 offset=0 template=0 instruction=0\n";
+        &[(b"\x00", 256)], 0, "refused Limit message=1 offset=0 template=0 instruction=0\n";
+        &[(b"\xf0\x81\x81", 1), (b"\x41", 65_539)], 0,
+            "refused Truncated message=1 offset=3 template=1 instruction=2\n";
+        &[(b"\xf0\x81\x81", 1), (b"\x41", 65_540)], 0, "refused Limit message=1 offset=3 template=1 instruction=2\n";
+        &[(b"\xf0\x81\x81", 1), (b"\x41", 65_534), (b"\xc1\xfe\x00\xe4", 1)], 1, "";
+        &[(b"\xf0\x81\x81", 1), (b"\x41", 65_535), (b"\xc1\xfe\x00\xe4", 1)], 0,
+            "refused Limit message=1 offset=3 template=1 instruction=2\n";
+        &[(b"\xc0\x84\x02\x00\x80", 1), (b"\x85", 32_767)], 1, "";
+        &[(b"\xc0\x84\x02\x00\x81", 1), (b"\x85", 32_767)], 0,
+            "refused Limit message=1 offset=32772 template=4 instruction=2\n";
+        &[(b"\xc0\x86\x03\x7f\xff", 1)], 1, "";
+    };
     for row in ROWS {
         long_is_served(&rt, rt.alloc(), row)?;
     }
@@ -747,7 +494,7 @@ fn long_texts_and_streams(rt: HostRuntime) -> Result<(), AllocError> {
 
 // As many nodes as there may be, and one more.
 #[test]
-fn sequences_without_members(rt: HostRuntime) -> Result<(), AllocError> {
+fn sequences_without_members(rt: HostRuntime) -> Tried {
     const MOST: &[u8] = b"\xc0\x81\x80\x03\x7f\xfe";
     const REFUSED: Case = Case {
         templates: Templates::Bare,
@@ -756,33 +503,12 @@ fn sequences_without_members(rt: HostRuntime) -> Result<(), AllocError> {
         err: "refused Limit message=1 offset=6 template=1 instruction=2\n",
         ..CASE
     };
-    const ROWS: &[Case] = &[
-        Case {
-            words: CHECK,
-            templates: Templates::Bare,
-            input: MOST,
-            out: b"ok messages=1 bytes=6 canonical=6\n",
-            ..CASE
-        },
-        Case {
-            words: CANON,
-            templates: Templates::Bare,
-            input: MOST,
-            out: MOST,
-            ..CASE
-        },
-        Case {
-            words: SHOW,
-            ..REFUSED
-        },
-        Case {
-            words: CHECK,
-            ..REFUSED
-        },
-        Case {
-            words: CANON,
-            ..REFUSED
-        },
-    ];
+    const ROWS: &[Case] = rows! { Case { .. }:
+        CASE, words: CHECK, templates: Templates::Bare, input: MOST, out: b"ok messages=1 bytes=6 canonical=6\n";
+        CASE, words: CANON, templates: Templates::Bare, input: MOST, out: MOST;
+        REFUSED, words: SHOW;
+        REFUSED, words: CHECK;
+        REFUSED, words: CANON;
+    };
     cases_are_served(&rt, rt.alloc(), ROWS)
 }

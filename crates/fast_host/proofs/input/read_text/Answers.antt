@@ -1,65 +1,63 @@
-use Rattle.std.proofs.Common.{◌<◌, ◌+◌, ◌++◌, ◌∙◌, ℕ, List, length, take, ap, arith, length-take, refl}
+use Rattle.std.proofs.Common.{◌<◌, ◌+◌, ◌++◌, ◌∙◌, List, ℕ, length, drop, take, ap, arith, length-append, length-take, refl, subst, sym}
+use Rattle.std.proofs.lemmas.List.{take-append-le}
 use Rattle.fast_io.specs.Counts.{counted}
+use Rattle.fast_decoder.specs.Inputs.{Reads}
 use Rattle.fast_decoder.proofs.Inputs.{empty_read, failed_read, more_read, none_read, one_read}
-use Rattle.fast_host.proofs.Texts.{ended, kept_then, reader_of, whole_kept}
+use Rattle.fast_host.proofs.Texts.{ended, reader_of}
 use Rattle.fast_host.proofs.input.read_text.Goals as goal
 
 pub loop-init : goal.loop-init
-loop-init g c = record { got = _; reads = none_read (reader_of g.R.ByteInput c.args.reader.now); kept = c.new-text.ensures.items; errors = refl; ends = refl }
+loop-init g c = record { reads = subst (λ (xs : List ℕ). Reads (reader_of g.R.ByteInput c.args.reader.now) (reader_of g.R.ByteInput c.args.reader.now) 0 xs) (sym c.new-text.ensures.items) (none_read (reader_of g.R.ByteInput c.args.reader.now)); few = omega arith; errors = refl; ends = refl }
 
 pub returns-in-Ok-eq0 : goal.returns-in-Ok-eq0
 returns-in-Ok-eq0 g c =
     let i = c.loop.invariant in
+    let buffer = length-take c.min.result c.loop.chunk in
     let p = c.in-Ok-eq0.ensures in
     let zero = c.in-Ok-eq0.field-0-test in
     let end = empty_read (reader_of g.R.ByteInput c.loop.reader) (reader_of g.R.ByteInput c.pull.new.self) _ _ p.call p.bytes.1 zero in
-    let kept = ap (λ (xs : List ℕ). length xs) i.kept in
-    (c.loop.counter + 1, i.got, ended i end, omega arith, tt, (omega (arith, length-take 16777217 i.got, kept), p.bytes.2 zero (omega arith)))
+    (c.loop.counter + 1, c.loop.text.items, ended i end, omega arith, (refl, i.few, p.bytes.2 zero (omega (arith, buffer))), tt)
 
-pub returns-in-Ok-eq0-2 : goal.returns-in-Ok-eq0-2
-returns-in-Ok-eq0-2 g c =
+pub returns-in-Ok : goal.returns-in-Ok
+returns-in-Ok g c =
     let i = c.loop.invariant in
-    let p = c.in-Ok-eq0.ensures in
-    let zero = c.in-Ok-eq0.field-0-test in
-    let end = empty_read (reader_of g.R.ByteInput c.loop.reader) (reader_of g.R.ByteInput c.pull.new.self) _ _ p.call p.bytes.1 zero in
-    let kept = ap (λ (xs : List ℕ). length xs) i.kept in
-    let whole = whole_kept 16777216 i.got (omega (arith, kept)) in
-    let all = ap (λ (xs : List ℕ). length xs) whole in
-    (c.loop.counter + 1, i.got, ended i end, omega arith, (i.kept ∙ whole, omega (arith, kept, all), p.bytes.2 zero (omega arith)), tt)
-
-pub keep-requires : goal.keep-requires
-keep-requires g c =
-    let kept = ap (λ (xs : List ℕ). length xs) c.loop.invariant.kept in
-    record { room = omega (arith, kept, length-take 16777217 c.loop.invariant.got) }
-
-pub returns-in-Err-keep : goal.returns-in-Err-keep
-returns-in-Err-keep g c =
-    let i = c.loop.invariant in
+    let buffer = length-take c.min.result c.loop.chunk in
     let p = c.in-Ok.ensures in
-    let more = one_read (reader_of g.R.ByteInput c.loop.reader) (reader_of g.R.ByteInput c.pull.new.self) c.in-Ok.count c.pull.new.buf p.call p.bytes.1 (omega arith) in
-    (c.loop.counter + 1, i.got ++ take c.in-Ok.count c.pull.new.buf, more_read _ _ _ c.loop.counter i.got _ i.reads more, omega arith, tt, tt)
+    let got = take c.in-Ok.count c.pull.new.buf in
+    let more = one_read (reader_of g.R.ByteInput c.loop.reader) (reader_of g.R.ByteInput c.pull.new.self) c.in-Ok.count c.pull.new.buf p.call p.bytes.1 (omega (arith, buffer)) in
+    (c.loop.counter + 1, c.loop.text.items ++ got, more_read _ _ _ c.loop.counter _ _ i.reads more, omega arith, tt, omega (arith, length-append c.loop.text.items got, length-take c.in-Ok.count c.pull.new.buf, buffer))
+
+pub returns-in-Err-extend_from_slice : goal.returns-in-Err-extend_from_slice
+returns-in-Err-extend_from_slice g c =
+    let i = c.loop.invariant in
+    let buffer = length-take c.min.result c.loop.chunk in
+    let p = c.in-Ok.ensures in
+    let got = take c.in-Ok.count c.pull.new.buf in
+    let more = one_read (reader_of g.R.ByteInput c.loop.reader) (reader_of g.R.ByteInput c.pull.new.self) c.in-Ok.count c.pull.new.buf p.call p.bytes.1 (omega (arith, buffer)) in
+    (c.loop.counter + 1, c.loop.text.items ++ got, more_read _ _ _ c.loop.counter _ _ i.reads more, omega arith, tt, omega (arith, length-append c.loop.text.items got, length-take c.in-Ok.count c.pull.new.buf, buffer))
 
 pub returns-in-Err : goal.returns-in-Err
 returns-in-Err g c =
     let i = c.loop.invariant in
     let p = c.in-Err.ensures in
     let end = failed_read (reader_of g.R.ByteInput c.loop.reader) (reader_of g.R.ByteInput c.pull.new.self) p.call p.bytes in
-    (c.loop.counter + 1, i.got, ended i end, omega arith, tt, p.error ∙ ap counted i.errors)
+    (c.loop.counter + 1, c.loop.text.items, ended i end, omega arith, tt, (i.few, p.error ∙ ap counted i.errors))
 
 pub loop-preserved : goal.loop-preserved
 loop-preserved g c =
     let i = c.loop.invariant in
+    let buffer = length-take c.min.result c.loop.chunk in
     let p = c.in-Ok.ensures in
     let got = take c.in-Ok.count c.pull.new.buf in
     let some : 0 < c.in-Ok.count = omega arith in
-    let more = one_read (reader_of g.R.ByteInput c.loop.reader) (reader_of g.R.ByteInput c.pull.new.self) c.in-Ok.count c.pull.new.buf p.call p.bytes.1 (omega arith) in
+    let more = one_read (reader_of g.R.ByteInput c.loop.reader) (reader_of g.R.ByteInput c.pull.new.self) c.in-Ok.count c.pull.new.buf p.call p.bytes.1 (omega (arith, buffer)) in
+    let all = c.in-Ok-extend_from_slice.ensures.items ∙ ap (λ (xs : List ℕ). c.loop.text.items ++ xs) (take-append-le c.in-Ok.count c.pull.new.buf (drop c.min.result c.loop.chunk) (omega arith)) in
     record {
-      got = i.got ++ got;
-      reads = more_read _ _ _ c.loop.counter i.got got i.reads more;
-      kept = c.in-Ok-keep.ensures.kept ∙ ap (λ (xs : List ℕ). take 16777217 (xs ++ got)) i.kept ∙ kept_then 16777217 i.got got;
+      reads = subst (λ (xs : List ℕ). Reads (reader_of g.R.ByteInput c.args.reader.now) (reader_of g.R.ByteInput c.pull.new.self) (c.loop.counter + 1) xs) (sym all) (more_read _ _ _ c.loop.counter _ _ i.reads more);
+      few = omega (arith, length-append c.loop.text.items got, length-take c.in-Ok.count c.pull.new.buf, buffer, ap (λ (xs : List ℕ). length xs) all);
       errors = p.error ∙ i.errors;
       ends = p.end.1 some ∙ i.ends;
     }
 
 pub returns : goal.returns
-returns g c = let i = c.loop.invariant in (c.loop.counter, i.got, i.reads, omega arith, tt, (omega arith, i.ends))
+returns g c = let i = c.loop.invariant in (c.loop.counter, c.loop.text.items, i.reads, omega arith, tt, (i.few, omega arith, i.ends))

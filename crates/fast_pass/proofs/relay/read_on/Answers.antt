@@ -29,7 +29,7 @@ returns-in-Err-finish-clause-read g c =
           let after = t.1 (handed_on way.handed ∷ way.messages) way.input way.messages (omega (arith, few)) r.holds.follows in
           let at = (rw (c.in-Err-finish.ensures.answer) at after.at).0 in
           let refuses = refused_by_bytes c.in-Err-finish.fault _ _ turns (g.R.ByteInput.left c.pull.new.self) _ _ (λ e. p.bytes.2 zero (omega arith)) at in
-          stays _ (stops g.met.O.Output.made c.finish.new.self turns _ way c.in-Err-finish.fault refuses after) ((λ h. absurd cc), caused_by_end c.in-Err-finish.fault (told_by g.R.ByteInput c.args.reader.now) (told_by g.R.ByteInput c.pull.new.self) t.0 (p.end.0 zero (omega arith))),
+          stays _ (stops g.met.O.Output.made c.finish.new.self turns _ way c.in-Err-finish.fault refuses after) ((λ h. absurd cc), caused_by_end c.in-Err-finish.fault (told_by g.R.ByteInput c.args.reader.now) (told_by g.R.ByteInput c.pull.new.self) t.0 (p.end.0 zero (omega arith)) p.error),
     )
 
 pub returns-in-Ok-clause-read : goal.returns-in-Ok-clause-read
@@ -57,5 +57,5 @@ returns-in-Err-clause-read g c =
           let go = r.holds in
           stays _ (stops g.met.O.Output.made c.cut.new.self turns _ way c.cut.result
           (rw (cut.same.set, cut.same.mode) (refused_by_read c.cut.result _ _ _ _ _ _ cut.cause (cut.place go.unrefused before way.input way.messages go.follows)))
-          (cut.follows go.unrefused before way.input way.messages go.follows)) ((λ h. absurd cc), caused_by_read c.cut.result (told_by g.R.ByteInput c.args.reader.now) (told_by g.R.ByteInput c.pull.new.self) cut.cause p.error),
+          (cut.follows go.unrefused before way.input way.messages go.follows)) ((λ h. absurd cc), caused_by_read c.cut.result (told_by g.R.ByteInput c.args.reader.now) (told_by g.R.ByteInput c.pull.new.self) cut.cause p.error p.end),
     )

@@ -1,4 +1,4 @@
-use Rattle.fast_pass.proofs.Common.{◌≡◌, ◌≤◌, ◌+◌, ◌++◌, ◌∷◌, [], length, length-append, arith, append-nil, refl, ◌∙◌, err_from_is_err_and, Reached, IsCaused, told_by, causes_on, causes_weaker, more_read, refused_by_turns, handed_on, IsSameStream, same_on, Step, outset}
+use Rattle.fast_pass.proofs.Common.{◌≡◌, ◌≤◌, ◌+◌, ◌++◌, ◌∷◌, [], length, length-append, arith, append-nil, refl, ◌∙◌, err_from_is_err_and, Reached, IsCaused, told_by, caused_by_turns, causes_on, causes_weaker, more_read, refused_by_turns, handed_on, IsSameStream, same_on, Step, outset}
 use Rattle.fast_pass.proofs.Relayings.{behind, breaks, breaks_on, broke_off, front_of, goes_farther, hands_on}
 use Rattle.fast_pass.proofs.relay.relay.Given as given
 use Rattle.fast_pass.proofs.relay.relay.Goals as goal
@@ -112,5 +112,5 @@ returns-clause-answer g c =
       i.1,
       few,
       rw (← v.same.mode, ← v.same.set) (record { messages = s.ended; out = s.more; refuses = refused_by_turns c.cut.result _ _ c.args.turns _ i.0 s.ended cut.cause place (omega (arith, all)); made = rw (v.empty, append-nil s.more) at s.relays.made; written = s.written }),
-      ((λ e. absurd cc), (λ e. absurd cc), (λ e. (all, s.because.1.1))),
+      caused_by_turns c.cut.result (l.reads ≡ c.args.turns) (told_by g.R.ByteInput c.args.reader.now) (told_by g.R.ByteInput l.reader) cut.cause s.because.1.0 s.because.1.1 all,
     )

@@ -1,5 +1,6 @@
 use Rattle.std.proofs.Common.{◌≡◌, ◌≤◌, IsUtf8, length, rules, arith, ap}
-use Rattle.fast_spelled.proofs.Showing.{all_ascii, all_bytes, ascii_shown, two_each, unicode_shown}
+use Rattle.std.proofs.ByRecursion.{All-from_ascii}
+use Rattle.fast_spelled.proofs.Showing.{all_bytes, ascii_shown, two_each, unicode_shown}
 use Rattle.fast_spelled.proofs.shown.string_value.Goals as goal
 
 pub returns-in-Ok-clause-text : goal.returns-in-Ok-clause-text
@@ -10,7 +11,7 @@ returns-in-Ok-clause-text c =
 pub returns-in-Ok-clause-within : goal.returns-in-Ok-clause-within
 returns-in-Ok-clause-within c =
     let same : c.from_vec.result ≡ c.args.units.now = search rules in
-    rw same (omega (arith, c.if-units-gt-UNIT_LIMIT.false), all_ascii c.args.units.now (search rules))
+    rw same (omega (arith, c.if-units-gt-UNIT_LIMIT.false), All-from_ascii c.args.units.now (search rules))
 
 pub returns-in-Ok-from_str-clause-text : goal.returns-in-Ok-from_str-clause-text
 returns-in-Ok-from_str-clause-text c =

@@ -1,18 +1,32 @@
-use Rattle.fast_writer.proofs.Common.{ap, is_ok, sym, ◌∙◌, err_from_is_err_and}
-use Rattle.fast_writer.proofs.Relays.{relays_under, stops_under}
+use Rattle.fast_writer.proofs.Common.{◌≡◌, arith, ap, is_ok, sym, ◌∙◌, err_from_is_err_and, bytes_from, level_of, RelaysPart, length_of, subst, Kind, IfSome, IsTrue, is_of}
+use Rattle.fast_take.specs.Takes.{place_of, value_taken}
+use Rattle.fast_take.proofs.Telling.{best_lower}
+use Rattle.fast_writer.proofs.Relays.{count_length, relays_under, took_relayed, took_stops}
 use Rattle.fast_writer.proofs.SpeltParts.{appended_kinds}
 use Rattle.fast_writer.proofs.count.relay_count.Goals as goal
 
-pub number_in-count-requires : goal.number_in-count-requires
-number_in-count-requires g c =
-    rw (rw (c.view.ensures) at c.value.ensures) (rw (c.requires.kind) at (appended_kinds c.requires.part.typed c.in_ok-found.ensures.relayed.form))
-
-pub returns-in_err-found-clause-relays : goal.returns-in_err-found-clause-relays
-returns-in_err-found-clause-relays g c =
-    let p = err_from_is_err_and c.from_residual-in_err-found.result c.from_residual-in_err-found.ensures.1 in
-    rw (p.1, p.2) (stops_under c.in_ok-entry.ensures.value (c.entry_mut.follows.holds c.relay_entry.new.entry (ap is_ok c.in_ok-entry.was)).0 c.in_err-found.ensures)
+pub returns-in_err-took-clause-relays : goal.returns-in_err-took-clause-relays
+returns-in_err-took-clause-relays g c =
+    let p = err_from_is_err_and c.from_residual-in_err-took.result c.from_residual-in_err-took.ensures.1 in
+    rw (p.1, p.2) (took_stops (level_of c.args.segment.now) c.in_ok-entry.ensures.value (c.entry_mut.follows.holds c.take.new.entry (ap is_ok c.in_ok-entry.was)).0 c.in_err-took.ensures)
 
 pub returns-clause-relays : goal.returns-clause-relays
 returns-clause-relays g c =
-    rw (sym c.number_in-count.ensures ∙ (rw (c.view.ensures) at c.value.ensures))
-    (relays_under c.in_ok-entry.ensures.value (c.entry_mut.follows.holds c.relay_entry.new.entry (ap is_ok c.in_ok-entry.was)).0 c.part_needs_bit.ensures c.in_ok-found.ensures c.in_ok-ask.ensures.asked)
+    let part = c.args.part.now in
+    let bytes = c.args.bytes.now in
+    let at = c.args.at in
+    let a = c.take.new.aside in
+    let t = c.in_ok-took.took in
+    let old = c.in_ok-entry.entry.now in
+    let new = c.take.new.entry in
+    let h = c.in_ok-took.ensures in
+    let v = value_taken part new c.args.bit bytes a t in
+    let l = level_of c.args.segment.now in
+    let relayed = took_relayed c.args.level part old new c.args.bit bytes l.bytes at a t h in
+    let kinds = appended_kinds c.requires.part.typed relayed.form in
+    let lower = best_lower c.args.level part old new c.args.bit bytes at a t c.requires.bit c.requires.part.typed.default_has_value (bytes_from bytes at (λ k. omega (arith, c.type_inv.bytes k))) h in
+    let relays : RelaysPart c.args.level part (g.E.Entries.contents c.args.entries.now) (g.E.Entries.contents (c.entry_mut.follows.lender new)) c.args.bit v bytes at (place_of t) l (level_of c.ask.new.self) =
+    relays_under c.in_ok-entry.ensures.value (c.entry_mut.follows.holds new (ap is_ok c.in_ok-entry.was)).0 c.part_needs_bit.ensures
+    (record { place = h.place; relayed = relayed; lower = lower }) (rw (c.in_ok-append_best.ensures.ok, c.best_bit.ensures) at c.in_ok-ask.ensures.asked) in
+    let is : v ≡ length_of c.count_in-count.result = c.count_in-count.ensures bytes (subst (λ (k : Kind). IfSome v (λ w. IsTrue (is_of k w))) c.requires.kind kinds) ∙ count_length c.count_in-count.result in
+    rw (sym is, c.place.ensures) relays

@@ -1,18 +1,31 @@
-use Rattle.fast_writer.proofs.Common.{ap, is_ok, err_from_is_err_and, value_found}
-use Rattle.fast_writer.proofs.Relays.{relays_under, stops_under}
-use Rattle.fast_writer.proofs.SpeltParts.{appended_kinds, is_there}
+use Rattle.fast_writer.proofs.Common.{arith, ap, is_ok, err_from_is_err_and, bytes_from, level_of, RelaysPart}
+use Rattle.fast_take.specs.Takes.{is_there, place_of, value_taken}
+use Rattle.fast_take.proofs.Telling.{best_lower}
+use Rattle.fast_writer.proofs.Relays.{relays_under, took_relayed, took_stops, took_there}
+use Rattle.fast_writer.proofs.SpeltParts.{appended_kinds}
 use Rattle.fast_writer.proofs.relay.relay_part.Goals as goal
 
-pub returns-in_err-found-clause-relays : goal.returns-in_err-found-clause-relays
-returns-in_err-found-clause-relays g c =
-    let p = err_from_is_err_and c.from_residual-in_err-found.result c.from_residual-in_err-found.ensures.1 in
-    rw (p.1, p.2) (stops_under c.in_ok-entry.ensures.value (c.entry_mut.follows.holds c.relay_entry.new.entry (ap is_ok c.in_ok-entry.was)).0 c.in_err-found.ensures)
+pub returns-in_err-took-clause-relays : goal.returns-in_err-took-clause-relays
+returns-in_err-took-clause-relays g c =
+    let p = err_from_is_err_and c.from_residual-in_err-took.result c.from_residual-in_err-took.ensures.1 in
+    rw (p.1, p.2) (took_stops (level_of c.args.segment.now) c.in_ok-entry.ensures.value (c.entry_mut.follows.holds c.take.new.entry (ap is_ok c.in_ok-entry.was)).0 c.in_err-took.ensures)
 
 pub returns-clause-relays : goal.returns-clause-relays
 returns-clause-relays g c =
-    let new = c.relay_entry.new.entry in
-    let r = c.in_ok-found.ensures in (
-      value_found c.args.part.now new c.in_ok-found.found,
-      is_there c.args.part.now.kind c.value.result c.is_some-there.result c.is_some-there.ensures (rw (c.view.ensures) at c.value.ensures) (appended_kinds c.requires.part.typed r.relayed.form),
-      relays_under c.in_ok-entry.ensures.value (c.entry_mut.follows.holds new (ap is_ok c.in_ok-entry.was)).0 c.part_needs_bit.ensures r c.in_ok-ask.ensures.asked,
-    )
+    let part = c.args.part.now in
+    let bytes = c.args.bytes.now in
+    let at = c.args.at in
+    let a = c.take.new.aside in
+    let t = c.in_ok-took.took in
+    let old = c.in_ok-entry.entry.now in
+    let new = c.take.new.entry in
+    let h = c.in_ok-took.ensures in
+    let v = value_taken part new c.args.bit bytes a t in
+    let l = level_of c.args.segment.now in
+    let relayed = took_relayed c.args.level part old new c.args.bit bytes l.bytes at a t h in
+    let kinds = appended_kinds c.requires.part.typed relayed.form in
+    let lower = best_lower c.args.level part old new c.args.bit bytes at a t c.requires.bit c.requires.part.typed.default_has_value (bytes_from bytes at (λ k. omega (arith, c.type_inv.bytes k))) h in
+    let relays : RelaysPart c.args.level part (g.E.Entries.contents c.args.entries.now) (g.E.Entries.contents (c.entry_mut.follows.lender new)) c.args.bit v bytes at (place_of t) l (level_of c.ask.new.self) =
+    relays_under c.in_ok-entry.ensures.value (c.entry_mut.follows.holds new (ap is_ok c.in_ok-entry.was)).0 c.part_needs_bit.ensures
+    (record { place = h.place; relayed = relayed; lower = lower }) (rw (c.in_ok-append_best.ensures.ok, c.best_bit.ensures) at c.in_ok-ask.ensures.asked) in
+    rw (c.is_there.ensures, c.place.ensures) (v, took_there part.kind v (is_there t a) h.there kinds, relays)

@@ -26,7 +26,7 @@ read_values-returns-in_err-instruction t c =
     let at : get_or vs l.value-index d ≡ d = search rules in
     let e = c.in_err-instruction.field-0.0 in
     let failed : c.read_one.result ≡ Err e = search rules in
-    let same : c.from_residual.result ≡ Err e = search rules in
+    let same : c.from_residual-in_err-instruction.result ≡ Err e = search rules in
     let reads = subst (λ r. ReadsAs written_of r (one_of (view d) l.next (members_in (view d) (next_number l.next)))) failed c.read_one.ensures in
     subst (λ r. ReadsAs (λ instructions. written_list (map written_of instructions.items)) r (read_items (items_view vs) c.args.number)) (sym same)
     (fails written_of (λ (instructions : Vec Instruction Global). written_list (map written_of instructions.items)) e _ _

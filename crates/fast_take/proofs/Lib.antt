@@ -1,0 +1,5 @@
+mod Generally
+mod Sending
+mod Decimals
+mod Vectors
+pub mod Telling

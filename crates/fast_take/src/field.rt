@@ -1,0 +1,118 @@
+//! A field, whatever it is.
+
+ghost use Rattle.std.specs.Prelude.{◌≡◌, ◌≤◌, true, length, MatchResult};
+ghost use Rattle.fast_field.specs.Parts.{IsBitOf, IsFieldPart};
+ghost use Rattle.fast_field.specs.Within.{HoldsScalar};
+ghost use Rattle.fast_relay.specs.Numbers.{SpellsWhole};
+ghost use Rattle.fast_relay.specs.Texts.{IsVectorKind};
+ghost use Rattle.fast_take.specs.Sent.{IsNumeric, SendsNumber};
+ghost use Rattle.fast_take.specs.Takes.{IsStopped, IsTook};
+
+use crate::decimal::take_decimal;
+use crate::general::{take_generally, take_left_out};
+use crate::number::take_integer;
+use crate::took::{Aside, Took};
+use crate::vector::take_vector;
+use fast_dictionary::Entry;
+use fast_field::FieldFault;
+use fast_template::{FieldPart, Kind, Operator};
+use fast_wire::Level;
+use std::alloc::Global;
+
+/// Whether bit 1 sends a number, or two.
+#[inline(always)]
+fn sends_number(instr: &FieldPart) -> bool
+    ensures number { result ≡ true → IsNumeric instr.now.kind }
+    ensures sends { result ≡ true → SendsNumber instr.now.operator }
+{
+    match instr.operator {
+        Operator::Constant | Operator::Tail => false,
+        Operator::Plain
+        | Operator::Default
+        | Operator::Copy
+        | Operator::Increment
+        | Operator::Delta => match instr.kind {
+            Kind::UInt32 | Kind::Int32 | Kind::UInt64 | Kind::Int64 | Kind::Decimal => true,
+            Kind::Ascii | Kind::Unicode | Kind::Bytes => false,
+        },
+    }
+}
+
+/// Whether bit 1 sends a Unicode string or a byte vector whole.
+#[inline(always)]
+fn sends_vector(instr: &FieldPart) -> bool
+    ensures kind { result ≡ true → IsVectorKind instr.now.kind }
+    ensures whole { result ≡ true → SpellsWhole instr.now.operator }
+{
+    match instr.kind {
+        Kind::Unicode | Kind::Bytes => match instr.operator {
+            Operator::Plain | Operator::Default | Operator::Copy | Operator::Increment => true,
+            Operator::Constant | Operator::Delta | Operator::Tail => false,
+        },
+        _ => false,
+    }
+}
+
+/// Takes what was sent of a field that begins at `at`, and makes its entry the one afterwards.
+///
+/// # Errors
+///
+/// The first fault of the field, and the entry is as it was. Memory: a growth was refused, and no more bytes were needed.
+pub(crate) fn take_sent(
+    alloc: Global,
+    instr: &FieldPart,
+    entry: &mut Entry,
+    level: Level,
+    bytes: &[u8],
+    at: usize,
+    aside: &mut Aside,
+) -> Result<Took, FieldFault>
+    requires place { at ≤ length bytes.now }
+    requires part { IsFieldPart instr.now }
+    requires entry { HoldsScalar entry.old }
+    ensures { MatchResult result
+        (IsTook level instr.now entry.old entry.new true bytes.now at aside.new)
+        (IsStopped level instr.now entry.old entry.new true bytes.now at) }
+{
+    if sends_number(instr) {
+        return match instr.kind {
+            Kind::Decimal => take_decimal(instr, entry, level, bytes, at, aside),
+            _ => take_integer(instr, entry, level, bytes, at, aside),
+        };
+    }
+    if sends_vector(instr) {
+        return take_vector(alloc, instr, entry, level, bytes, at, aside);
+    }
+    take_generally(alloc, instr, entry, level, bytes, at, aside)
+}
+
+/// Takes a field that begins at `at`, and makes its entry the one afterwards. `bit` is the field's bit in the presence map,
+/// true where it has none.
+///
+/// # Errors
+///
+/// As `take_sent`.
+pub fn take(
+    alloc: Global,
+    instr: &FieldPart,
+    entry: &mut Entry,
+    bit: bool,
+    level: Level,
+    bytes: &[u8],
+    at: usize,
+    aside: &mut Aside,
+) -> Result<Took, FieldFault>
+    requires place { at ≤ length bytes.now }
+    requires bit { IsBitOf instr.now bit }
+    requires part { IsFieldPart instr.now }
+    requires entry { HoldsScalar entry.old }
+    ensures { MatchResult result
+        (IsTook level instr.now entry.old entry.new bit bytes.now at aside.new)
+        (IsStopped level instr.now entry.old entry.new bit bytes.now at) }
+{
+    if bit {
+        take_sent(alloc, instr, entry, level, bytes, at, aside)
+    } else {
+        take_left_out(alloc, instr, entry, level, bytes, at, aside)
+    }
+}
