@@ -8,7 +8,7 @@ ghost use Rattle.fast_field.specs.Parts.{IsBitOf, IsFieldPart};
 use crate::fields::{Value, part_of};
 use crate::judged::{applies_to, holds_scalar};
 use crate::same::same;
-use crate::ways::{generated, is_part, needs_initial};
+use crate::ways::{OPERATORS, PARTS, generated, is_part, needs_initial};
 use fast_dictionary::Entry;
 use fast_field::{FieldFault, FieldRefusal, Level, read_field, units, write_in_place};
 use fast_take::{Aside, Took, Unkept, take};
@@ -96,7 +96,10 @@ fn is_taken(
         same(rt, false, true);
         return Ok((entry, None));
     }
-    let taken = take(alloc, instr, &mut entry, bit, level, bytes, at, aside);
+    let taken = match take(alloc, instr, &mut entry, bit, level, bytes, at, aside) {
+        Err(FieldFault::Memory) => return Err(AllocError),
+        taken => taken,
+    };
     match read_field(alloc, instr, before.view(), bit, level, bytes, at) {
         Err(FieldFault::Memory) => Err(AllocError),
         Err(fault) => {
@@ -105,12 +108,9 @@ fn is_taken(
             Ok((entry, None))
         }
         Ok((value, after, next)) => {
-            let took = match taken {
-                Err(fault) => {
-                    same(rt, fault, FieldFault::Memory);
-                    return Err(AllocError);
-                }
-                Ok(took) => took,
+            let Ok(took) = taken else {
+                same(rt, taken.is_ok(), true);
+                return Ok((entry, None));
             };
             same(rt, &entry, &after);
             same(rt, took.place(), next);
@@ -203,28 +203,6 @@ fn instructions_taken(
 
 #[test]
 fn generated_fields_are_taken_as_they_are_read(rt: HostRuntime) -> Result<(), AllocError> {
-    const PARTS: &[(Part, Kind, Value)] = &[
-        (Part::Whole, Kind::UInt32, Value::U32(5)),
-        (Part::Whole, Kind::Int32, Value::I32(-5)),
-        (Part::Whole, Kind::UInt64, Value::U64(5)),
-        (Part::Whole, Kind::Int64, Value::I64(-5)),
-        (Part::Whole, Kind::Decimal, Value::Decimal(-2, 5)),
-        (Part::Whole, Kind::Ascii, Value::Ascii(b"AB")),
-        (Part::Whole, Kind::Unicode, Value::Unicode("AB")),
-        (Part::Whole, Kind::Bytes, Value::Bytes(b"AB")),
-        (Part::Length, Kind::UInt32, Value::U32(5)),
-        (Part::Exponent, Kind::Int32, Value::I32(-2)),
-        (Part::Mantissa, Kind::Int64, Value::I64(-5)),
-    ];
-    const OPERATORS: &[Operator] = &[
-        Operator::Plain,
-        Operator::Constant,
-        Operator::Default,
-        Operator::Copy,
-        Operator::Increment,
-        Operator::Delta,
-        Operator::Tail,
-    ];
     let mut numbers = Numbers::new(2);
     for (which, kind, initial) in PARTS {
         for operator in OPERATORS {

@@ -20,6 +20,31 @@ use std::alloc::{AllocError, Global};
 use std::process::Abort;
 use template_tests::generated::{Numbers, put_sent};
 
+// Each type as a field has it, with an initial value.
+pub(crate) const PARTS: &[(Part, Kind, Value)] = &[
+    (Part::Whole, Kind::UInt32, Value::U32(5)),
+    (Part::Whole, Kind::Int32, Value::I32(-5)),
+    (Part::Whole, Kind::UInt64, Value::U64(5)),
+    (Part::Whole, Kind::Int64, Value::I64(-5)),
+    (Part::Whole, Kind::Decimal, Value::Decimal(-2, 5)),
+    (Part::Whole, Kind::Ascii, Value::Ascii(b"AB")),
+    (Part::Whole, Kind::Unicode, Value::Unicode("AB")),
+    (Part::Whole, Kind::Bytes, Value::Bytes(b"AB")),
+    (Part::Length, Kind::UInt32, Value::U32(5)),
+    (Part::Exponent, Kind::Int32, Value::I32(-2)),
+    (Part::Mantissa, Kind::Int64, Value::I64(-5)),
+];
+
+pub(crate) const OPERATORS: &[Operator] = &[
+    Operator::Plain,
+    Operator::Constant,
+    Operator::Default,
+    Operator::Copy,
+    Operator::Increment,
+    Operator::Delta,
+    Operator::Tail,
+];
+
 // How many fields of an instruction follow one another.
 const FIELDS: u32 = 96;
 
@@ -286,28 +311,6 @@ fn instructions_go_both_ways(
 
 #[test]
 fn generated_fields_go_the_same_both_ways(rt: HostRuntime) -> Result<(), AllocError> {
-    const PARTS: &[(Part, Kind, Value)] = &[
-        (Part::Whole, Kind::UInt32, Value::U32(5)),
-        (Part::Whole, Kind::Int32, Value::I32(-5)),
-        (Part::Whole, Kind::UInt64, Value::U64(5)),
-        (Part::Whole, Kind::Int64, Value::I64(-5)),
-        (Part::Whole, Kind::Decimal, Value::Decimal(-2, 5)),
-        (Part::Whole, Kind::Ascii, Value::Ascii(b"AB")),
-        (Part::Whole, Kind::Unicode, Value::Unicode("AB")),
-        (Part::Whole, Kind::Bytes, Value::Bytes(b"AB")),
-        (Part::Length, Kind::UInt32, Value::U32(5)),
-        (Part::Exponent, Kind::Int32, Value::I32(-2)),
-        (Part::Mantissa, Kind::Int64, Value::I64(-5)),
-    ];
-    const OPERATORS: &[Operator] = &[
-        Operator::Plain,
-        Operator::Constant,
-        Operator::Default,
-        Operator::Copy,
-        Operator::Increment,
-        Operator::Delta,
-        Operator::Tail,
-    ];
     let mut numbers = Numbers::new(1);
     for (which, kind, initial) in PARTS {
         for operator in OPERATORS {
