@@ -1,5 +1,5 @@
 -- What it is to have taken a field: what was read of it, its entry afterwards, and its best form. (Own.)
-use Rattle.std.specs.Prelude.{◌≡◌, ℕ, ◌≤◌, Bool, true, false, List, [], ◌++◌, length, drop, slice_range, Option, Some, None, Ok}
+use Rattle.std.specs.Prelude.{◌≡◌, ℕ, ◌≤◌, Bool, true, false, List, [], ◌++◌, length, drop, slice_range, Option, Some, None, Ok, Err}
 use Rattle.std.specs.Option.{is_some}
 use Rattle.fast_wire.specs.declared.level.Level.{Level}
 use Rattle.fast_wire.specs.Reading.{Fails}
@@ -105,6 +105,11 @@ pub record IsTook (level : Level) (i : FieldPart) (old new : Entry) (bit : Bool)
 -- The field has this first fault, or memory was refused where no more bytes were needed; and the entry is as it was.
 pub record IsStopped (level : Level) (i : FieldPart) (old new : Entry) (bit : Bool) (bytes : List ℕ) (at : ℕ) (f : FieldFault) : Type 0 where
   pub fault : Fails OrRefused f (field_at level i old bit (drop at bytes))
+  pub entry : new ≡ old
+
+-- The field has this first fault, and the entry is as it was.
+pub record IsFaulted (level : Level) (i : FieldPart) (old new : Entry) (bit : Bool) (bytes : List ℕ) (at : ℕ) (f : FieldFault) : Type 0 where
+  pub fault : field_at level i old bit (drop at bytes) ≡ Err f
   pub entry : new ≡ old
 
 -- ---- No public clause names these.

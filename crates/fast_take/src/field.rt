@@ -1,12 +1,13 @@
 //! A field, whatever it is.
 
-ghost use Rattle.std.specs.Prelude.{◌≡◌, ◌≤◌, true, length, MatchResult};
+ghost use Rattle.std.specs.Prelude.{◌≡◌, ◌≤◌, false, true, length, IfErr, IsTrue, MatchResult};
+ghost use Rattle.fast_value.specs.Scalar.{is_integer};
 ghost use Rattle.fast_field.specs.Parts.{IsBitOf, IsFieldPart};
 ghost use Rattle.fast_field.specs.Within.{HoldsScalar};
 ghost use Rattle.fast_relay.specs.Numbers.{SpellsWhole};
 ghost use Rattle.fast_relay.specs.Texts.{IsVectorKind};
 ghost use Rattle.fast_take.specs.Sent.{IsNumeric, SendsNumber};
-ghost use Rattle.fast_take.specs.Takes.{IsStopped, IsTook};
+ghost use Rattle.fast_take.specs.Takes.{IsFaulted, IsStopped, IsTook};
 
 use crate::decimal::take_decimal;
 use crate::general::{take_generally, take_left_out};
@@ -24,6 +25,7 @@ use std::alloc::Global;
 fn sends_number(instr: &FieldPart) -> bool
     ensures number { result ≡ true → IsNumeric instr.now.kind }
     ensures sends { result ≡ true → SendsNumber instr.now.operator }
+    ensures other { result ≡ false → IsTrue (is_integer instr.now.kind) → SendsNumber instr.now.operator → ⊥ }
 {
     match instr.operator {
         Operator::Constant | Operator::Tail => false,
@@ -57,7 +59,8 @@ fn sends_vector(instr: &FieldPart) -> bool
 ///
 /// # Errors
 ///
-/// The first fault of the field, and the entry is as it was. Memory: a growth was refused, and no more bytes were needed.
+/// The first fault of the field, and the entry is as it was. Memory: a growth was refused, and no more bytes were needed. An
+/// integer asks for none.
 pub(crate) fn take_sent(
     alloc: Global,
     instr: &FieldPart,
@@ -70,9 +73,11 @@ pub(crate) fn take_sent(
     requires place { at ≤ length bytes.now }
     requires part { IsFieldPart instr.now }
     requires entry { HoldsScalar entry.old }
-    ensures { MatchResult result
+    ensures taken { MatchResult result
         (IsTook level instr.now entry.old entry.new true bytes.now at aside.new)
         (IsStopped level instr.now entry.old entry.new true bytes.now at) }
+    ensures integer { IsTrue (is_integer instr.now.kind) → SendsNumber instr.now.operator
+        → IfErr result (IsFaulted level instr.now entry.old entry.new true bytes.now at) }
 {
     if sends_number(instr) {
         return match instr.kind {
@@ -106,9 +111,11 @@ pub fn take(
     requires bit { IsBitOf instr.now bit }
     requires part { IsFieldPart instr.now }
     requires entry { HoldsScalar entry.old }
-    ensures { MatchResult result
+    ensures taken { MatchResult result
         (IsTook level instr.now entry.old entry.new bit bytes.now at aside.new)
         (IsStopped level instr.now entry.old entry.new bit bytes.now at) }
+    ensures integer { bit ≡ true → IsTrue (is_integer instr.now.kind) → SendsNumber instr.now.operator
+        → IfErr result (IsFaulted level instr.now entry.old entry.new true bytes.now at) }
 {
     if bit {
         take_sent(alloc, instr, entry, level, bytes, at, aside)

@@ -14,7 +14,7 @@ ghost use Rattle.fast_field.specs.Spelled.{SpellsIntegerUsually, overlong_number
 ghost use Rattle.fast_field.specs.Values.{integer_of};
 ghost use Rattle.fast_relay.specs.Judged.{sent_unsigned};
 ghost use Rattle.fast_take.specs.Sent.{SendsNumber, made, valued};
-ghost use Rattle.fast_take.specs.Takes.{IsStopped, IsTook};
+ghost use Rattle.fast_take.specs.Takes.{IsFaulted, IsTook};
 
 use crate::general::number_aside;
 use crate::took::{Aside, Took};
@@ -170,7 +170,7 @@ pub(crate) fn take_integer(
     requires sends { SendsNumber instr.now.operator }
     ensures { MatchResult result
         (IsTook level instr.now entry.old entry.new true bytes.now at aside.new)
-        (IsStopped level instr.now entry.old entry.new true bytes.now at) }
+        (IsFaulted level instr.now entry.old entry.new true bytes.now at) }
 {
     let unsigned = sends_unsigned(instr);
     let (sent, next) = read_integer(unsigned, instr.presence, level, bytes, at)?;

@@ -1,6 +1,6 @@
 //! What is told of a field that was taken.
 
-ghost use Rattle.std.specs.Prelude.{◌≡◌, ◌≤◌, [], ◌++◌, ℕ, List, IfSome, IsTrue, OnErr, OnOk, Some, length, not, slice_range, true};
+ghost use Rattle.std.specs.Prelude.{◌≡◌, ◌≤◌, [], ◌++◌, ℕ, List, IfSome, IsTrue, OnErr, OnOk, Some, length, not, slice_range, true, vec_capacity, vec_len, ◌+◌, ◌<◌};
 ghost use Rattle.std.specs.Option.{option_copied};
 ghost use Rattle.fast_value.specs.Scalar.{is_of};
 ghost use Rattle.fast_value.specs.declared.kind.Kind as kind_type;
@@ -151,7 +151,7 @@ impl Aside {
     ///
     /// # Errors
     ///
-    /// A growth was refused, and nothing was appended.
+    /// A growth was refused, for which there was no room, and nothing was appended.
     pub fn append_best(
         &self,
         took: Took,
@@ -163,6 +163,7 @@ impl Aside {
         requires first { first_of at self.now took ≤ place_of took }
         ensures ok { OnOk result (out.new.items ≡ out.old.items ++ best_form bytes.now at self.now took) }
         ensures unchanged { OnErr result (out.new.items ≡ out.old.items) }
+        ensures room { OnErr result (vec_capacity out.old < vec_len out.old + length (best_form bytes.now at self.now took)) }
     {
         match took {
             Took::Stands(next) | Took::Absent(next) => out.extend_from_slice(&bytes[at..next]),

@@ -1,6 +1,6 @@
 //! What is written while fields are read: bytes that stand in their best form are noted, and appended in one piece.
 
-ghost use Rattle.std.specs.Prelude.{◌≡◌, ◌≤◌, ◌++◌, ℕ, List, [], true, false, length, slice_range};
+ghost use Rattle.std.specs.Prelude.{◌≡◌, ◌≤◌, ◌++◌, ℕ, List, [], true, false, length, slice_range, vec_capacity, vec_len, ◌+◌, ◌-◌, ◌<◌};
 ghost use Rattle.fast_relay.specs.Best.{form_of};
 ghost use Rattle.fast_take.specs.Takes.{best_form, first_of, place_of};
 ghost use Rattle.fast_writer.specs.Runs.{IsRun, written};
@@ -67,6 +67,8 @@ impl Run {
         ensures place { self.new.place ≡ self.old.place }
         ensures unchanged { result ≡ false → (self.new.out.items ≡ self.old.out.items)
             × (self.new.from ≡ self.old.from) }
+        ensures room { result ≡ false → vec_capacity self.old.out < vec_len self.old.out + (self.old.place - self.old.from) }
+        ensures grown { vec_capacity self.old.out ≤ vec_capacity self.new.out }
     {
         if self.from == self.place {
             return true;
@@ -88,6 +90,8 @@ impl Run {
         requires within { best.next ≤ length bytes.now }
         ensures written { result ≡ true → written bytes.now self.new ≡ written bytes.now self.old ++ form_of bytes.now best }
         ensures run { result ≡ true → IsRun bytes.now best.next self.new }
+        ensures room { result ≡ false → vec_capacity self.old.out
+            < vec_len self.old.out + (self.old.place - self.old.from) + length (form_of bytes.now best) }
     {
         if best.first == self.place && best.removal.is_none() {
             self.keep(best.next);
@@ -115,6 +119,8 @@ impl Run {
         ensures written { result ≡ true → written bytes.now self.new
             ≡ written bytes.now self.old ++ best_form bytes.now self.old.place aside.now took }
         ensures run { result ≡ true → IsRun bytes.now (place_of took) self.new }
+        ensures room { result ≡ false → vec_capacity self.old.out
+            < vec_len self.old.out + (self.old.place - self.old.from) + length (best_form bytes.now self.old.place aside.now took) }
     {
         match took {
             Took::Stands(next) | Took::Absent(next) => {

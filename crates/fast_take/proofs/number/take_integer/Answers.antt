@@ -1,4 +1,4 @@
-use Rattle.std.proofs.Common.{arith, drop, refl, sym, inl, rules, true}
+use Rattle.std.proofs.Common.{arith, drop, refl, sym, rules, true}
 use Rattle.std.proofs.lemmas.Int.{to_z-of_z}
 use Rattle.std.specs.Int.{w128}
 use Rattle.std.specs.Int.RustNames.{FitsSigned}
@@ -12,7 +12,7 @@ returns-in_err-sent c =
     let i = c.args.instr.now in
     let p = err_from_is_err_and c.from_residual.result c.from_residual.ensures.1 in
     let fails = rw (c.sends_unsigned-unsigned.ensures) at c.in_err-sent.ensures.gives in
-    rw (p.1, p.2) (record { fault = inl (sent_fails c.args.level i c.args.entry.now (drop c.args.at c.args.bytes.now) c.in_err-sent.field-0.0 c.requires.sends c.requires.integer fails); entry = refl })
+    rw (p.1, p.2) (record { fault = (sent_fails c.args.level i c.args.entry.now (drop c.args.at c.args.bytes.now) c.in_err-sent.field-0.0 c.requires.sends c.requires.integer fails); entry = refl })
 
 pub needed_from-first-requires-clause-spelt : goal.needed_from-first-requires-clause-spelt
 needed_from-first-requires-clause-spelt c =
@@ -31,7 +31,7 @@ returns-in_err-value-in-Value c =
     let read = rw (c.sends_unsigned-unsigned.ensures, c.in-Value.is) at s.ensures.gives in
     let fits : FitsSigned w128 c.in-Value.sent = search rules in
     let fails = rw (c.view-in-Value.ensures, to_z-of_z w128 c.in-Value.sent fits) at c.in_err-value-in-Value.ensures.valued in
-    rw (p.1, p.2) (record { fault = inl (value_fails c.args.level i c.args.entry.now (drop at bytes) (drop s.next bytes) c.in-Value.sent c.in_err-value-in-Value.field-0.0 c.requires.sends c.requires.integer read fails); entry = refl })
+    rw (p.1, p.2) (record { fault = (value_fails c.args.level i c.args.entry.now (drop at bytes) (drop s.next bytes) c.in-Value.sent c.in_err-value-in-Value.field-0.0 c.requires.sends c.requires.integer read fails); entry = refl })
 
 pub returns-in-Null : goal.returns-in-Null
 returns-in-Null c =

@@ -8,7 +8,7 @@ use Rattle.fast_writer.proofs.relay.relay_part.Goals as goal
 pub returns-in_err-took-clause-relays : goal.returns-in_err-took-clause-relays
 returns-in_err-took-clause-relays g c =
     let p = err_from_is_err_and c.from_residual-in_err-took.result c.from_residual-in_err-took.ensures.1 in
-    rw (p.1, p.2) (took_stops (level_of c.args.segment.now) c.in_ok-entry.ensures.value (c.entry_mut.follows.holds c.take.new.entry (ap is_ok c.in_ok-entry.was)).0 c.in_err-took.ensures)
+    rw (p.1, p.2) (took_stops (level_of c.args.segment.now) c.in_ok-entry.ensures.value (c.entry_mut.follows.holds c.take.new.entry (ap is_ok c.in_ok-entry.was)).0 c.in_err-took.ensures.taken)
 
 pub returns-clause-relays : goal.returns-clause-relays
 returns-clause-relays g c =
@@ -19,7 +19,7 @@ returns-clause-relays g c =
     let t = c.in_ok-took.took in
     let old = c.in_ok-entry.entry.now in
     let new = c.take.new.entry in
-    let h = c.in_ok-took.ensures in
+    let h = c.in_ok-took.ensures.taken in
     let v = value_taken part new c.args.bit bytes a t in
     let l = level_of c.args.segment.now in
     let relayed = took_relayed c.args.level part old new c.args.bit bytes l.bytes at a t h in
