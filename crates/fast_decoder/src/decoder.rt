@@ -116,7 +116,7 @@ impl<'a, E: Entries> Decoder<'a, E> {
             → Carries (mode_of self.old.machine) (templates_in self.old.machine.traversal.set.now) fed messages)) }
         ensures truncated { self.old.machine.fault ≡ None
             → IfErr result (λ f. (f.cause ≡ Cause.Truncated)
-            × ((fed : List ℕ) (messages : List Content) → self.old.machine.fed ≤ 2 ^ 60
+            × ((fed : List ℕ) (messages : List Content)
             → Follows self.old.machine [] fed messages
             → Follows self.new.machine [] fed messages)) }
         ensures answer { Answers result self.new.machine.fault }
