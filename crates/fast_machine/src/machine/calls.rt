@@ -672,8 +672,7 @@ impl<'a, R: Receiver, E: Entries> Machine<'a, R, E> {
             → Carries (mode_of self.old) (templates_in self.old.traversal.set.now) fed messages)) }
         ensures truncated { self.old.fault ≡ None → IfErr result (λ f. (f.cause ≡ Cause.Truncated)
             × ((before : List Content) (fed : List ℕ) (messages : List Content)
-            → self.old.fed ≤ 2 ^ 60 → Follows self.old before fed messages
-            → Follows self.new before fed messages)) }
+            → Follows self.old before fed messages → Follows self.new before fed messages)) }
         ensures left { Retains R.stands R.keeps self.old.receiver self.new.receiver }
         ensures answer { Answers result self.new.fault }
         ensures same { IsSameStream self.old self.new }
@@ -693,7 +692,6 @@ impl<'a, R: Receiver, E: Entries> Machine<'a, R, E> {
 
     /// The fault of a stream of which no more bytes come for this cause: where the next piece would begin.
     pub fn cut(&mut self, cause: Cause) -> Fault
-        requires few { self.now.fed ≤ 2 ^ 60 }
         ensures cause { result.cause ≡ cause }
         ensures place { self.old.fault ≡ None → (before : List Content) (fed : List ℕ)
             (messages : List Content) → Follows self.old before fed messages
