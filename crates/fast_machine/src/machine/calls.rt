@@ -1,6 +1,6 @@
 //! The calls of a machine.
 
-ghost use Rattle.std.specs.Prelude.{◌≡◌, ◌≢◌, ◌≤◌, ◌<◌, ◌+◌, ◌*◌, ◌-◌, ◌^◌, ◌++◌, ◌⊎◌, [], ℕ, true, false, List, None, Some, Err, OnOk, OnErr, IfOk, IfErr, IfSome, IfNone, length, take, drop, map};
+ghost use Rattle.std.specs.Prelude.{◌≡◌, ◌≢◌, ◌≤◌, ◌<◌, ◌+◌, ◌*◌, ◌-◌, ◌^◌, ◌++◌, ◌⊎◌, [], ℕ, true, false, List, None, Some, Err, OnOk, OnErr, IfOk, IfErr, IfSome, IfNone, length, take, drop, map, vec_capacity, vec_len};
 ghost use Rattle.std.specs.FinMap as finite;
 ghost use Rattle.fast_template.specs.TemplateSets.{IsSound, templates_in};
 ghost use Rattle.fast_stream.specs.Nodes.{Content};
@@ -64,6 +64,7 @@ fn fault_of(halt: Halt, messages: u64, fed: u64, left: usize, template: u32) -> 
 fn append_many(bytes: &mut Vec<u8>, chunk: &[u8]) -> Result<(), AllocError>
     ensures items { OnOk result (bytes.new.items ≡ bytes.old.items ++ chunk.now) }
     ensures same { OnErr result (bytes.new.items ≡ bytes.old.items) }
+    ensures room { OnErr result (vec_capacity bytes.old < vec_len bytes.old + length chunk.now) }
 {
     bytes.extend_from_slice(chunk)
 }
@@ -73,6 +74,7 @@ fn append_many(bytes: &mut Vec<u8>, chunk: &[u8]) -> Result<(), AllocError>
 fn append(bytes: &mut Vec<u8>, chunk: &[u8]) -> Result<(), AllocError>
     ensures items { OnOk result (bytes.new.items ≡ bytes.old.items ++ chunk.now) }
     ensures same { OnErr result (bytes.new.items ≡ bytes.old.items) }
+    ensures room { OnErr result (vec_capacity bytes.old < vec_len bytes.old + length chunk.now) }
 {
     match chunk {
         [byte] => {
