@@ -49,7 +49,7 @@ pub use Rattle.fast_value.specs.Scalar.{exponent_in_range, in_range, is_integer,
 pub use Rattle.fast_value.specs.declared.kind.Kind.{Kind}
 pub use Rattle.fast_value.specs.declared.kind.Kind.TheVariants.{UInt32}
 pub use Rattle.fast_value.specs.declared.kind.Operator.{Operator}
-pub use Rattle.fast_value.specs.declared.kind.Operator.TheVariants.{Plain}
+pub use Rattle.fast_value.specs.declared.kind.Operator.TheVariants.{Copy, Plain}
 pub use Rattle.fast_value.specs.declared.kind.Part.{Part}
 pub use Rattle.fast_value.specs.declared.kind.Part.TheVariants.{Length}
 pub use Rattle.fast_value.specs.declared.kind.Presence.{Presence}
@@ -94,7 +94,7 @@ pub use Rattle.fast_relay.specs.Best.{HasBest}
 pub use Rattle.fast_relay.specs.Judged.{Adds, EndGives, IfFound, JudgedTo, JudgesFrom, Leaves, LeavesWhole, NumberGives, PairGives, PairStandsFrom, StandsAt, StandsFrom, TextGives, UnitsGive, UnitsStandFrom, sent_unsigned, under, zero_byte}
 pub use Rattle.fast_relay.specs.Kept.{TakesKept, TakesText, keeps_value}
 pub use Rattle.fast_relay.specs.Numbers.{KeepsNothing, SpellsWhole, Spelt}
-pub use Rattle.fast_relay.specs.OneByte.{RelaysByte}
+pub use Rattle.fast_relay.specs.OneByte.{RelaysByte, StandsByte}
 pub use Rattle.fast_relay.specs.Relayed.{Judges, Takes}
 pub use Rattle.fast_relay.specs.Skips.{Skips}
 pub use Rattle.fast_relay.specs.Texts.{GivesCut, GivesTail, IsText, IsVectorKind}

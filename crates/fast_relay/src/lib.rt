@@ -39,7 +39,7 @@ mod words;
 pub use best::{Best, best_of, judge_other};
 pub use integers::is_unsigned;
 pub use judged::{Judged, judge_field};
-pub use one_byte::read_short_length;
+pub use one_byte::{read_short_length, take_short_number};
 pub use passed::pass_quickly;
 pub use taken::{keeps_value, take_kept, take_kept_number, take_number};
 pub use taken_text::take_aside;

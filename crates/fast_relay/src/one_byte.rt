@@ -1,21 +1,26 @@
 //! Lengths and removals in one byte, as most are, which is their shortest form; and those behind one needless group or two.
 
-ghost use Rattle.std.specs.Prelude.{◌≡◌, ◌+◌, ◌<◌, ◌≤◌, ◌∷◌, [], pos, true, false, length, drop, IfSome};
+ghost use Rattle.std.specs.Prelude.{◌≡◌, ◌+◌, ◌<◌, ◌≤◌, ◌∷◌, [], pos, true, false, length, drop, IfNone, IfSome};
 ghost use Rattle.fast_field.specs.Chosen.{ShortestSigned};
 ghost use Rattle.fast_relay.specs.Judged.{StandsAt, StandsFrom, zero_byte};
 ghost use Rattle.fast_relay.specs.Numbers.{Spelt};
-ghost use Rattle.fast_relay.specs.OneByte.{RelaysByte};
+ghost use Rattle.fast_relay.specs.OneByte.{RelaysByte, StandsByte};
 ghost use Rattle.fast_template.specs.Resolved.{part_needs_bit};
 ghost use Rattle.fast_value.specs.declared.kind.Kind.TheVariants.{UInt32};
-ghost use Rattle.fast_value.specs.declared.kind.Part.TheVariants.{Length};
+ghost use Rattle.fast_value.specs.declared.kind.Part.TheVariants.{Length, Whole};
 
 use crate::judged::{read_behind, read_number, read_shortest};
 use crate::null::begins_with_null;
 use crate::vectors::few_bytes;
-use fast_template::{FieldPart, Operator, Presence};
+use fast_dictionary::Entry;
+use fast_field::is_left_out;
+use fast_template::{FieldPart, Operator, Presence, Scalar};
 
 /// A removal below this takes one byte, with NULL and without.
 const FEW: u8 = 63;
+
+/// The byte that spells 0 of a number that is always there.
+const ZERO: u8 = 128;
 
 /// The byte that spells 0 in the form of a presence.
 #[inline(always)]
@@ -23,8 +28,8 @@ fn zero_byte(presence: Presence) -> u8
     ensures { result ≡ zero_byte presence }
 {
     match presence {
-        Presence::Mandatory => 128,
-        Presence::Optional => 129,
+        Presence::Mandatory => ZERO,
+        Presence::Optional => ZERO + 1,
     }
 }
 
@@ -197,4 +202,34 @@ pub fn read_short_length(instr: &FieldPart, bytes: &[u8], at: usize) -> Option<O
     } else {
         None
     }
+}
+
+/// Takes a number without sign that is always there and kept, that stands in one byte and that bit 0 does not give: the byte is its
+/// best form. The entry is the one afterwards. None: nothing has changed, and another way tells.
+#[inline(always)]
+pub fn take_short_number(
+    instr: &FieldPart,
+    entry: &mut Entry,
+    bytes: &[u8],
+    at: usize,
+) -> Option<u32>
+    requires place { at ≤ length bytes.now }
+    requires kind { instr.now.kind ≡ UInt32 }
+    requires part { instr.now.part ≡ Whole }
+    ensures place { IfSome result (λ number. at < length bytes.now) }
+    ensures stands { IfSome result (λ number. StandsByte instr.now entry.old entry.new number bytes.now at) }
+    ensures unchanged { IfNone result (entry.new ≡ entry.old) }
+{
+    if instr.operator != Operator::Copy || instr.presence == Presence::Optional {
+        return None;
+    }
+    if at >= bytes.len() || bytes[at] < ZERO {
+        return None;
+    }
+    let number = u32::from(bytes[at] - ZERO);
+    if is_left_out(instr, entry.view(), Some(&Scalar::U32(number))) {
+        return None;
+    }
+    *entry = Entry::Assigned(Scalar::U32(number));
+    Some(number)
 }

@@ -12,7 +12,8 @@ ghost use Rattle.fast_writer.specs.Quick.{RelaysCount};
 
 use crate::segment::Segment;
 use fast_dictionary::{Entries, Entry};
-use fast_field::{FieldFault, Passed, pass_left_out};
+use fast_field::{FieldFault, Passed, pass_left_out, reads_as_usual};
+use fast_relay::take_short_number;
 use fast_take::{Aside, take};
 use fast_template::{FieldPart, Kind, Operator, Scalar, part_needs_bit};
 use fast_wire::Level;
@@ -70,7 +71,7 @@ pub(crate) fn relay_count<E: Entries>(
     Ok((count, took.place()))
 }
 
-/// The same of the identifier of a template. Most are the one before, so that no byte is read.
+/// The same of the identifier of a template. Most are the one before, so that no byte is read, or stand in one byte.
 #[inline(always)]
 pub(crate) fn relay_identifier<E: Entries>(
     alloc: Global,
@@ -93,15 +94,20 @@ pub(crate) fn relay_identifier<E: Entries>(
         bytes.now at (level_of segment.old) (level_of segment.new) result }
     ensures same_keys { E.serves entries.new ≡ E.serves entries.old }
 {
-    if bit {
-        return relay_count(alloc, entries, part, bit, level, bytes, at, segment, aside);
-    }
     let entry = entries.entry_mut(&part.key)?;
-    match repeat_count(part, entry) {
-        None => relay_count(alloc, entries, part, bit, level, bytes, at, segment, aside),
-        Some(count) => {
-            segment.ask(part_needs_bit(part), false)?;
-            Ok((count, at))
+    if bit {
+        if reads_as_usual(level, part, bytes, at)
+            && let Some(count) = take_short_number(part, entry, bytes, at)
+        {
+            if segment.bytes.out.push(bytes[at]).is_err() {
+                return Err(FieldFault::Memory);
+            }
+            segment.ask(part_needs_bit(part), true)?;
+            return Ok((Some(count), at + 1));
         }
+    } else if let Some(count) = repeat_count(part, entry) {
+        segment.ask(part_needs_bit(part), false)?;
+        return Ok((count, at));
     }
+    relay_count(alloc, entries, part, bit, level, bytes, at, segment, aside)
 }
