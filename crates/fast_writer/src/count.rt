@@ -1,10 +1,13 @@
 //! The identifier of a template or the length of a sequence, read and written at once: a part whose number is wanted.
 
-ghost use Rattle.std.specs.Prelude.{◌≡◌, ◌≤◌, MatchOption, IsTrue, length, false, true};
+ghost use Rattle.std.specs.Prelude.{◌≡◌, ◌<◌, ◌≤◌, MatchOption, IsTrue, drop, length, false, true};
 ghost use Rattle.fast_template.specs.Resolved.{part_needs_bit as part_needs_bit_of};
 ghost use Rattle.fast_value.specs.declared.kind.Kind.TheVariants.{UInt32};
+ghost use Rattle.fast_value.specs.declared.kind.Part.TheVariants.{Whole};
+ghost use Rattle.fast_field.specs.AsUsual.{ReadsAsUsual};
 ghost use Rattle.fast_field.specs.Parts.{IsFieldPart};
 ghost use Rattle.fast_field.specs.Passed.{Passes};
+ghost use Rattle.fast_relay.specs.OneByte.{StandsByte};
 ghost use Rattle.fast_walk.specs.Received.{length_of};
 ghost use Rattle.fast_walk.specs.Told.{KeepScalars};
 ghost use Rattle.fast_writer.specs.Levels.{level_of};
@@ -71,7 +74,65 @@ pub(crate) fn relay_count<E: Entries>(
     Ok((count, took.place()))
 }
 
-/// The same of the identifier of a template. Most are the one before, so that no byte is read, or stand in one byte.
+// Takes a number of one byte that is best as it stands. None: nothing has changed, and the part goes the general way.
+#[inline(always)]
+fn short_count(
+    part: &FieldPart,
+    entry: &mut Entry,
+    level: Level,
+    bytes: &[u8],
+    at: usize,
+) -> Option<u32>
+    requires place { at ≤ length bytes.now }
+    requires kind { part.now.kind ≡ UInt32 }
+    requires whole { part.now.part ≡ Whole }
+    ensures { MatchOption result (entry.new ≡ entry.old) (λ count. (at < length bytes.now)
+        × ReadsAsUsual level part.now (drop at bytes.now)
+        × StandsByte part.now entry.old entry.new count bytes.now at) }
+{
+    if !reads_as_usual(level, part, bytes, at) {
+        return None;
+    }
+    take_short_number(part, entry, bytes, at)
+}
+
+// The same as `relay_count` of an identifier that was sent, as most are in one byte.
+#[inline(always)]
+#[tactic(auto, using(fast_walk::proofs::Telling::kept_hold))]
+fn relay_sent_identifier<E: Entries>(
+    alloc: Global,
+    entries: &mut E,
+    part: &FieldPart,
+    level: Level,
+    bytes: &[u8],
+    at: usize,
+    segment: &mut Segment,
+    aside: &mut Aside,
+) -> Result<(Option<u32>, usize), FieldFault>
+    requires place { at ≤ length bytes.now }
+    requires served { IsTrue (E.serves entries.now part.now.key) }
+    requires part { IsFieldPart part.now }
+    requires kept { KeepScalars (E.contents entries.now) }
+    requires kind { part.now.kind ≡ UInt32 }
+    requires whole { part.now.part ≡ Whole }
+    ensures relays { RelaysCount level part.now (E.contents entries.old) (E.contents entries.new) true
+        bytes.now at (level_of segment.old) (level_of segment.new) result }
+    ensures same_keys { E.serves entries.new ≡ E.serves entries.old }
+{
+    let entry = entries.entry_mut(&part.key)?;
+    match short_count(part, entry, level, bytes, at) {
+        None => relay_count(alloc, entries, part, true, level, bytes, at, segment, aside),
+        Some(count) => {
+            if segment.bytes.out.push(bytes[at]).is_err() {
+                return Err(FieldFault::Memory);
+            }
+            segment.ask(part_needs_bit(part), true)?;
+            Ok((Some(count), at + 1))
+        }
+    }
+}
+
+/// The same of the identifier of a template. Most are the one before, so that no byte is read.
 #[inline(always)]
 pub(crate) fn relay_identifier<E: Entries>(
     alloc: Global,
@@ -90,24 +151,20 @@ pub(crate) fn relay_identifier<E: Entries>(
     requires part { IsFieldPart part.now }
     requires kept { KeepScalars (E.contents entries.now) }
     requires kind { part.now.kind ≡ UInt32 }
+    requires whole { part.now.part ≡ Whole }
     ensures relays { RelaysCount level part.now (E.contents entries.old) (E.contents entries.new) bit
         bytes.now at (level_of segment.old) (level_of segment.new) result }
     ensures same_keys { E.serves entries.new ≡ E.serves entries.old }
 {
-    let entry = entries.entry_mut(&part.key)?;
     if bit {
-        if reads_as_usual(level, part, bytes, at)
-            && let Some(count) = take_short_number(part, entry, bytes, at)
-        {
-            if segment.bytes.out.push(bytes[at]).is_err() {
-                return Err(FieldFault::Memory);
-            }
-            segment.ask(part_needs_bit(part), true)?;
-            return Ok((Some(count), at + 1));
-        }
-    } else if let Some(count) = repeat_count(part, entry) {
-        segment.ask(part_needs_bit(part), false)?;
-        return Ok((count, at));
+        return relay_sent_identifier(alloc, entries, part, level, bytes, at, segment, aside);
     }
-    relay_count(alloc, entries, part, bit, level, bytes, at, segment, aside)
+    let entry = entries.entry_mut(&part.key)?;
+    match repeat_count(part, entry) {
+        None => relay_count(alloc, entries, part, bit, level, bytes, at, segment, aside),
+        Some(count) => {
+            segment.ask(part_needs_bit(part), false)?;
+            Ok((count, at))
+        }
+    }
 }

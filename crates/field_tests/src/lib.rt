@@ -14,6 +14,8 @@ mod judged;
 #[cfg(test)]
 mod nulls;
 #[cfg(test)]
+mod one_byte;
+#[cfg(test)]
 mod passed;
 #[cfg(test)]
 mod reading;
