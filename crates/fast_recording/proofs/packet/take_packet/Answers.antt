@@ -17,8 +17,8 @@ use Rattle.fast_recording.proofs.packet.take_packet.Goals as goal
 pub returns-in-Err-clause-takes : goal.returns-in-Err-clause-takes
 returns-in-Err-clause-takes g c = ([], [], Appends-nil _, none_carried (plainly c.args.machine.now.traversal.level) (templates_in c.args.machine.now.traversal.set.now) c.args.bytes.now, inl refl)
 
-pub fault_behind-requires-clause-open : goal.fault_behind-requires-clause-open
-fault_behind-requires-clause-open g c = let rp = c.in_ok-came.ensures.reads 0 None in rp.0.2.because.0
+pub fault_behind-requires : goal.fault_behind-requires
+fault_behind-requires g c = let rp = c.in_ok-came.ensures.reads 0 None in record { «open» = rp.0.2.because.0 }
 
 pub returns-in_err-came-clause-takes : goal.returns-in_err-came-clause-takes
 returns-in_err-came-clause-takes g c =
