@@ -123,8 +123,9 @@ fn relay_sent_identifier<E: Entries>(
     match short_count(part, entry, level, bytes, at) {
         None => relay_count(alloc, entries, part, true, level, bytes, at, segment, aside),
         Some(count) => {
-            if segment.bytes.out.push(bytes[at]).is_err() {
-                return Err(FieldFault::Memory);
+            match segment.bytes.out.push(bytes[at]) {
+                Err(_) => return Err(FieldFault::Memory),
+                Ok(()) => {}
             }
             segment.ask(part_needs_bit(part), true)?;
             Ok((Some(count), at + 1))
