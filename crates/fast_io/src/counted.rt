@@ -36,6 +36,13 @@ impl<I> Counted<I> {
             flushes: 0,
         }
     }
+
+    /// How many calls failed. The count stops at 2^64 - 1.
+    pub fn failed_calls(&self) -> u64
+        ensures { result ≡ errors_of self.now }
+    {
+        self.errors
+    }
 }
 
 impl<I: Read> ByteInput for Counted<I> {
