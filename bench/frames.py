@@ -4,7 +4,7 @@
 usage: bench/frames.py [PROGRAM]
 
 PROGRAM is crates/fastcat/out/fastcat if left out. A line of the table has `check`'s instructions for one message (by valgrind),
-and for one byte, without those that reading the templates and the program's start take:
+and those of `check`, `check --strict` and `show` for one byte, without what reading the templates and the program's start take:
 
 alike: messages without fields, of the template of the one before, a byte each;
 in turn: the same of two templates, so that each sends its identifier;
@@ -135,7 +135,7 @@ FEEDS = [
 def main():
     program = os.path.abspath(sys.argv[1] if len(sys.argv) > 1 else f"{speed.TOP}/crates/fastcat/out/fastcat")
     good = True
-    print("| Feed | Messages | Bytes | Instructions a message | a byte |\n|---|---|---|---|---|")
+    print("| Feed | Bytes | Instructions a message | a byte | strict | show |\n|---|---|---|---|---|---|")
     with tempfile.TemporaryDirectory() as folder:
         templates, path, none = (os.path.join(folder, name) for name in ("templates.json", "feed", "none"))
         open(none, "wb").close()
@@ -145,9 +145,12 @@ def main():
             made = b"".join(made_of(random.Random(1)))
             with open(path, "wb") as file:
                 file.write(made)
-            check_it = [program, "check", *words, "--templates", templates]
-            taken = check(check_it, path)[1] - check(check_it, none)[1]
-            print(f"| {name} | {MESSAGES:,} | {len(made):,} | {taken / MESSAGES:.0f} | {taken / len(made):.0f} |", flush=True)
+            taken = []
+            for command in (["check"], ["check", "--strict"], ["show"]):
+                command = [program, *command, *words, "--templates", templates]
+                taken.append(check(command, path)[1] - check(command, none)[1])
+            of_a_byte = " | ".join(f"{it / len(made):.0f}" for it in taken)
+            print(f"| {name} | {len(made):,} | {taken[0] / MESSAGES:.0f} | {of_a_byte} |", flush=True)
             if not words:
                 canon = [program, "canon", "--templates", templates, path]
                 good &= subprocess.run(canon, stdout=subprocess.PIPE, check=False).stdout == made
