@@ -10,6 +10,7 @@ A run fails that is refused, or takes more than is said here to be enough; the l
 --long some inputs are larger, so that what they take can be seen to grow with nothing but them.
 """
 import argparse
+import filecmp
 import json
 import os
 import subprocess
@@ -104,6 +105,34 @@ def length_of(elements):
 # the line takes 1,074 MB and more)
 LINES = [("a copied string", COPIED, copied, 16384, 32767, 16), ("a constant", CONSTANT, constants, 4096, 32767, 16)]
 
+# As many entries as a set can have, each of a field that is absent; and one message of 13 MB, which is one segment. They are
+# written piece by piece: what this script holds would count as the program's.
+def slots():
+    yield '{"templates":[{"name":"T","id":1,"instructions":['
+    for number in range(65535):
+        yield '%s{"kind":"uInt32","name":"F%d","presence":"optional","operator":"copy"}' % ("," if number else "", number)
+    yield "]}]}"
+
+
+def texts():
+    yield '{"templates":[{"name":"T","id":1,"instructions":['
+    yield '{"kind":"sequence","name":"Q","instructions":[{"kind":"string","name":"S"}]}]}]}'
+
+
+def absent():
+    yield b"\xc0\x81"
+
+
+def long_message():
+    yield b"\xc0\x81\x01\xc8"
+    for _ in range(200):
+        yield b"A" * 65534 + b"\xc1"
+
+
+# (what, templates, a canonical stream, the memory in MB that is enough: `check` and `canon` hold the message, in a room that may
+# be twice as long)
+GREATEST = [("65,535 entries", slots, absent, 128), ("a message of 13 MB", texts, long_message, 48)]
+
 # A string, a byte vector and a Unicode string of 65,535 bytes.
 STRINGS = {
     "templates": [
@@ -157,6 +186,13 @@ def counted(command, program, templates, stream):
     return os.waitstatus_to_exitcode(status), written, used.ru_utime + used.ru_stime, memory or used.ru_maxrss / 1024
 
 
+def stays(program, templates, stream):
+    """Whether a canonical stream is its own."""
+    with open(stream, "rb") as read, open(f"{stream}.canon", "wb") as written:
+        run = subprocess.run([program, "canon", "--templates", templates], stdin=read, stdout=written, check=False)
+    return run.returncode == 0 and filecmp.cmp(stream, f"{stream}.canon", shallow=False)
+
+
 def trickled(program, templates, stream, step):
     """Checks a stream of which a read gives so many bytes at a time, and answers the status and the processor time."""
     # such a pipe gives at each read what one write has put into it
@@ -204,6 +240,19 @@ def main():
             status, written, seconds, memory = counted("show", program, templates, stream)
             print(f"| {name} | {len(message):,} | {written:,} | {seconds:.1f} | {memory:.1f} |")
             are_enough.append(status == 0 and memory <= enough + len(message) / 1e6)
+        print()
+        print("| A canonical stream of | Command | Bytes read | Seconds | Memory, MB |")
+        print("|---|---|---|---|---|")
+        for name, written_templates, canonical, enough in GREATEST:
+            with open(templates, "w", encoding="utf-8") as file:
+                file.writelines(written_templates())
+            with open(stream, "wb") as file:
+                file.writelines(canonical())
+            for command in ("check", "canon", "show"):
+                status, _, seconds, memory = counted(command, program, templates, stream)
+                print(f"| {name} | `{command}` | {os.path.getsize(stream):,} | {seconds:.1f} | {memory:.1f} |")
+                are_enough.append(status == 0 and memory <= enough)
+            are_enough.append(stays(program, templates, stream))
         print()
         print("| 65,535 bytes of a | Seconds, 4,096 bytes a read | one a read | of 16 characters each, one a read |")
         print("|---|---|---|---|")

@@ -5,7 +5,9 @@ ghost use Rattle.std.specs.FinMap as finite;
 ghost use Rattle.fast_template.specs.TemplateSets.{templates_in};
 ghost use Rattle.fast_stream.specs.Nodes.{Content, content_of};
 ghost use Rattle.fast_stream.specs.Modes.{Carries};
-ghost use Rattle.fast_machine.specs.Following.{IsHeld};
+ghost use Rattle.fast_stream.specs.declared.fault.Fault.{Fault as FaultOf};
+ghost use Rattle.fast_machine.specs.Following.{IsHeld, Refused};
+ghost use Rattle.fast_machine.specs.Progress.{IsUnended};
 ghost use Rattle.fast_walk.specs.Traversals.{ServesAll};
 
 use fast_dictionary::Entries;
@@ -62,6 +64,20 @@ impl<'a, E: Entries> Decoder<'a, E> {
         self.machine.held()
     }
 
+    /// Tells a proof what the decoder follows, in words of the stream alone: while it has no fault, the bytes fed carry
+    /// the messages pushed and at most a front of one more; and where it has one, they are refused behind the messages.
+    /// Does nothing.
+    pub fn tell_progress(&self)
+        ensures unended { self.now.machine.fault ≡ None → (fed : List ℕ) (messages : List Content)
+            → Follows self.now.machine [] fed messages
+            → IsUnended (mode_of self.now.machine) (templates_in self.now.machine.traversal.set.now) fed messages }
+        ensures refused { (fault : FaultOf) → self.now.machine.fault ≡ Some fault → (fed : List ℕ)
+            (messages : List Content) → Follows self.now.machine [] fed messages
+            → Refused fault (mode_of self.now.machine) (templates_in self.now.machine.traversal.set.now) fed messages }
+    {
+        self.machine.tell_progress();
+    }
+
     /// Takes the next bytes of the stream, and pushes each message that they end.
     ///
     /// # Errors
@@ -116,7 +132,7 @@ impl<'a, E: Entries> Decoder<'a, E> {
             → Carries (mode_of self.old.machine) (templates_in self.old.machine.traversal.set.now) fed messages)) }
         ensures truncated { self.old.machine.fault ≡ None
             → IfErr result (λ f. (f.cause ≡ Cause.Truncated)
-            × ((fed : List ℕ) (messages : List Content) → self.old.machine.fed ≤ 2 ^ 60
+            × ((fed : List ℕ) (messages : List Content)
             → Follows self.old.machine [] fed messages
             → Follows self.new.machine [] fed messages)) }
         ensures answer { Answers result self.new.machine.fault }

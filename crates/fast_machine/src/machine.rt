@@ -2,7 +2,7 @@
 
 mod calls;
 
-ghost use Rattle.std.specs.Prelude.{◌≡◌, ◌≤◌, [], None, IfSome, length};
+ghost use Rattle.std.specs.Prelude.{◌≡◌, ◌≤◌, ◌^◌, [], None, IfSome, length};
 ghost use Rattle.std.specs.Coded.{→_prop};
 ghost use Rattle.std.proofs.Props.{props};
 ghost use Rattle.fast_walk.specs.OneProof.{KeepScalars-prop};
@@ -47,6 +47,7 @@ pub struct Machine<'a, R: Receiver, E: Entries> {
     messages: u64,
     ghost served: { ServesAll (E.serves entries) traversal.set.now } by { ServesAll-prop (E.serves entries) traversal.set.now },
     ghost bounded: { length held.items ≤ 65554 },
+    ghost short: { fed ≤ 2 ^ 60 },
     ghost cleared: { IfSome fault (λ f. held.items ≡ []) } by { Prim.hlevel props },
     ghost ready: { fault ≡ None → CanGoOn (E.serves entries) traversal } by { →_prop (IsReadyAt-prop traversal.stage (E.serves entries) traversal) },
     ghost lacks: { IsLong end traversal (E.contents entries) held.items until_stop waiting } by { IsLong-prop end traversal (E.contents entries) held.items until_stop waiting },

@@ -16,6 +16,7 @@ use Rattle.fast_stream.specs.declared.fault.Cause.TheVariants.{Read, Truncated, 
 use Rattle.fast_stream.specs.declared.mode.Mode.{Mode}
 use Rattle.fast_machine.specs.Calls.{IsSameStream}
 use Rattle.fast_machine.specs.Following.{Counts, Follows, mode_of}
+use Rattle.fast_machine.specs.Progress.{HasRefused}
 use Rattle.fast_decoder.specs.Inputs.{HasReached, OnFault}
 use Rattle.fast_machine.specs.Standing.{Carried}
 use Rattle.fast_walk.specs.Received.{handed_on}
@@ -124,6 +125,13 @@ answer_of (Ok (None, size)) m = Ok (record { messages = m.messages; read = m.fed
 answer_of (Ok (Some fault, size)) m = Err (CanonFault.Stream fault)
 answer_of (Err Stop.Write) m = Err CanonFault.Write
 answer_of (Err Stop.Memory) m = Err CanonFault.Memory
+
+-- Whose memory was refused: the stream is answered as refused only where the receiver of its machine was refused none; and
+-- Memory only where it was, or where handing on broke off, and the writer was not flushed.
+abbrev pub IsWhose : {O E : Type 0} {receiver : Receiving O} {entries : Ghosts E} → Result Summary CanonFault → Machine O E receiver entries → ℕ → ℕ → Type 0
+IsWhose (Err (CanonFault.Stream fault)) m flushes_old flushes_new = HasRefused m → ⊥
+IsWhose (Err CanonFault.Memory) m flushes_old flushes_new = HasRefused m ⊎ (flushes_new ≡ flushes_old)
+IsWhose r m flushes_old flushes_new = Unit {0}
 
 -- ---- the calls of the writer
 

@@ -7,7 +7,7 @@ ghost use Rattle.fast_walk.specs.Received.{handed_on};
 ghost use Rattle.fast_decoder.specs.Inputs.{IsCaused, Reads, told_by};
 ghost use Rattle.fast_decoder.specs.declared.input.Reached.TheVariants as reached;
 ghost use Rattle.fast_pass.specs.Passed.{FlushesOnce, PassesBy, errors_after};
-ghost use Rattle.fast_pass.specs.Relays.{Goes, Hands, IsOfBytes, Relays, StandsStill, answer_of, errors_behind, outset};
+ghost use Rattle.fast_pass.specs.Relays.{Goes, Hands, IsOfBytes, IsWhose, Relays, StandsStill, answer_of, errors_behind, outset};
 ghost use Rattle.fast_machine.specs.Calls.{IsSameStream};
 ghost use Rattle.fast_machine.specs.Following.{mode_of};
 
@@ -187,6 +187,7 @@ fn pass_by<O: Output, R: ByteInput, W: ByteOutput, E: Entries>(
         (told_by R.ByteInput reader.old) (told_by R.ByteInput reader.new) (W.taken writer.old) (W.taken writer.new) result }
     ensures write { W.errors writer.new ≡ errors_after result (W.errors writer.old) }
     ensures flush { FlushesOnce result (W.flushes writer.old) (W.flushes writer.new) }
+    ensures whose { IsWhose result machine.new (W.flushes writer.old) (W.flushes writer.new) }
 {
     match relay(machine, alloc, reader, writer, turns) {
         Err(Stop::Write) => Err(CanonFault::Write),

@@ -118,7 +118,6 @@ fn fault_behind<O: PacketOutput, E: Entries>(
     cut: Option<Cause>,
 ) -> Option<Fault>
     requires open { came ≢ Reached.End }
-    requires few { came ≡ Reached.Open → machine.now.fed ≤ 2 ^ 60 }
     ensures found { (turns : ℕ) (left : Option (List ℕ)) (way : Way)
         → Relays O.waiting O.makes came machine.old turns left way → IsOfBytes came
         → IsSound machine.old.traversal.set.now → machine.old.framing ≡ Framing.Plain

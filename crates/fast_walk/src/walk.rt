@@ -1,6 +1,6 @@
 //! A walk through the open segments of a message, without its items.
 
-ghost use Rattle.std.specs.Prelude.{◌≡◌, ◌≢◌, ◌≤◌, ◌<◌, ◌++◌, ◌∷◌, ◌-◌, ◌+◌, [], ℕ, Bool, true, false, List, Option, IsSome, ◌⊎◌, IfOk, IfErr, IfSome, MatchResult, OnOk, length, map};
+ghost use Rattle.std.specs.Prelude.{◌≡◌, ◌≢◌, ◌≤◌, ◌<◌, ◌++◌, ◌∷◌, ◌-◌, ◌+◌, [], ℕ, Bool, true, false, List, Option, IsSome, ◌⊎◌, IfOk, IfErr, IfSome, MatchResult, OnErr, OnOk, length, map, vec_capacity, vec_len};
 ghost use Rattle.fast_value.specs.declared.key.Key as key_type;
 ghost use Rattle.fast_template.specs.Resolved.{instruction_of, list_of, no_instructions, is_optional as is_optional_of};
 ghost use Rattle.fast_dictionary.specs.Dictionary.{Dictionary};
@@ -197,8 +197,9 @@ impl<'a> Walk<'a> {
     ) -> Result<(), Halt>
         requires spare { 0 < self.now.spare }
         requires next { self.now.next ≡ Next.Instruction }
-        ensures { MatchResult result (λ u. IsOpened self.old.around.items self.old.bits self.old.spare (number_of inside.entry) (list_of members.now)
+        ensures opened { MatchResult result (λ u. IsOpened self.old.around.items self.old.bits self.old.spare (number_of inside.entry) (list_of members.now)
             (list_of others.now) (inside_of inside.entry) bits self.new) (λ h. h.cause ≡ Cause.Memory) }
+        ensures room { OnErr result (vec_capacity self.old.around ≤ vec_len self.old.around) }
     {
         let outer = mem::replace(&mut self.bits, bits);
         let frame = Frame {

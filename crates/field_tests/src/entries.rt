@@ -51,13 +51,16 @@ fn is<E: Entries>(rt: &impl Abort, entries: &E, key: &Key, wanted: Wanted)
     same(rt, agree(entries.get(key), wanted), true);
 }
 
-// Puts the text under a key. A refusal changes nothing.
+// Puts the text under a key. A refusal changes nothing, and where there is memory again, the text is put.
 fn put_text<E: Entries>(rt: &impl Abort, alloc: Global, entries: &mut E, key: &Key) -> Tried
     requires { IsTrue (E.serves entries.old key.now) }
     ensures { E.serves entries.new ≡ E.serves entries.old }
 {
     if entries.put(key, Entry::Assigned(text(alloc)?)).is_err() {
         is(rt, entries, key, Wanted::Undefined);
+        let again = entries.put(key, Entry::Assigned(text(alloc)?));
+        same(rt, again.is_ok(), true);
+        is(rt, entries, key, Wanted::Text);
         return Err(AllocError);
     }
     Ok(())

@@ -1,6 +1,6 @@
 //! The calls of a machine.
 
-ghost use Rattle.std.specs.Prelude.{◌≡◌, ◌≢◌, ◌≤◌, ◌<◌, ◌+◌, ◌*◌, ◌-◌, ◌^◌, ◌++◌, ◌⊎◌, [], ℕ, true, false, List, None, Some, Err, OnOk, OnErr, IfOk, IfErr, IfSome, IfNone, length, take, drop, map};
+ghost use Rattle.std.specs.Prelude.{◌≡◌, ◌≢◌, ◌≤◌, ◌<◌, ◌+◌, ◌*◌, ◌-◌, ◌^◌, ◌++◌, ◌⊎◌, [], ℕ, true, false, List, None, Some, Err, OnOk, OnErr, IfOk, IfErr, IfSome, IfNone, length, take, drop, map, vec_capacity, vec_len};
 ghost use Rattle.std.specs.FinMap as finite;
 ghost use Rattle.fast_template.specs.TemplateSets.{IsSound, templates_in};
 ghost use Rattle.fast_stream.specs.Nodes.{Content};
@@ -64,6 +64,7 @@ fn fault_of(halt: Halt, messages: u64, fed: u64, left: usize, template: u32) -> 
 fn append_many(bytes: &mut Vec<u8>, chunk: &[u8]) -> Result<(), AllocError>
     ensures items { OnOk result (bytes.new.items ≡ bytes.old.items ++ chunk.now) }
     ensures same { OnErr result (bytes.new.items ≡ bytes.old.items) }
+    ensures room { OnErr result (vec_capacity bytes.old < vec_len bytes.old + length chunk.now) }
 {
     bytes.extend_from_slice(chunk)
 }
@@ -73,6 +74,7 @@ fn append_many(bytes: &mut Vec<u8>, chunk: &[u8]) -> Result<(), AllocError>
 fn append(bytes: &mut Vec<u8>, chunk: &[u8]) -> Result<(), AllocError>
     ensures items { OnOk result (bytes.new.items ≡ bytes.old.items ++ chunk.now) }
     ensures same { OnErr result (bytes.new.items ≡ bytes.old.items) }
+    ensures room { OnErr result (vec_capacity bytes.old < vec_len bytes.old + length chunk.now) }
 {
     match chunk {
         [byte] => {
@@ -672,8 +674,7 @@ impl<'a, R: Receiver, E: Entries> Machine<'a, R, E> {
             → Carries (mode_of self.old) (templates_in self.old.traversal.set.now) fed messages)) }
         ensures truncated { self.old.fault ≡ None → IfErr result (λ f. (f.cause ≡ Cause.Truncated)
             × ((before : List Content) (fed : List ℕ) (messages : List Content)
-            → self.old.fed ≤ 2 ^ 60 → Follows self.old before fed messages
-            → Follows self.new before fed messages)) }
+            → Follows self.old before fed messages → Follows self.new before fed messages)) }
         ensures left { Retains R.stands R.keeps self.old.receiver self.new.receiver }
         ensures answer { Answers result self.new.fault }
         ensures same { IsSameStream self.old self.new }
@@ -693,7 +694,6 @@ impl<'a, R: Receiver, E: Entries> Machine<'a, R, E> {
 
     /// The fault of a stream of which no more bytes come for this cause: where the next piece would begin.
     pub fn cut(&mut self, cause: Cause) -> Fault
-        requires few { self.now.fed ≤ 2 ^ 60 }
         ensures cause { result.cause ≡ cause }
         ensures place { self.old.fault ≡ None → (before : List Content) (fed : List ℕ)
             (messages : List Content) → Follows self.old before fed messages

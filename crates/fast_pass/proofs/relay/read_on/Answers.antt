@@ -20,13 +20,12 @@ returns-in-Ok-finish-clause-read g c =
 pub returns-in-Err-finish-clause-read : goal.returns-in-Err-finish-clause-read
 returns-in-Err-finish-clause-read g c =
     let zero = c.in-Ok-eq0.field-0-test in
-    let p = c.in-Ok-eq0.ensures in
-    let few = c.requires.room in (
+    let p = c.in-Ok-eq0.ensures in (
       [],
       empty_read _ _ _ _ p.call p.bytes.1 zero,
       λ turns way r.
           let t = c.in-Err-finish.ensures.truncated r.holds.unrefused in
-          let after = t.1 (handed_on way.handed ∷ way.messages) way.input way.messages (omega (arith, few)) r.holds.follows in
+          let after = t.1 (handed_on way.handed ∷ way.messages) way.input way.messages r.holds.follows in
           let at = (rw (c.in-Err-finish.ensures.answer) at after.at).0 in
           let refuses = refused_by_bytes c.in-Err-finish.fault _ _ turns (g.R.ByteInput.left c.pull.new.self) _ _ (λ e. p.bytes.2 zero (omega arith)) at in
           stays _ (stops g.met.O.Output.made c.finish.new.self turns _ way c.in-Err-finish.fault refuses after) ((λ h. absurd cc), caused_by_end c.in-Err-finish.fault (told_by g.R.ByteInput c.args.reader.now) (told_by g.R.ByteInput c.pull.new.self) t.0 (p.end.0 zero (omega arith)) p.error),

@@ -1,4 +1,4 @@
-use Rattle.std.proofs.Common.{◌≡◌, List, ◌∷◌, ◌++◌, inr, refl, sym, ap, subst, ◌∙◌, arith}
+use Rattle.std.proofs.Common.{◌≡◌, List, ◌∷◌, ◌++◌, inr, refl, sym, ap, subst, ◌∙◌}
 use Rattle.fast_template.specs.Resolved.{Resolved}
 use Rattle.fast_template.specs.TemplateSets.{templates_in}
 use Rattle.fast_stream.specs.declared.fault.Cause.{Cause}
@@ -70,8 +70,7 @@ returns-in-Err g c = record {
       let s = rw (is_open c.args.came c.requires.open c.in_default.not-Fault) at r in
       let before = handed_on way.handed ∷ way.messages in
       let t = c.in-Err.ensures.truncated s.holds.unrefused in
-      let few = c.requires.few (is_open c.args.came c.requires.open c.in_default.not-Fault) in
-      let after = t.1 before way.input way.messages (omega (arith, few)) s.holds.follows in
+      let after = t.1 before way.input way.messages s.holds.follows in
       let same = c.finish.ensures.same in
       let set_is : templates_in new.traversal.set.now ≡ templates_in m.traversal.set.now = ap (λ s. templates_in s.now) same.set in
       let at = (rw (c.in-Err.ensures.answer) at after.at).0 in

@@ -20,14 +20,6 @@ returns-in-Err-clause-takes g c = ([], [], Appends-nil _, none_carried (plainly 
 pub fault_behind-requires-clause-open : goal.fault_behind-requires-clause-open
 fault_behind-requires-clause-open g c = let rp = c.in_ok-came.ensures.reads 0 None in rp.0.2.because.0
 
-pub fault_behind-requires-clause-few : goal.fault_behind-requires-clause-few
-fault_behind-requires-clause-few g c = λ came.
-    let rp = c.in_ok-came.ensures.reads 0 None in
-    let r = rw (came) at rp.0.2.relays in
-    let fed = r.holds.follows.counts.fed_is in
-    let few = c.requires.few in
-    omega (arith, fed, few)
-
 pub returns-in_err-came-clause-takes : goal.returns-in_err-came-clause-takes
 returns-in_err-came-clause-takes g c =
     let p = err_from_is_err_and c.from_residual.result c.from_residual.ensures.1 in

@@ -28,7 +28,7 @@ returns-in-Err-finish-clause-reads g c =
       stands = λ bytes answered stands.
           let at = rw (c.requires.reached) at stands in
           let t = c.in-Err-finish.ensures.truncated at.0.goes_on in
-          let after = t.1 bytes (answered ++ waiting_in old.waiting.items) (omega (arith, old.fits, old.limited, old.bounded)) at.0.follows in
+          let after = t.1 bytes (answered ++ waiting_in old.waiting.items) at.0.follows in
           let refused = (rw (c.in-Err-finish.ensures.answer) at after.at).0 in
           rw (append-nil bytes, c.requires.reached) (refused_by_bytes c.in-Err-finish.fault _ _ old.turns _ bytes _ (λ e. p.bytes.2 zero (omega arith)) refused, caused_by_end c.in-Err-finish.fault (reader_of old) (told_by g.R.ByteInput c.pull.new.self) t.0 (p.end.0 zero (omega arith)) p.error);
     }

@@ -16,10 +16,10 @@ returns-then-has_begun-clause-truncated g c = λ none.
       | then-has_begun-via-else-has_begun+else-held-gt0+then-self-gt0 w ↦ (let empty = at.2 in absurd (omega (arith, empty, w.if-self-gt0.true)))
     ] in (
       r.fault.cause_is,
-      λ before fed messages short follows.
+      λ before fed messages follows.
           let at = rw (none) at follows.at in
           follows_refused r.keeps before old.held.items fed messages follows.counts at.0
-          (ends_inside old.framing old.left _ c.keep.result t old.held.items old.waiting fed messages old.fed old.messages c.set_is_sound.ensures.typed follows.counts short at inside (rw (c.held-held.ensures.held) at r.fault)),
+          (ends_inside old.framing old.left _ c.keep.result t old.held.items old.waiting fed messages old.fed old.messages c.set_is_sound.ensures.typed follows.counts old.short at inside (rw (c.held-held.ensures.held) at r.fault)),
     )
 
 pub returns-clause-ok : goal.returns-clause-ok

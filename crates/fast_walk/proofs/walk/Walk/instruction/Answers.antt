@@ -115,7 +115,7 @@ returns-in_ok-open-in-Group-clause-piece g c =
     let bits = after_bit optional old.bits in
     let map_is = rw (c.deref.ensures.value) at c.has_map-own_map.ensures in
     let enter = rw (c.is_optional-optional.ensures) at c.in_ok-enter-in-Group.ensures in
-    let end = rw (c.take_for.ensures, c.is_optional-optional.ensures, c.deref-then-present-2.ensures.value) at c.in_ok-open-in-Group.ensures in
+    let end = rw (c.take_for.ensures, c.is_optional-optional.ensures, c.deref-then-present-2.ensures.value) at c.in_ok-open-in-Group.ensures.opened in
     let served = begins_served can begins in (
       record {
         from = c.in_ok-bits-in-Group.ensures.place.0;

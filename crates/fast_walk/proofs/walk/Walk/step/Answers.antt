@@ -67,7 +67,7 @@ returns-in_ok-open-in-Element-clause-piece g c =
     let old = c.args.self.now in
     let d = g.E.Entries.contents c.args.entries.now in
     let bits = c.in_ok-bits-in-Element in
-    let end = c.in_ok-open-in-Element.ensures in
+    let end = c.in_ok-open-in-Element.ensures.opened in
     let enter = c.in_ok-enter_element-in-Element.ensures in
     let members = rw (c.in-Element.is) at can.ready.next in (
       record {
