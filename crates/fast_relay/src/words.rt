@@ -2,32 +2,9 @@
 //! the call, which is made for what is longer or stands near the end of the bytes, as the last strings of a block do.
 
 ghost use Rattle.std.specs.Prelude.{◌<◌, ◌≤◌, ◌+◌, length, drop, slice_range, IfSome};
-ghost use Rattle.fast_wire.specs.Entity.{IsRun};
 ghost use Rattle.fast_wire.specs.Plain.{IsPlain};
 
-use fast_wire::plain_ascii_end;
-use std::simd::prelude::*;
-
-/// The bit that is set in the last byte of an entity, and in no other.
-const STOP_BIT: u8 = 0x80;
-
-/// How many bytes are looked at in one step.
-const LANES: usize = 16;
-
-/// How many of the 16 bytes from `at` on come before the first that has its stop bit set.
-#[inline(always)]
-fn stop_free_run(bytes: &[u8], at: usize) -> usize
-    requires { at + 16 ≤ length bytes.now }
-    ensures { IsRun bytes.now at result }
-{
-    let lanes = u8x16::from_slice(&bytes[at..]);
-    let stops = lanes.simd_ge(u8x16::splat(STOP_BIT)).to_bitmask();
-    if stops == 0 {
-        LANES
-    } else {
-        stops.trailing_zeros() as usize
-    }
-}
+use fast_wire::{LANES, plain_ascii_end, stop_free_run};
 
 /// The same as `plain_end`, found out by a call.
 #[inline(never)]

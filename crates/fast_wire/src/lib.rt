@@ -44,7 +44,7 @@ pub use short_integer::{
     write_u64, write_u64_nullable,
 };
 pub use span::Span;
-pub use stop_bit::{entity_end, find_stop};
+pub use stop_bit::{LANES, entity_end, find_stop, stop_free_run};
 pub use text::check_text;
 pub use vector::{
     find_vector, find_vector_nullable, read_vector, read_vector_nullable, size_vector,

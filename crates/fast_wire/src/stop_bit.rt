@@ -10,11 +10,12 @@ use std::simd::prelude::*;
 /// The bit that is set in the last byte of an entity, and in no other.
 pub(crate) const STOP_BIT: u8 = 0x80;
 
-/// How many bytes are looked at in one step.
-const LANES: usize = 16;
+/// How many bytes `stop_free_run` looks at.
+pub const LANES: usize = 16;
 
-/// How many of the 16 bytes from `at` on come before the first that has its stop bit set.
-fn stop_free_run(bytes: &[u8], at: usize) -> usize
+/// How many of the 16 bytes from `at` on come before the first that has its stop bit set. It takes no memory.
+#[inline(always)]
+pub fn stop_free_run(bytes: &[u8], at: usize) -> usize
     requires { at + 16 ≤ length bytes.now }
     ensures { IsRun bytes.now at result }
 {
