@@ -1,12 +1,9 @@
 -- The machine values of a handle, and what it owns. Assumes `Logic`.
-use Rattle.std.proofs.Common.{◌≡◌, ℕ, ◌<◌, ◌^◌, List, [], ◌∷◌, ◌++◌, refl, sym, w32}
-use Rattle.std.proofs.Common.{Option, None, Some, IsSome, ◌∙◌, true≢false}
-use mathlib.Core.Bool.{Bool, true, ◌&&◌}
+use Rattle.std.proofs.Common.{◌≡◌, ℕ, ◌<◌, ◌^◌, List, [], ◌∷◌, ◌++◌, refl, sym, w32, Option, None, Some, IsSome, ◌∙◌, true≢false, lit<}
+use mathlib.Core.Bool.{Bool, true, ◌&&◌, false}
 use lib.Dec.{T}
 use seplogic.Ra.Ura.{Ura}
 use mir.Syntax.{impl, tnil, dnil, ty_ptr}
-use mathlib.Core.Bool.{false}
-use Rattle.std.proofs.Common.{lit<}
 use mir.Val.{Val, vint, vstruct, vcons, vnil, of_list, has_ty, WT}
 use types.Logic.{Logic}
 use types.Kit.{Item, Goal, Seq, Step, step, ‵, ◌$◌, move, drop, fsplit, fjoin, fpick, fpack, feq_i, feq_l}

@@ -4,7 +4,7 @@ use mir.Val.{Val, vint, vptr, has_ty}
 use base.Logic.{SProp, ent, emp, id⊢, never, fst∗}
 use base.Fml.{ftrue, fsep}
 use prog.Wp.{WpFn}
-use types.Kit.{‵, raw, ◌⊛◌, ◌$◌, ◌∵◌, !, qed, by, move, keep, drop, split, fsplit, fjoin, feq_l, rewrite, suffices, use0}
+use types.Kit.{‵, raw, ◌⊛◌, ◌$◌, ◌∵◌, !, qed, by, move, keep, drop, split, fsplit, fjoin, feq_l, rewrite, suffices, use0, use1}
 use types.Run.{stop, fld, of_opd, no_more, and_then, returns, enter}
 use types.ByLocal.{alloc_all, pass_all, free_all, look_at, get, get_in, sets}
 use types.Part.{agg, sub, whole}
@@ -16,7 +16,7 @@ use denote.Signature.{plain}
 use denote.RawPtr.{in_a_block, null_ptr, ptr_val}
 use denote.Steps.{nothing, heard}
 use denote.Triple.Walked.{Stays, stay_dropped, walk_of, Goes-dropped}
-use Rattle.std.proofs.BoxSteps.Form.{D, word, box_typed}
+use Rattle.std.proofs.BoxSteps.Form.{D, word, box_typed, R, τ}
 use Rattle.std.proofs.BoxSteps.Steps.{box_in}
 use Rattle.std.proofs.ResultValues.{and_tt}
 use Rattle.std.proofs.raw_atomic.Walks.{proved_at, leaves}
@@ -27,9 +27,7 @@ use Rattle.fast_kept.specs.contracts.parts.Parts as Parts
 use Rattle.fast_kept.specs.contracts.handle.Handle as Handle
 use mir.Raw.{raw as bare}
 use types.Logic.{sem}
-use types.Kit.{use1}
 use Rattle.std.proofs.alloc.Calls.{token}
-use Rattle.std.proofs.BoxSteps.Form.{R, τ}
 use Rattle.std.specs.Box.Ownership.{box_owns}
 use Rattle.fast_kept.specs.Keeping.{kept_owns}
 use Rattle.fast_kept.proofs.Values.{E, three, handle_out, some_of}

@@ -1,10 +1,10 @@
 -- `split` reads a field, and makes the struct again.
 use Rattle.std.proofs.Common.{◌≡◌, List, [], ◌∷◌, ◌++◌, refl, sym, subst, w32}
-use mir.Val.{Val, vint, has_ty}
+use mir.Val.{Val, vint, has_ty, vstruct, vcons, vnil}
 use base.Logic.{SProp, ent, emp, id⊢}
 use base.Fml.{ftrue, fsep}
 use prog.Wp.{WpFn}
-use types.Kit.{‵, raw, ◌⊛◌, ◌$◌, ◌∵◌, !, qed, by, move, keep, drop, split, fsplit, fjoin, feq_i, suffices, use0}
+use types.Kit.{‵, raw, ◌⊛◌, ◌$◌, ◌∵◌, !, qed, by, move, keep, drop, split, fsplit, fjoin, feq_i, suffices, use0, fpack, join}
 use types.Run.{stop, fld, of_opd, no_more, and_then, returns, enter}
 use types.ByLocal.{alloc_all, pass_all, free_all, look_at, get, get_in, sets}
 use types.Part.{agg, sub, whole}
@@ -19,7 +19,6 @@ use denote.Triple.Walked.{Stays, stay_dropped, walk_of, Goes-dropped}
 use Rattle.std.proofs.ResultValues.{and_tt}
 use Rattle.std.proofs.raw_atomic.Walks.{proved_at, leaves}
 use Rattle.fast_kept.specs.contracts.handle.Handle as Handle
-use types.Kit.{fpack, join}
 use denote.Builtin.{u32}
 use denote.Laws.{Is}
 use denote.Plain.{uint_Makes}
@@ -27,7 +26,6 @@ use denote.RattleType.{Valss}
 use denote.Struct.Struct.{within}
 use denote.Struct.Declared.{shape}
 use denote.Struct.Tuple.{Tuple, tuple_type}
-use mir.Val.{vstruct, vcons, vnil}
 use Rattle.fast_kept.specs.Keeping.{flag}
 use Rattle.fast_kept.proofs.Values.{three, handle_in, handle_out, owns_tells, ptr_ok, three_typed}
 use Rattle.fast_kept.specs.contracts.handle.Handle.split as f
