@@ -1,5 +1,5 @@
 -- What a call did with handles of template sets.
-use Rattle.std.specs.Prelude.{◌≡◌, ℕ, List, Option, Some, None, Result, Ok, Err}
+use Rattle.std.specs.Prelude.{◌≡◌, ℕ, List, Option, Some, None, Ok, Err}
 use Rattle.fast_template.specs.TemplateSets.{TemplateList}
 use Rattle.fast_kept.specs.Sets.{set_of}
 use Rattle.fast_kept.specs.declared.kept.Kept.{Kept}
