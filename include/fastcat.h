@@ -1,8 +1,10 @@
 /* fastcat: FAST 1.1 streams and recordings in memory are canonicalised, checked and shown, and lines in JSON are written.
  *
  * A template text is JSON in UTF-8, lines are likewise, and a stream or a recording of packets is bytes; docs/FORMAT.md tells
- * of them. The functions keep no state: threads may call them side by side, each with a room and an answer of its own. A
- * pointer whose length is 0 is not looked at. Room, answer, templates and stream or lines do not overlap.
+ * of them. The templates of a call are a text, which it reads anew, or a set, which is read once (fastcat_set_new).
+ *
+ * Nothing is kept between calls but sets: threads may call the functions side by side, each with a room, an answer and a set of
+ * its own. A pointer whose length is 0 is not looked at. Room, answer, set, templates and stream or lines do not overlap.
  */
 #ifndef FASTCAT_H
 #define FASTCAT_H
@@ -35,8 +37,8 @@ enum {
   FASTCAT_PACKETS = 8
 };
 
-/* How a call ended. The first that fails is answered: the mode, the size of the stream or the lines, the templates, the stream
- * or the lines. */
+/* How a call ended. The first that fails is answered: the set, the mode, the size of the stream or the lines, the templates, the
+ * stream or the lines. */
 enum fastcat_status {
   FASTCAT_DONE = 0,
   /* The stream is refused: cause, message, offset, template and instruction say why and where, and packet of a recording. */
@@ -53,7 +55,9 @@ enum fastcat_status {
   FASTCAT_STREAM_TOO_LONG = 6,
   /* A line stands for no message, or for one that has no form behind those before: cause, template and instruction say why and
    * where, and message is the line's number, from 1. written says how many bytes of the lines before are in the room. */
-  FASTCAT_LINE_REFUSED = 7
+  FASTCAT_LINE_REFUSED = 7,
+  /* The set has no templates, or the handle is of something else; nothing was done. */
+  FASTCAT_WRONG_HANDLE = 8
 };
 
 /* Why a stream, a line or templates are refused; docs/FORMAT.md, "Causes" and "Lines that are written". */
@@ -136,6 +140,38 @@ uint32_t fastcat_write(const uint8_t *templates, size_t templates_length, uint32
 
 /* Checks a template text. */
 uint32_t fastcat_templates(const uint8_t *templates, size_t templates_length, struct fastcat_answer *answer);
+
+/* ---- templates that are read once */
+
+/* A set of templates, by a handle of yours: zeros before the first call (struct fastcat_set set = {0}), and again once it was
+ * freed. Its fields are the library's. A handle is lent to one call at a time, on any thread, and is not copied: two threads
+ * that use the same templates have a handle each, by fastcat_set_share. */
+struct fastcat_set {
+  void *at;
+  uint32_t there;
+};
+
+/* Reads a template text, and keeps its templates behind the handle; what the handle had before is freed. Where the text is
+ * refused, or memory, the handle stays as it was. The text is not needed afterwards. */
+uint32_t fastcat_set_new(const uint8_t *templates, size_t templates_length, struct fastcat_set *set,
+                         struct fastcat_answer *answer);
+
+/* Puts the same templates behind another handle too, of which both are equals: the templates lie in memory once, and are freed
+ * with the last of them. What the other handle had before is freed. */
+uint32_t fastcat_set_share(struct fastcat_set *set, struct fastcat_set *other);
+
+/* Ends the handle, which is zeros again; a second call does nothing. */
+void fastcat_set_free(struct fastcat_set *set);
+
+/* These do with the templates of a set what fastcat_canon, fastcat_check, fastcat_show and fastcat_write do with a text's. */
+uint32_t fastcat_set_canon(struct fastcat_set *set, uint32_t mode, const uint8_t *stream, size_t stream_length, uint8_t *room,
+                           size_t room_length, struct fastcat_answer *answer);
+uint32_t fastcat_set_check(struct fastcat_set *set, uint32_t mode, const uint8_t *stream, size_t stream_length,
+                           struct fastcat_answer *answer);
+uint32_t fastcat_set_show(struct fastcat_set *set, uint32_t mode, const uint8_t *stream, size_t stream_length, uint8_t *room,
+                          size_t room_length, struct fastcat_answer *answer);
+uint32_t fastcat_set_write(struct fastcat_set *set, uint32_t mode, const uint8_t *lines, size_t lines_length, uint8_t *room,
+                           size_t room_length, struct fastcat_answer *answer);
 
 #ifdef __cplusplus
 }

@@ -1,10 +1,13 @@
 """FAST 1.1 streams and recordings in memory: canonical bytes, counts, lines and back, by the proved library (docs/LIBRARY.md).
 
+Templates are a JSON text, as `str` or bytes, a file, as `os.PathLike`, or `Templates` that were read once.
+
 The shared library is the one that the environment variable FASTCAT_LIBRARY names, or libfastcat.so beside this file or
 in ../lib, where lib/build puts it.
 """
 
 import collections.abc
+import contextlib
 import ctypes
 import dataclasses
 import decimal
@@ -12,8 +15,9 @@ import enum
 import json as _json
 import os
 import pathlib
+import threading
 
-__all__ = ["Answer", "Cause", "FastcatError", "Status", "canon", "check", "check_templates", "show", "write"]
+__all__ = ["Answer", "Cause", "FastcatError", "Status", "Templates", "canon", "check", "check_templates", "show", "write"]
 
 
 class Status(enum.IntEnum):
@@ -27,6 +31,7 @@ class Status(enum.IntEnum):
     UNKNOWN_MODE = 5
     STREAM_TOO_LONG = 6
     LINE_REFUSED = 7
+    WRONG_HANDLE = 8
 
 
 class Cause(enum.IntEnum):
@@ -133,6 +138,12 @@ class _Answer(ctypes.Structure):
     ] + [(name, ctypes.c_uint64) for name in ("packets", "packet")]
 
 
+class _Set(ctypes.Structure):
+    """A handle of templates: zeros, or made by the library."""
+
+    _fields_ = [("at", ctypes.c_void_p), ("there", ctypes.c_uint32)]
+
+
 def _load():
     here = pathlib.Path(__file__).resolve().parent
     named = os.environ.get("FASTCAT_LIBRARY")
@@ -147,16 +158,26 @@ def _load():
     slice_in = [ctypes.c_char_p, ctypes.c_size_t]
     room = [ctypes.c_void_p, ctypes.c_size_t]
     answer = [ctypes.POINTER(_Answer)]
-    for function, arguments in (
-        (library.fastcat_canon, slice_in + [ctypes.c_uint32] + slice_in + room + answer),
-        (library.fastcat_check, slice_in + [ctypes.c_uint32] + slice_in + answer),
-        (library.fastcat_show, slice_in + [ctypes.c_uint32] + slice_in + room + answer),
-        (library.fastcat_write, slice_in + [ctypes.c_uint32] + slice_in + room + answer),
-        (library.fastcat_templates, slice_in + answer),
-        (library.fastcat_version, []),
+    handle = [ctypes.POINTER(_Set)]
+    functions = {
+        "fastcat_templates": slice_in + answer,
+        "fastcat_version": [],
+        "fastcat_set_new": slice_in + handle + answer,
+        "fastcat_set_share": handle + handle,
+        "fastcat_set_free": handle,
+    }
+    for name, arguments in (
+        ("canon", [ctypes.c_uint32] + slice_in + room + answer),
+        ("check", [ctypes.c_uint32] + slice_in + answer),
+        ("show", [ctypes.c_uint32] + slice_in + room + answer),
+        ("write", [ctypes.c_uint32] + slice_in + room + answer),
     ):
+        functions[f"fastcat_{name}"] = slice_in + arguments
+        functions[f"fastcat_set_{name}"] = handle + arguments
+    for name, arguments in functions.items():
+        function = getattr(library, name)
         function.argtypes = arguments
-        function.restype = ctypes.c_uint32
+        function.restype = None if name == "fastcat_set_free" else ctypes.c_uint32
     return library
 
 
@@ -171,13 +192,17 @@ def _version() -> str:
 __version__ = _version()
 
 
-def _call(function, *arguments) -> Answer:
-    raw = _Answer()
-    function(*arguments, ctypes.byref(raw))
+def _answer(raw: _Answer) -> Answer:
     values = {name: getattr(raw, name) for name, _ in _Answer._fields_}
     values["status"] = Status(values["status"])
     values["cause"] = Cause(values["cause"])
     return Answer(**values)
+
+
+def _call(function, *arguments) -> Answer:
+    raw = _Answer()
+    function(*arguments, ctypes.byref(raw))
+    return _answer(raw)
 
 
 def _text(templates) -> bytes:
@@ -198,15 +223,72 @@ def _mode(strict: bool, blocks: bool, packets: bool, json: bool = False) -> int:
     return (1 if strict else 0) | (2 if blocks else 0) | (4 if json else 0) | (8 if packets else 0)
 
 
-def _write(function, templates, data: bytes, mode) -> bytes:
-    text = _text(templates)
+class Templates:
+    """Templates that are read once, of a JSON text, as `str` or bytes, or of a file, as `os.PathLike`.
+
+    Each function takes them in the place of a text, in any thread. `close` frees them, or the end of a `with` block, or of the
+    object; a call in another thread has them until it returns.
+    """
+
+    def __init__(self, templates):
+        self._set = _Set()
+        self._lock = threading.Lock()
+        text = _text(templates)
+        answer = _call(_library.fastcat_set_new, text, len(text), ctypes.byref(self._set))
+        if answer.status is not Status.DONE:
+            raise FastcatError(answer)
+
+    def _share(self) -> _Set:
+        """A handle for one call, since each is lent to one call at a time."""
+        share = _Set()
+        with self._lock:
+            status = _library.fastcat_set_share(ctypes.byref(self._set), ctypes.byref(share))
+        if status != Status.DONE:
+            raise FastcatError(_answer(_Answer(status=status)))
+        return share
+
+    def close(self) -> None:
+        """Frees the templates; a call with them is refused afterwards. It may be called again."""
+        with self._lock:
+            _library.fastcat_set_free(ctypes.byref(self._set))
+
+    def __del__(self):
+        self.close()
+
+    def __enter__(self):
+        return self
+
+    def __exit__(self, *error):
+        self.close()
+
+    def __reduce__(self):
+        raise TypeError("templates that were read are not copied; their text is")
+
+
+@contextlib.contextmanager
+def _given(templates):
+    """How the library's functions for templates are named that are read or a text, and the arguments that say which."""
+    if not isinstance(templates, Templates):
+        text = _text(templates)
+        yield "fastcat_", (text, len(text))
+        return
+    share = templates._share()
+    try:
+        yield "fastcat_set_", (ctypes.byref(share),)
+    finally:
+        _library.fastcat_set_free(ctypes.byref(share))
+
+
+def _write(name, templates, data: bytes, mode) -> bytes:
     length = max(len(data), 64)
-    while True:
-        room = ctypes.create_string_buffer(length)
-        answer = _call(function, text, len(text), mode, data, len(data), room, length)
-        if answer.status is not Status.ROOM_TOO_SHORT:
-            break
-        length = answer.written
+    with _given(templates) as (kind, given):
+        function = getattr(_library, kind + name)
+        while True:
+            room = ctypes.create_string_buffer(length)
+            answer = _call(function, *given, mode, data, len(data), room, length)
+            if answer.status is not Status.ROOM_TOO_SHORT:
+                break
+            length = answer.written
     written = ctypes.string_at(room, answer.written)
     if answer.status is not Status.DONE:
         raise FastcatError(answer, written)
@@ -214,15 +296,14 @@ def _write(function, templates, data: bytes, mode) -> bytes:
 
 
 def canon(templates, stream, strict: bool = False, blocks: bool = False, packets: bool = False) -> bytes:
-    """The canonical bytes of a stream, or with `packets` of a recording. `templates` is a JSON text, as `str` or bytes, or a
-    file, as `os.PathLike`."""
-    return _write(_library.fastcat_canon, templates, _bytes("stream", stream), _mode(strict, blocks, packets))
+    """The canonical bytes of a stream, or with `packets` of a recording."""
+    return _write("canon", templates, _bytes("stream", stream), _mode(strict, blocks, packets))
 
 
 def show(templates, stream, strict: bool = False, blocks: bool = False, packets: bool = False, json: bool = False) -> str:
     """A line for each message of a stream or a recording: of text, in ASCII, or a JSON text, which with `packets` says its
     packet first."""
-    return _write(_library.fastcat_show, templates, _bytes("stream", stream), _mode(strict, blocks, packets, json)).decode()
+    return _write("show", templates, _bytes("stream", stream), _mode(strict, blocks, packets, json)).decode()
 
 
 def _in_json(value):
@@ -272,20 +353,24 @@ def write(templates, messages, packets: bool = False) -> bytes:
     or bytes. Decimals are `decimal.Decimal` or `int`, and a `float` is a `TypeError`. A byte vector is bytes, or hex text.
     `messages` may also be a text of lines. Where one is refused, the answer's `message` is its place, from 1, or its line's.
     """
-    return _write(_library.fastcat_write, templates, _lines(messages), _mode(False, False, packets, True))
+    return _write("write", templates, _lines(messages), _mode(False, False, packets, True))
 
 
 def check(templates, stream, strict: bool = False, blocks: bool = False, packets: bool = False) -> Answer:
     """How many messages and bytes a stream has, or packets a recording, and in `written` how many canonical bytes."""
-    text, data = _text(templates), _bytes("stream", stream)
-    answer = _call(_library.fastcat_check, text, len(text), _mode(strict, blocks, packets), data, len(data))
+    data = _bytes("stream", stream)
+    with _given(templates) as (kind, given):
+        answer = _call(getattr(_library, kind + "check"), *given, _mode(strict, blocks, packets), data, len(data))
     if answer.status is not Status.DONE:
         raise FastcatError(answer)
     return answer
 
 
 def check_templates(templates) -> None:
-    """Returns where a template text has templates, and raises where it is refused."""
+    """Returns where a template text has templates, and raises where it is refused. Templates that were read are not freed."""
+    if isinstance(templates, Templates):
+        with _given(templates):
+            return
     text = _text(templates)
     answer = _call(_library.fastcat_templates, text, len(text))
     if answer.status is not Status.DONE:

@@ -2,6 +2,7 @@
  * docs/FORMAT.md. */
 #include "fastcat.h"
 
+#include <pthread.h>
 #include <stdio.h>
 #include <stdlib.h>
 #include <string.h>
@@ -45,13 +46,60 @@ static int says(const struct fastcat_answer *a, uint32_t status, uint64_t messag
          a->instruction == instruction;
 }
 
+/* ---- a call with the text of templates, and with a set of them */
+
+enum command { CANON, CHECK, SHOW, WRITE };
+
+static uint32_t of_text(enum command command, const uint8_t *text, size_t text_length, uint32_t mode, const uint8_t *bytes,
+                        size_t length, uint8_t *out, size_t out_length, struct fastcat_answer *a) {
+  switch (command) {
+  case CANON: return fastcat_canon(text, text_length, mode, bytes, length, out, out_length, a);
+  case CHECK: return fastcat_check(text, text_length, mode, bytes, length, a);
+  case SHOW: return fastcat_show(text, text_length, mode, bytes, length, out, out_length, a);
+  default: return fastcat_write(text, text_length, mode, bytes, length, out, out_length, a);
+  }
+}
+
+static uint32_t of_set(enum command command, struct fastcat_set *set, uint32_t mode, const uint8_t *bytes, size_t length,
+                       uint8_t *out, size_t out_length, struct fastcat_answer *a) {
+  switch (command) {
+  case CANON: return fastcat_set_canon(set, mode, bytes, length, out, out_length, a);
+  case CHECK: return fastcat_set_check(set, mode, bytes, length, a);
+  case SHOW: return fastcat_set_show(set, mode, bytes, length, out, out_length, a);
+  default: return fastcat_set_write(set, mode, bytes, length, out, out_length, a);
+  }
+}
+
+static int is_empty(const struct fastcat_set *set) { return set->at == NULL && set->there == 0; }
+
+/* The call with a set of the text, or the refusal of the text, writes and answers what the call with the text does. */
+static uint32_t both(enum command command, const uint8_t *text, size_t text_length, uint32_t mode, const uint8_t *bytes,
+                     size_t length, uint8_t *out, size_t out_length, struct fastcat_answer *answer) {
+  static uint8_t other[1024];
+  struct fastcat_set set = {0};
+  struct fastcat_answer a;
+  if (out_length > 0) memcpy(other, out, out_length);
+  uint32_t status = of_text(command, text, text_length, mode, bytes, length, out, out_length, answer);
+  memset(&a, 0x55, sizeof a);
+  if (fastcat_set_new(text, text_length, &set, &a) == FASTCAT_DONE) {
+    expect(says(&a, 0, 0, 0, 0, 0, 0, 0, 0, 0) && !is_empty(&set), "a set is made");
+    memset(&a, 0x55, sizeof a);
+    expect(of_set(command, &set, mode, bytes, length, other, out_length, &a) == status, "a set's status");
+  }
+  expect(memcmp(&a, answer, sizeof a) == 0, "a set's answer");
+  expect(out_length == 0 || memcmp(other, out, out_length) == 0, "what is written with a set");
+  fastcat_set_free(&set);
+  expect(is_empty(&set), "a set is freed");
+  return status;
+}
+
 static uint8_t room[512];
 
 static uint32_t canon(const uint8_t *stream, size_t length, uint32_t mode, size_t room_length,
                       struct fastcat_answer *answer) {
   memset(room, 0xaa, sizeof room);
   memset(answer, 0xaa, sizeof *answer);
-  return fastcat_canon(templates, templates_length, mode, stream, length, room, room_length, answer);
+  return both(CANON, templates, templates_length, mode, stream, length, room, room_length, answer);
 }
 
 /* The room holds these bytes, and behind them what was there before. */
@@ -85,31 +133,31 @@ static void streams(void) {
   expect(canon(one, sizeof one, FASTCAT_BLOCKS | FASTCAT_PACKETS, sizeof room, &a) == FASTCAT_UNKNOWN_MODE, "packets of blocks");
   expect(canon(one, sizeof one, 0x80000001u, sizeof room, &a) == FASTCAT_UNKNOWN_MODE, "another unknown mode");
   expect(canon(NULL, 0, 0, sizeof room, &a) == FASTCAT_DONE && says(&a, 0, 0, 0, 0, 0, 0, 0, 0, 0) && holds("", 0), "no stream");
-  expect(fastcat_canon(templates, templates_length, 0, one, 0, NULL, 0, &a) == FASTCAT_DONE, "no stream and no room");
-  expect(fastcat_canon(templates, templates_length, 0, one, sizeof one, NULL, 0, &a) == FASTCAT_ROOM_TOO_SHORT, "no room");
+  expect(both(CANON, templates, templates_length, 0, one, 0, NULL, 0, &a) == FASTCAT_DONE, "no stream and no room");
+  expect(both(CANON, templates, templates_length, 0, one, sizeof one, NULL, 0, &a) == FASTCAT_ROOM_TOO_SHORT, "no room");
 }
 
 static void others(void) {
   struct fastcat_answer a;
   memset(&a, 0xaa, sizeof a);
-  expect(fastcat_check(templates, templates_length, 0, spelled_out, sizeof spelled_out, &a) == FASTCAT_DONE &&
+  expect(both(CHECK, templates, templates_length, 0, spelled_out, sizeof spelled_out, NULL, 0, &a) == FASTCAT_DONE &&
              says(&a, 0, 2, 16, 11, 0, 0, 0, 0, 0), "check");
-  expect(fastcat_check(templates, templates_length, FASTCAT_STRICT, overlong, sizeof overlong, &a) == FASTCAT_STREAM_REFUSED &&
+  expect(both(CHECK, templates, templates_length, FASTCAT_STRICT, overlong, sizeof overlong, NULL, 0, &a) == FASTCAT_STREAM_REFUSED &&
              says(&a, 1, 0, 0, 0, FASTCAT_R6, 1, 2, 1, 1), "check at the strict level");
   memset(room, 0xaa, sizeof room);
-  expect(fastcat_show(templates, templates_length, 0, one, sizeof one, room, sizeof line - 1, &a) == FASTCAT_DONE &&
+  expect(both(SHOW, templates, templates_length, 0, one, sizeof one, room, sizeof line - 1, &a) == FASTCAT_DONE &&
              says(&a, 0, 1, 8, sizeof line - 1, 0, 0, 0, 0, 0) && holds(line, sizeof line - 1), "show");
   memset(room, 0xaa, sizeof room);
-  expect(fastcat_show(templates, templates_length, 0, one, sizeof one, room, sizeof line - 2, &a) == FASTCAT_ROOM_TOO_SHORT &&
+  expect(both(SHOW, templates, templates_length, 0, one, sizeof one, room, sizeof line - 2, &a) == FASTCAT_ROOM_TOO_SHORT &&
              holds("", 0), "show in a room that is one byte too short");
-  expect(fastcat_show(templates, templates_length, 32, one, sizeof one, room, sizeof room, &a) == FASTCAT_UNKNOWN_MODE,
+  expect(both(SHOW, templates, templates_length, 32, one, sizeof one, room, sizeof room, &a) == FASTCAT_UNKNOWN_MODE,
          "show in an unknown mode");
   memset(room, 0xaa, sizeof room);
-  expect(fastcat_show(templates, templates_length, FASTCAT_JSON, one, sizeof one, room, sizeof room, &a) == FASTCAT_DONE &&
+  expect(both(SHOW, templates, templates_length, FASTCAT_JSON, one, sizeof one, room, sizeof room, &a) == FASTCAT_DONE &&
              says(&a, 0, 1, 8, sizeof json - 1, 0, 0, 0, 0, 0) && holds(json, sizeof json - 1), "show in JSON");
 
   /* The length alone is looked at. */
-  expect(fastcat_check(templates, templates_length, 0, one, (size_t)1 << 40, &a) == FASTCAT_STREAM_TOO_LONG &&
+  expect(both(CHECK, templates, templates_length, 0, one, (size_t)1 << 40, NULL, 0, &a) == FASTCAT_STREAM_TOO_LONG &&
              says(&a, 6, 0, 0, 0, 0, 0, 0, 0, 0), "a stream that is too long");
 
   static const char cycle[] = "{\"templates\":[{\"name\":\"A\",\"instructions\":[{\"kind\":\"templateRef\",\"name\":\"A\"}]}]}";
@@ -123,7 +171,7 @@ static void others(void) {
              says(&a, 2, 0, 0, 0, FASTCAT_CYCLE, 0, 0, 1, 0), "a cycle of references");
   expect(fastcat_templates((const uint8_t *)tail, sizeof tail - 1, &a) == FASTCAT_TEMPLATES_REFUSED &&
              says(&a, 2, 0, 0, 0, FASTCAT_S2, 0, 0, 1, 1), "an operator that does not apply");
-  expect(fastcat_check((const uint8_t *)tail, sizeof tail - 1, 0, one, sizeof one, &a) == FASTCAT_TEMPLATES_REFUSED &&
+  expect(both(CHECK, (const uint8_t *)tail, sizeof tail - 1, 0, one, sizeof one, NULL, 0, &a) == FASTCAT_TEMPLATES_REFUSED &&
              says(&a, 2, 0, 0, 0, FASTCAT_S2, 0, 0, 1, 1), "a check with templates that are refused");
 }
 
@@ -144,12 +192,12 @@ static void recordings(void) {
              says(&a, 1, 0, 0, 9, FASTCAT_R6, 1, 9, 0, 0) && of_packets(&a, 1, 2) && holds(canonical_packets, 9),
          "a size that is too long at the strict level");
   memset(&a, 0xaa, sizeof a);
-  expect(fastcat_check(templates, templates_length, FASTCAT_PACKETS, two_packets, sizeof two_packets, &a) == FASTCAT_DONE &&
+  expect(both(CHECK, templates, templates_length, FASTCAT_PACKETS, two_packets, sizeof two_packets, NULL, 0, &a) == FASTCAT_DONE &&
              says(&a, 0, 2, 19, 18, 0, 0, 0, 0, 0) && of_packets(&a, 2, 0), "check of two packets");
-  expect(fastcat_check(templates, templates_length, FASTCAT_PACKETS, two_packets, 12, &a) == FASTCAT_STREAM_REFUSED &&
+  expect(both(CHECK, templates, templates_length, FASTCAT_PACKETS, two_packets, 12, NULL, 0, &a) == FASTCAT_STREAM_REFUSED &&
              says(&a, 1, 0, 0, 0, FASTCAT_TRUNCATED, 1, 12, 0, 0) && of_packets(&a, 1, 2), "a recording that is cut");
   memset(room, 0xaa, sizeof room);
-  expect(fastcat_show(templates, templates_length, FASTCAT_PACKETS | FASTCAT_JSON, two_packets, sizeof two_packets, room,
+  expect(both(SHOW, templates, templates_length, FASTCAT_PACKETS | FASTCAT_JSON, two_packets, sizeof two_packets, room,
                       sizeof room, &a) == FASTCAT_DONE && says(&a, 0, 2, 19, sizeof packet_lines - 1, 0, 0, 0, 0, 0) &&
              of_packets(&a, 2, 0) && holds(packet_lines, sizeof packet_lines - 1), "show of two packets in JSON");
 }
@@ -159,15 +207,15 @@ static uint32_t write_lines(const char *lines, size_t length, uint32_t mode, siz
                             struct fastcat_answer *answer) {
   memset(room, 0xaa, sizeof room);
   memset(answer, 0xaa, sizeof *answer);
-  return fastcat_write(templates, templates_length, mode, (const uint8_t *)lines, length, room, room_length, answer);
+  return both(WRITE, templates, templates_length, mode, (const uint8_t *)lines, length, room, room_length, answer);
 }
 
-/* What fastcat_show writes of a stream in JSON is written again. */
+/* What is shown of a stream in JSON is written again. */
 static int is_written_again(const uint8_t *stream, size_t length, uint32_t mode, const uint8_t *bytes, size_t count,
                             uint64_t messages) {
   static uint8_t shown[1024];
   struct fastcat_answer a;
-  if (fastcat_show(templates, templates_length, mode | FASTCAT_JSON, stream, length, shown, sizeof shown, &a) != FASTCAT_DONE)
+  if (both(SHOW, templates, templates_length, mode | FASTCAT_JSON, stream, length, shown, sizeof shown, &a) != FASTCAT_DONE)
     return 0;
   size_t size = (size_t)a.written;
   for (uint32_t json = 0; json <= FASTCAT_JSON; json += FASTCAT_JSON)
@@ -196,7 +244,7 @@ static void lines(void) {
   expect(write_lines("", (size_t)1 << 40, 0, sizeof room, &a) == FASTCAT_STREAM_TOO_LONG && says(&a, 6, 0, 0, 0, 0, 0, 0, 0, 0),
          "lines that are too long");
   memset(&a, 0xaa, sizeof a);
-  expect(fastcat_write((const uint8_t *)"{", 1, 0, (const uint8_t *)json, sizeof json - 1, room, sizeof room, &a) ==
+  expect(both(WRITE, (const uint8_t *)"{", 1, 0, (const uint8_t *)json, sizeof json - 1, room, sizeof room, &a) ==
              FASTCAT_TEMPLATES_REFUSED && says(&a, 2, 0, 0, 0, FASTCAT_S1, 0, 0, 0, 0), "lines with templates that are refused");
 
   /* The blank line is counted, and what stands before the refused one is written. */
@@ -224,6 +272,127 @@ static void lines(void) {
   at += (size_t)sprintf(much + at, "\",\"Px\":1}}");
   expect(write_lines(much, at, 0, sizeof room, &a) == FASTCAT_LINE_REFUSED && says(&a, 7, 0, 0, 0, FASTCAT_LIMIT, 1, 0, 1, 2) &&
              holds("", 0), "a string that is too long");
+}
+
+/* ---- sets */
+
+/* A set of no templates: no stream is canonicalised with it, but the one of no bytes. */
+static const char nothing[] = "{\"templates\":[]}";
+
+static void make(struct fastcat_set *set) {
+  struct fastcat_answer a;
+  expect(fastcat_set_new(templates, templates_length, set, &a) == FASTCAT_DONE, "a set");
+}
+
+static void make_of_nothing(struct fastcat_set *set) {
+  struct fastcat_answer a;
+  expect(fastcat_set_new((const uint8_t *)nothing, sizeof nothing - 1, set, &a) == FASTCAT_DONE, "a set of nothing");
+}
+
+/* The handle has the worked templates. */
+static int is_worked(struct fastcat_set *set) {
+  struct fastcat_answer a;
+  memset(room, 0xaa, sizeof room);
+  return fastcat_set_canon(set, 0, spelled_out, sizeof spelled_out, room, sizeof room, &a) == FASTCAT_DONE &&
+         says(&a, 0, 2, 16, 11, 0, 0, 0, 0, 0) && holds(canonical, 11) && !is_empty(set);
+}
+
+/* Each call answers that the handle has no set, and does nothing else. */
+static int has_none(struct fastcat_set *set) {
+  struct fastcat_answer a;
+  for (enum command command = CANON; command <= WRITE; command++) {
+    memset(room, 0xaa, sizeof room);
+    memset(&a, 0xaa, sizeof a);
+    if (of_set(command, set, 0, one, sizeof one, room, sizeof room, &a) != FASTCAT_WRONG_HANDLE ||
+        !says(&a, 8, 0, 0, 0, 0, 0, 0, 0, 0) || a.packets != 0 || a.packet != 0 || !holds("", 0) || !is_empty(set))
+      return 0;
+    /* Nothing else is looked at. */
+    if (of_set(command, set, 16, one, (size_t)1 << 40, NULL, 0, &a) != FASTCAT_WRONG_HANDLE) return 0;
+  }
+  return 1;
+}
+
+static void empty_handles(void) {
+  struct fastcat_set none = {0}, other = {0}, set = {0};
+  make(&set);
+  expect(has_none(&none), "a handle of zeros");
+  expect(fastcat_set_share(&none, &other) == FASTCAT_WRONG_HANDLE && is_empty(&none) && is_empty(&other), "nothing is shared");
+  expect(fastcat_set_share(&none, &set) == FASTCAT_WRONG_HANDLE && is_worked(&set), "nothing is put in the place of a set");
+  fastcat_set_free(&none);
+  expect(is_empty(&none), "a handle of zeros is freed");
+  fastcat_set_free(&set);
+  expect(has_none(&set), "a handle that was freed");
+  fastcat_set_free(&set);
+  expect(has_none(&set), "a handle that was freed twice");
+}
+
+static void sets(void) {
+  struct fastcat_answer a;
+  struct fastcat_set set = {0};
+  make(&set);
+  expect(is_worked(&set) && is_worked(&set), "a set is used again");
+  expect(fastcat_set_canon(&set, 16, one, sizeof one, room, sizeof room, &a) == FASTCAT_UNKNOWN_MODE && is_worked(&set),
+         "a set and an unknown mode");
+  expect(fastcat_set_check(&set, 0, one, (size_t)1 << 40, &a) == FASTCAT_STREAM_TOO_LONG && is_worked(&set),
+         "a set and a stream that is too long");
+  expect(fastcat_set_canon(&set, 0, cut, sizeof cut, room, sizeof room, &a) == FASTCAT_STREAM_REFUSED && is_worked(&set),
+         "a set behind a stream that is refused");
+  memset(&a, 0xaa, sizeof a);
+  expect(fastcat_set_new((const uint8_t *)"{", 1, &set, &a) == FASTCAT_TEMPLATES_REFUSED &&
+             says(&a, 2, 0, 0, 0, FASTCAT_S1, 0, 0, 0, 0) && is_worked(&set), "a set behind a text that is refused");
+  make_of_nothing(&set);
+  expect(fastcat_set_check(&set, 0, one, sizeof one, &a) == FASTCAT_STREAM_REFUSED && a.cause == FASTCAT_D9,
+         "a set in the place of another");
+  fastcat_set_free(&set);
+}
+
+/* Shares are equals, and are freed in either order. */
+static void shares(void) {
+  struct fastcat_set first = {0}, second = {0}, third = {0};
+  make(&first);
+  expect(fastcat_set_share(&first, &second) == FASTCAT_DONE && is_worked(&first) && is_worked(&second), "a share");
+  fastcat_set_free(&first);
+  expect(has_none(&first) && is_worked(&second), "the first is freed first");
+  expect(fastcat_set_share(&second, &third) == FASTCAT_DONE, "a share of a share");
+  fastcat_set_free(&third);
+  expect(has_none(&third) && is_worked(&second), "the second is freed first");
+  make_of_nothing(&third);
+  expect(fastcat_set_share(&second, &third) == FASTCAT_DONE && is_worked(&third), "a share in the place of another set");
+  fastcat_set_free(&second);
+  expect(is_worked(&third), "the share that is left");
+  fastcat_set_free(&third);
+}
+
+/* Takes shares of its own and frees them, while another thread does. */
+static void *in_a_thread(void *given) {
+  struct fastcat_set *mine = given;
+  uint8_t out[sizeof canonical];
+  size_t right = 0;
+  for (int i = 0; i < 500; i++) {
+    struct fastcat_set another = {0};
+    struct fastcat_answer a;
+    if (fastcat_set_share(mine, &another) == FASTCAT_DONE &&
+        fastcat_set_canon(&another, 0, spelled_out, sizeof spelled_out, out, sizeof out, &a) == FASTCAT_DONE &&
+        memcmp(out, canonical, sizeof out) == 0)
+      right++;
+    fastcat_set_free(&another);
+  }
+  fastcat_set_free(mine);
+  return right == 500 ? given : NULL;
+}
+
+static void threads(void) {
+  struct fastcat_set set = {0}, shared[2] = {{0}, {0}};
+  pthread_t running[2];
+  make(&set);
+  for (int i = 0; i < 2; i++)
+    expect(fastcat_set_share(&set, &shared[i]) == FASTCAT_DONE &&
+               pthread_create(&running[i], NULL, in_a_thread, &shared[i]) == 0, "a thread");
+  fastcat_set_free(&set);
+  for (int i = 0; i < 2; i++) {
+    void *right = NULL;
+    expect(pthread_join(running[i], &right) == 0 && right == &shared[i] && is_empty(&shared[i]), "a thread over a share");
+  }
 }
 
 /* The causes by the names of fastcat.h. */
@@ -261,10 +430,10 @@ static void table(FILE *file) {
       size_t length = 0;
       for (unsigned byte; length < sizeof stream && sscanf(what + 2 * length, "%2x", &byte) == 1; length++)
         stream[length] = (uint8_t)byte;
-      expect(fastcat_check((const uint8_t *)over, strlen(over), mode, stream, length, &a) == FASTCAT_STREAM_REFUSED &&
+      expect(both(CHECK, (const uint8_t *)over, strlen(over), mode, stream, length, NULL, 0, &a) == FASTCAT_STREAM_REFUSED &&
                  a.cause == number, name);
     } else if (strcmp(kind, "line") == 0) {
-      expect(fastcat_write((const uint8_t *)over, strlen(over), mode, (const uint8_t *)what, strlen(what), room, sizeof room,
+      expect(both(WRITE, (const uint8_t *)over, strlen(over), mode, (const uint8_t *)what, strlen(what), room, sizeof room,
                            &a) == FASTCAT_LINE_REFUSED && a.cause == number && a.message == 1, name);
     } else {
       expect(fastcat_templates((const uint8_t *)what, strlen(what), &a) == FASTCAT_TEMPLATES_REFUSED && a.cause == number, name);
@@ -285,6 +454,10 @@ int main(int count, char **words) {
   others();
   recordings();
   lines();
+  empty_handles();
+  sets();
+  shares();
+  threads();
   table(rows);
   fclose(rows);
   printf("C: %u passed, %u failed\n", passed, failed);

@@ -1,8 +1,12 @@
 """Tests of the library as Python calls it, over the examples. Expected values are those of README.md, of docs/FORMAT.md
 and of the files of examples/."""
 
+import collections.abc
+import copy
 import ctypes
 import decimal
+import gc
+import itertools
 import json
 import os
 import pathlib
@@ -16,7 +20,53 @@ import unittest
 TOP = pathlib.Path(__file__).resolve().parent.parent
 sys.path.insert(0, str(TOP / "python"))
 
-import fastcat  # noqa: E402
+import fastcat as library  # noqa: E402
+
+
+def outcome(call, *arguments, **named):
+    """What a call returns, or the error that it raises."""
+    try:
+        return call(*arguments, **named)
+    except (library.FastcatError, TypeError, ValueError) as error:
+        return error
+
+
+def as_told(it):
+    """An outcome to be compared, an error by what it says."""
+    return (type(it), str(it), getattr(it, "answer", None), getattr(it, "written", None)) if isinstance(it, Exception) else it
+
+
+def twice(call):
+    """The call with a template text, and with `Templates` of it, which do the same."""
+
+    def calls(templates, data, *arguments, **named):
+        data, again = itertools.tee(data) if isinstance(data, collections.abc.Iterator) else (data, data)
+        done = outcome(call, templates, data, *arguments, **named)
+        with_read = outcome(read_and, call, templates, again, *arguments, **named)
+        if as_told(done) != as_told(with_read):
+            raise AssertionError(f"{done!r} with a text, {with_read!r} with templates that were read")
+        if isinstance(done, Exception):
+            raise done
+        return done
+
+    return calls
+
+
+def read_and(call, templates, *arguments, **named):
+    with library.Templates(templates) as read:
+        return call(read, *arguments, **named)
+
+
+class Both:
+    """The library, whose calls are made with a text and with templates that were read."""
+
+    canon, check, show, write = map(staticmethod, map(twice, (library.canon, library.check, library.show, library.write)))
+
+    def __getattr__(self, name):
+        return getattr(library, name)
+
+
+fastcat = Both()
 
 EXAMPLES = TOP / "examples"
 
@@ -337,16 +387,16 @@ class Rooms(unittest.TestCase):
             taken = int(pathlib.Path("/proc/self/statm").read_text().split()[0]) * resource.getpagesize()
             resource.setrlimit(resource.RLIMIT_AS, (taken + limit, taken + limit))
             try:
-                fastcat.canon(WORKED, stream)
-            except fastcat.FastcatError as error:
+                library.canon(WORKED, stream)
+            except library.FastcatError as error:
                 os.write(write, str(error).encode())
             except MemoryError:
                 os.write(write, b"Python's own")
             os._exit(0)
         os.close(write)
         with os.fdopen(read) as said:
-            self.assertEqual(said.read(), "no memory")
-        os.waitpid(child, 0)
+            told = said.read()
+        self.assertEqual((os.waitpid(child, 0)[1], told), (0, "no memory"))
 
     def test_threads(self):
         wrong = []
@@ -359,6 +409,86 @@ class Rooms(unittest.TestCase):
         threads = [threading.Thread(target=run) for _ in range(4)]
         for thread in threads:
             thread.start()
+        for thread in threads:
+            thread.join()
+        self.assertEqual(wrong, [])
+
+
+class Sets(unittest.TestCase):
+    """Templates that are read once, and used again."""
+
+    def test_kinds(self):
+        for given in (WORKED, WORKED.encode(), bytearray(WORKED.encode()), EXAMPLES / "worked.json"):
+            with self.subTest(given=type(given)), library.Templates(given) as read:
+                for _ in range(3):
+                    self.assertEqual(library.canon(read, ONE), ONE)
+                self.assertEqual(library.check(read, ONE).messages, 1)
+                self.assertEqual(library.show(read, ONE), '1 Quote Seq=1 Sym="AB" Px=100e-2 Qty=-\n')
+                self.assertEqual(library.write(read, [quote(decimal.Decimal("1.00"))]), ONE)
+                self.assertIsNone(library.check_templates(read))
+
+    def test_refused(self):
+        for given, expected in (("[]", library.FastcatError), (5, TypeError), (None, TypeError)):
+            with self.assertRaises(expected):
+                library.Templates(given)
+        self.assertEqual(str(outcome(library.Templates, "[]")), "templates refused S1 template=0 instruction=0")
+
+    def test_closed(self):
+        read = library.Templates(WORKED)
+        error = outcome(library.canon, read, ONE + b"\x80")
+        self.assertEqual((error.answer.messages, error.written), (1, ONE))
+        for _ in range(2):
+            read.close()
+            for call, given in ((library.canon, ONE), (library.check, ONE), (library.show, ONE), (library.write, [])):
+                self.assertIs(outcome(call, read, given).answer.status, library.Status.WRONG_HANDLE)
+            self.assertEqual(str(outcome(library.check_templates, read)), "wrong handle")
+        with self.assertRaises(library.FastcatError):
+            with library.Templates(WORKED) as left:
+                pass
+            library.canon(left, ONE)
+
+    def test_not_copied(self):
+        with library.Templates(WORKED) as read:
+            for copied in (copy.copy, copy.deepcopy, pickle.dumps):
+                with self.assertRaisesRegex(TypeError, "their text"):
+                    copied(read)
+
+    def test_handle(self):
+        """A handle has the fields of fastcat.h."""
+        fields = re.findall(r"(void \*|uint32_t )(\w+);", HEADER.split("struct fastcat_set {")[1].split("};")[0])
+        kinds = {"void *": ctypes.c_void_p, "uint32_t ": ctypes.c_uint32}
+        self.assertEqual([(name, kinds[kind]) for kind, name in fields], library._Set._fields_)
+
+    def test_memory_is_given_back(self):
+        """A hundred sets of a megabyte and more, one after the other, take no more than a few."""
+        instructions = [{"kind": "uInt32", "name": "N" * 100 + str(n)} for n in range(3000)]
+        given = json.dumps({"templates": [{"name": "T", "id": 1, "instructions": instructions}]})
+        library.Templates(given).close()
+        before = resource.getrusage(resource.RUSAGE_SELF).ru_maxrss
+        for n in range(100):
+            read = library.Templates(given)
+            if n % 2:
+                read.close()
+            del read
+        gc.collect()
+        self.assertLess(resource.getrusage(resource.RUSAGE_SELF).ru_maxrss - before, 50_000)
+
+    def test_threads(self):
+        """Threads use one object, and it may be closed meanwhile: a call is done or refused."""
+        read, wrong = library.Templates(WORKED), []
+        stream, canonical = data("worked.hex"), data("worked.canon")
+
+        def run():
+            for _ in range(200):
+                done = outcome(library.canon, read, stream)
+                closed = isinstance(done, library.FastcatError) and done.answer.status is library.Status.WRONG_HANDLE
+                if done != canonical and not closed:
+                    wrong.append(done)
+
+        threads = [threading.Thread(target=run) for _ in range(4)]
+        for thread in threads:
+            thread.start()
+        read.close()
         for thread in threads:
             thread.join()
         self.assertEqual(wrong, [])

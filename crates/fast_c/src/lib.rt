@@ -1,12 +1,21 @@
 //! The library for C: a stream in memory is canonicalised, checked or shown, lines are written, and a template text is checked.
+//! The templates are a text, or are read once and kept behind a handle.
 //!
-//! `include/fastcat.h` at the top declares these functions for C, and docs/LIBRARY.md tells of them. They keep no state
-//! between calls, so that threads may call them side by side. What they do is done by `fast_slices`.
+//! `include/fastcat.h` at the top declares these functions for C, and docs/LIBRARY.md tells of them. Between calls nothing is
+//! kept but what C has handles of, so that threads may call them side by side, each with handles of its own. What they do is
+//! done by `fast_slices`.
 #![tactic(auto)]
 
 mod exports;
+mod set_exports;
+mod sets;
 
 pub use exports::{
     fastcat_canon, fastcat_check, fastcat_show, fastcat_templates, fastcat_version, fastcat_write,
 };
+pub use fast_kept::Handle;
 pub use fast_slices::{Answer, Refusal};
+pub use set_exports::{
+    fastcat_set_canon, fastcat_set_check, fastcat_set_free, fastcat_set_new, fastcat_set_share,
+    fastcat_set_show, fastcat_set_write,
+};

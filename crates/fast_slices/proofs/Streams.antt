@@ -31,13 +31,11 @@ use Rattle.fast_command.specs.declared.command.Command.TheVariants.{Show, Check,
 use Rattle.fast_lines.specs.declared.form.Form.{Form}
 use Rattle.fast_slices.specs.declared.answer.Refusal.{Refusal}
 use Rattle.fast_slices.specs.Answers.{answer_of}
-use Rattle.fast_recording.specs.Calls.{WritesCanonical}
 use Rattle.fast_slices.proofs.Recordings.{front_no_longer}
-use Rattle.fast_slices.specs.Packets.{WritesPackets}
 use Rattle.fast_slices.specs.Ways.{way_of}
 use Rattle.fast_slices.specs.declared.way.Reading.{Reading}
 use Rattle.fast_slices.specs.declared.way.Way.{Way}
-use Rattle.fast_slices.specs.Calls.{Canons, CountsStream, Done, LooksAs, StreamDone, IsRefused, Measures, Needs, Overflows, RefusesCall, Settles, Writes}
+use Rattle.fast_slices.specs.Calls.{Canons, CanonsBy, CanonsOver, CountsStream, Done, StreamDone, IsRefused, Measures, Needs, Overflows, RefusesAsked, RefusesCall, Settles, Writes}
 
 -- ---- why a stream is refused
 
@@ -255,22 +253,32 @@ counted_all mode set stream old new ran r none h s = absurd s
 -- ---- a room of as many bytes as the stream
 
 -- a call that is refused before its stream is looked at asks for no room
-no_room : (asked : Option Way) (text stream : List ℕ) (needed : ℕ) → RefusesCall asked text stream (Refusal.Room needed) → ⊥
-no_room asked text stream needed (inl h) = let e = h.0 in absurd cc
-no_room asked text stream needed (inr (some, inl h)) = let e = h.0 in absurd cc
-no_room asked text stream needed (inr (some, inr (few, inl e))) = absurd cc
-no_room asked text stream needed (inr (some, inr (few, inr (fault, e, machine, loads)))) = absurd cc
+no_room : {A : Type 0} (asked : Option A) (stream : List ℕ) (needed : ℕ) → RefusesAsked asked stream (Refusal.Room needed) → ⊥
+no_room asked stream needed (inl h) = let e = h.0 in absurd cc
+no_room asked stream needed (inr h) = let e = h.1 in absurd cc
+
+no_room_for : (asked : Option Way) (text stream : List ℕ) (needed : ℕ) → RefusesCall asked text stream (Refusal.Room needed) → ⊥
+no_room_for asked text stream needed (inl h) = no_room asked stream needed h
+no_room_for asked text stream needed (inr (some, few, inl e)) = absurd cc
+no_room_for asked text stream needed (inr (some, few, inr (fault, e, machine, loads))) = absurd cc
+
+-- nor does one that looks at it
+room_by : (set : TemplateList) (form : Form) (stream old new : List ℕ) (needed : ℕ) → IsSound set → length stream ≤ length old → (reading : Reading)
+    → CanonsBy set (record { reading = reading; form = form }) stream old new (Err (Refusal.Room needed)) → ⊥
+room_by set form stream old new needed sound enough (Reading.Stream mode) (Err (Refusal.Room n), is, o) =
+    let less = no_longer mode set sound stream o.bytes o.messages o.carried o.made in
+    let longer = o.longer in absurd (omega (arith, less, longer, enough))
+room_by set form stream old new needed sound enough (Reading.Stream mode) (done, is, o) = absurd cc
+room_by set form stream old new needed sound enough (Reading.Recording level) o =
+    let less = front_no_longer level set sound stream old new needed o in
+    let longer = o.longer in absurd (omega (arith, less, longer, enough))
 
 pub room_enough : (text : List ℕ) (word : ℕ) (stream old new : List ℕ) (r : Done) → Canons text word stream old new r → length stream ≤ length old → (answer_of r).status ≢ 3
-room_enough text word stream old new (Err (Refusal.Room needed)) (inl h) enough e = absurd (no_room (way_of word) text stream needed h.0)
-room_enough text word stream old new (Err (Refusal.Room needed)) (inr (set, way, given, over)) enough e = by_reading way.reading over
-  where
-    by_reading : (reading : Reading) → LooksAs (λ mode. Writes IsCanonical mode (templates_in set) stream old new) (λ level. WritesPackets (WritesCanonical set) level set stream old new) reading (Err (Refusal.Room needed)) → ⊥
-    by_reading (Reading.Stream mode) (Err (Refusal.Room n), is, o) =
-        let less = no_longer mode set given.sound stream o.bytes o.messages o.carried o.made in
-        let longer = o.longer in absurd (omega (arith, less, longer, enough))
-    by_reading (Reading.Stream mode) (done, is, o) = absurd cc
-    by_reading (Reading.Recording level) o =
-        let less = front_no_longer level set given.sound stream old new needed o in
-        let longer = o.longer in absurd (omega (arith, less, longer, enough))
+room_enough text word stream old new (Err (Refusal.Room needed)) (inl h) enough e = absurd (no_room_for (way_of word) text stream needed h.0)
+room_enough text word stream old new (Err (Refusal.Room needed)) (inr (set, way, given, over)) enough e = absurd (room_by set way.form stream old new needed given.sound enough way.reading over)
 room_enough text word stream old new r h enough e = absurd cc
+
+pub room_enough_over : (set : TemplateList) (word : ℕ) (stream old new : List ℕ) (r : Done) → IsSound set → CanonsOver set word stream old new r → length stream ≤ length old → (answer_of r).status ≢ 3
+room_enough_over set word stream old new (Err (Refusal.Room needed)) sound (inl h) enough e = absurd (no_room (way_of word) stream needed h.0)
+room_enough_over set word stream old new (Err (Refusal.Room needed)) sound (inr (way, asks, over)) enough e = absurd (room_by set way.form stream old new needed sound enough way.reading over)
+room_enough_over set word stream old new r sound h enough e = absurd cc

@@ -72,6 +72,10 @@ message_cause_number_of EncodeCause.TooShort = 207
 message_cause_number_of EncodeCause.Memory = 0
 message_cause_number_of EncodeCause.Write = 0
 
+-- nothing was counted
+abbrev pub no_counts : Counts
+no_counts = record { packets = 0; messages = 0; read = 0; written = 0 }
+
 -- an answer that tells of its status alone
 abbrev pub bare_of : ℕ → Answer
 bare_of status = record { messages = 0; read = 0; written = 0; message = 0; offset = 0; status = status; cause = 0; template = 0; instruction = 0; packets = 0; packet = 0 }
@@ -93,7 +97,8 @@ abbrev pub of_line : ℕ → ℕ → ℕ → ℕ → ℕ → Answer
 of_line line cause template instruction written = record (bare_of 7) { written = written; message = line; cause = cause; template = template; instruction = instruction }
 
 -- what C is answered: 0 done, 1 the stream or a packet is refused, 2 the templates are, 3 the room is too short for so many bytes, 4
--- memory was refused, 5 the mode is unknown, 6 the stream is too long, 7 a line is refused
+-- memory was refused, 5 the mode is unknown, 6 the stream is too long, 7 a line is refused, 8 the handle has
+-- nothing, or something else
 abbrev pub answer_of : Result Counts Refusal → Answer
 answer_of (Ok s) = record (bare_of 0) { messages = s.messages; read = s.read; written = s.written; packets = s.packets }
 answer_of (Err (Refusal.Stream f written)) = of_fault f written
@@ -105,3 +110,4 @@ answer_of (Err (Refusal.Room needed)) = record (bare_of 3) { written = needed }
 answer_of (Err Refusal.Memory) = bare_of 4
 answer_of (Err Refusal.Mode) = bare_of 5
 answer_of (Err Refusal.TooLong) = bare_of 6
+answer_of (Err Refusal.Handle) = bare_of 8

@@ -25,12 +25,14 @@ use Rattle.fast_command.specs.declared.command.Command.TheVariants.{Show, Check,
 use Rattle.fast_io.specs.Counts.{counted_by}
 use Rattle.fast_lines.specs.declared.form.Form.{Form}
 use Rattle.fast_recording.specs.Calls.{WritesCanonical, WritesLines}
+use Rattle.fast_slices.specs.Answers.{no_counts}
 use Rattle.fast_slices.specs.Packets.{CountsPackets, WritesPackets}
 use Rattle.fast_slices.specs.Rooms.{Puts}
 use Rattle.fast_slices.specs.Ways.{way_of}
 use Rattle.fast_slices.specs.declared.answer.Counts.{Counts}
 use Rattle.fast_slices.specs.declared.answer.Refusal.{Refusal}
 use Rattle.fast_slices.specs.declared.way.Reading.{Reading}
+use Rattle.fast_slices.specs.declared.way.Way.{Way}
 
 -- what is answered of a stream, and of a call
 abbrev pub StreamDone : Type 0
@@ -150,13 +152,17 @@ pub record Prepares {A : Type 0} (asked : Option A) (text stream : List ℕ) (se
   pub loads : LoadsText text (Ok set)
   pub sound : IsSound set
 
--- a stream of this size, or a template text, is refused
-abbrev pub RefusesGiven : List ℕ → List ℕ → Refusal → Type 0
-RefusesGiven text stream r = ((r ≡ Refusal.TooLong) × (2 ^ 40 ≤ length stream)) ⊎ ((length stream < 2 ^ 40) × RefusesText text r)
+-- this is asked for, of no more bytes than a call reads
+abbrev pub Asks : {A : Type 0} → Option A → List ℕ → A → Type 0
+Asks asked stream way = (asked ≡ Some way) × (length stream < 2 ^ 40)
+
+-- What is asked for is not known, or else the stream is too long.
+abbrev pub RefusesAsked : {A : Type 0} → Option A → List ℕ → Refusal → Type 0
+RefusesAsked asked stream r = ((r ≡ Refusal.Mode) × (asked ≡ None)) ⊎ (IsSome asked × (r ≡ Refusal.TooLong) × (2 ^ 40 ≤ length stream))
 
 -- The first that is not right is answered: the mode, the size of the stream, the templates.
 abbrev pub RefusesCall : {A : Type 0} → Option A → List ℕ → List ℕ → Refusal → Type 0
-RefusesCall asked text stream r = ((r ≡ Refusal.Mode) × (asked ≡ None)) ⊎ (IsSome asked × RefusesGiven text stream r)
+RefusesCall asked text stream r = RefusesAsked asked stream r ⊎ (IsSome asked × (length stream < 2 ^ 40) × RefusesText text r)
 
 -- The call is refused before the stream is looked at; or it was looked at with the templates of the text.
 abbrev pub Calls : {A : Type 0} → Option A → (A → TemplateList → Done → Type 0) → Type 0 → List ℕ → List ℕ → Done → Type 0
@@ -164,23 +170,46 @@ Calls {A = A} asked Looks Stays text stream r =
     (IsErrAnd r (RefusesCall asked text stream) × Stays)
     ⊎ ((set : TemplateList) × (way : A) × Prepares asked text stream set way × Looks way set r)
 
+-- The same of a call with a set of templates.
+abbrev pub CallsOver : {A : Type 0} → Option A → (A → Done → Type 0) → Type 0 → List ℕ → Done → Type 0
+CallsOver {A = A} asked Looks Stays stream r = (IsErrAnd r (RefusesAsked asked stream) × Stays) ⊎ ((way : A) × Asks asked stream way × Looks way r)
+
 -- of a stream this was done, or of a recording
 abbrev pub LooksAs : (Mode → StreamDone → Type 0) → (Level → Done → Type 0) → Reading → Done → Type 0
 LooksAs OfStream OfRecording (Reading.Stream mode) r = (done : StreamDone) × (r ≡ of_stream done) × OfStream mode done
 LooksAs OfStream OfRecording (Reading.Recording level) r = OfRecording level r
 
+-- so a stream or a recording is canonicalised, shown and checked
+abbrev pub CanonsBy : TemplateList → Way → List ℕ → List ℕ → List ℕ → Done → Type 0
+CanonsBy set way stream old new = LooksAs (λ mode. Writes IsCanonical mode (templates_in set) stream old new) (λ level. WritesPackets (WritesCanonical set) level set stream old new) way.reading
+
+abbrev pub ShowsBy : TemplateList → Way → List ℕ → List ℕ → List ℕ → Done → Type 0
+ShowsBy set way stream old new = LooksAs (λ mode. Writes (LinesOf way.form set) mode (templates_in set) stream old new) (λ level. WritesPackets (WritesLines way.form set) level set stream old new) way.reading
+
+abbrev pub ChecksBy : TemplateList → Way → List ℕ → Done → Type 0
+ChecksBy set way stream = LooksAs (λ mode. CountsStream mode (templates_in set) stream) (λ level. CountsPackets level set stream) way.reading
+
+-- with the templates of a text
 abbrev pub Canons : List ℕ → ℕ → List ℕ → List ℕ → List ℕ → Done → Type 0
-Canons text word stream old new r =
-    Calls (way_of word) (λ way set. LooksAs (λ mode. Writes IsCanonical mode (templates_in set) stream old new) (λ level. WritesPackets (WritesCanonical set) level set stream old new) way.reading) (new ≡ old) text stream r
+Canons text word stream old new r = Calls (way_of word) (λ way set. CanonsBy set way stream old new) (new ≡ old) text stream r
 
 abbrev pub Shows : List ℕ → ℕ → List ℕ → List ℕ → List ℕ → Done → Type 0
-Shows text word stream old new r =
-    Calls (way_of word) (λ way set. LooksAs (λ mode. Writes (LinesOf way.form set) mode (templates_in set) stream old new) (λ level. WritesPackets (WritesLines way.form set) level set stream old new) way.reading) (new ≡ old) text stream r
+Shows text word stream old new r = Calls (way_of word) (λ way set. ShowsBy set way stream old new) (new ≡ old) text stream r
 
 abbrev pub Checks : List ℕ → ℕ → List ℕ → Done → Type 0
-Checks text word stream r = Calls (way_of word) (λ way set. LooksAs (λ mode. CountsStream mode (templates_in set) stream) (λ level. CountsPackets level set stream) way.reading) (Unit {0}) text stream r
+Checks text word stream r = Calls (way_of word) (λ way set. ChecksBy set way stream) (Unit {0}) text stream r
+
+-- with a set
+abbrev pub CanonsOver : TemplateList → ℕ → List ℕ → List ℕ → List ℕ → Done → Type 0
+CanonsOver set word stream old new r = CallsOver (way_of word) (λ way. CanonsBy set way stream old new) (new ≡ old) stream r
+
+abbrev pub ShowsOver : TemplateList → ℕ → List ℕ → List ℕ → List ℕ → Done → Type 0
+ShowsOver set word stream old new r = CallsOver (way_of word) (λ way. ShowsBy set way stream old new) (new ≡ old) stream r
+
+abbrev pub ChecksOver : TemplateList → ℕ → List ℕ → Done → Type 0
+ChecksOver set word stream r = CallsOver (way_of word) (λ way. ChecksBy set way stream) (Unit {0}) stream r
 
 -- the text has templates, or is refused
 abbrev pub ChecksText : List ℕ → Done → Type 0
-ChecksText text (Ok counts) = (counts ≡ record { packets = 0; messages = 0; read = 0; written = 0 }) × ((set : TemplateList) × LoadsText text (Ok set))
+ChecksText text (Ok counts) = (counts ≡ no_counts) × ((set : TemplateList) × LoadsText text (Ok set))
 ChecksText text (Err r) = RefusesText text r

@@ -9,7 +9,7 @@ use Rattle.fast_write.specs.Ways.{Makes, StopsIf, WritesIf}
 use Rattle.fast_write.specs.declared.fault.WriteFault.{WriteFault}
 use Rattle.fast_write.specs.declared.output.OutputForm.{OutputForm}
 use Rattle.fast_write.specs.declared.summary.WrittenSummary.{WrittenSummary}
-use Rattle.fast_slices.specs.Calls.{Calls, Done}
+use Rattle.fast_slices.specs.Calls.{Calls, CallsOver, Done}
 use Rattle.fast_slices.specs.Rooms.{Puts}
 use Rattle.fast_slices.specs.declared.answer.Counts.{Counts}
 use Rattle.fast_slices.specs.declared.answer.Refusal.{Refusal}
@@ -133,3 +133,6 @@ WritesLines numbered set text old new (Err r) = ⊥
 
 abbrev pub WritesText : List ℕ → ℕ → List ℕ → List ℕ → List ℕ → Done → Type 0
 WritesText templates word lines old new r = Calls (numbering_of word) (λ numbered set. WritesLines numbered set lines old new) (new ≡ old) templates lines r
+
+abbrev pub WritesOver : TemplateList → ℕ → List ℕ → List ℕ → List ℕ → Done → Type 0
+WritesOver set word lines old new r = CallsOver (numbering_of word) (λ numbered. WritesLines numbered set lines old new) (new ≡ old) lines r

@@ -1,7 +1,7 @@
 //! What a call answers.
 
 ghost use Rattle.std.specs.Prelude.{◌≡◌};
-ghost use Rattle.fast_slices.specs.Answers.{answer_of as answer_of_lem, bare_of, cause_number_of, line_cause_number_of, load_cause_number_of, message_cause_number_of, of_fault as of_fault_lem, of_line as of_line_lem};
+ghost use Rattle.fast_slices.specs.Answers.{answer_of as answer_of_lem, bare_of, cause_number_of, line_cause_number_of, load_cause_number_of, message_cause_number_of, no_counts as no_counts_lem, of_fault as of_fault_lem, of_line as of_line_lem};
 
 use fast_recording::PacketFault;
 use fast_stream::{Cause, Fault};
@@ -18,6 +18,18 @@ pub struct Counts {
     pub read: u64,
     /// The bytes that were put into the room, or of a check those that would be.
     pub written: u64,
+}
+
+/// What a call counted that reads no stream and no lines: nothing.
+pub fn no_counts() -> Counts
+    ensures { result ≡ no_counts_lem }
+{
+    Counts {
+        packets: 0,
+        messages: 0,
+        read: 0,
+        written: 0,
+    }
 }
 
 /// Why a call did not do what it was asked to.
@@ -41,6 +53,8 @@ pub enum Refusal {
     Mode,
     /// The stream has more bytes than a call reads.
     TooLong,
+    /// The handle has nothing, or something else than is asked for.
+    Handle,
 }
 
 /// What a call answers C. Where nothing is said of a number it is 0.
@@ -246,5 +260,6 @@ pub fn answer_of(done: Result<Counts, Refusal>) -> Answer
         Err(Refusal::Memory) => bare(4),
         Err(Refusal::Mode) => bare(5),
         Err(Refusal::TooLong) => bare(6),
+        Err(Refusal::Handle) => bare(8),
     }
 }

@@ -1,22 +1,15 @@
-//! What is done with a stream in memory.
+//! What a call does.
 
-ghost use Rattle.std.specs.Prelude.{◌<◌, ◌≡◌, ◌≤◌, ◌^◌, length, IfErr, IfOk, Ok};
-ghost use Rattle.fast_template.specs.TemplateSets.{IsSound, templates_in};
-ghost use Rattle.fast_writer.specs.Canonical.{IsCanonical};
-ghost use Rattle.fast_command.specs.Run.{LinesOf};
-ghost use Rattle.fast_slices.specs.Calls.{Canons, Checks, ChecksText, CountsStream, LoadsText, Measures, Prepares, RefusesCall, RefusesGiven, RefusesText, Settles, Shows, Writes, of_stream as of_stream_lem};
+ghost use Rattle.std.specs.Prelude.{◌<◌, ◌≡◌, ◌^◌, length, IfErr, IfOk, Ok};
+ghost use Rattle.fast_template.specs.TemplateSets.{IsSound};
+ghost use Rattle.fast_slices.specs.Calls.{Asks, Canons, CanonsBy, CanonsOver, Checks, ChecksBy, ChecksOver, ChecksText, LoadsText, Prepares, RefusesAsked, RefusesCall, RefusesText, Shows, ShowsBy, ShowsOver};
 ghost use Rattle.fast_slices.specs.Ways.{way_of as way_of_lem};
 
-use crate::answer::{Counts, Refusal};
-use crate::input::SliceInput;
-use crate::kept::Kept;
+use crate::answer::{Counts, Refusal, no_counts};
 use crate::recording::{canon_recording, check_recording, show_recording};
-use crate::tally::Tally;
+use crate::stream::{canon_with, check_with, of_stream, show_with};
 use crate::way::{Reading, Way, way_of};
 use fast_build::Load;
-use fast_canon::{CanonFault, Summary, check};
-use fast_command::{Command, Form, run};
-use fast_stream::{Cause, Mode};
 use fast_template::TemplateSet;
 use fast_written::LoadCause;
 use std::alloc::Global;
@@ -25,7 +18,11 @@ use std::alloc::Global;
 pub(crate) const TURNS: u64 = 1 << 40;
 
 /// The templates of a text.
-pub(crate) fn load(alloc: Global, text: &[u8]) -> Result<TemplateSet, Refusal>
+///
+/// # Errors
+///
+/// Where the text is refused, or memory.
+pub fn load(alloc: Global, text: &[u8]) -> Result<TemplateSet, Refusal>
     ensures ok { IfOk result (λ set. LoadsText text.now (Ok set)) }
     ensures sound { IfOk result IsSound }
     ensures refused { IfErr result (RefusesText text.now) }
@@ -41,150 +38,21 @@ pub(crate) fn load(alloc: Global, text: &[u8]) -> Result<TemplateSet, Refusal>
     }
 }
 
-/// How many bytes a run has that wrote more than the room holds. It is done once more.
-fn overflow(
-    alloc: Global,
-    command: Command,
-    set: &TemplateSet,
-    mode: Mode,
-    form: Form,
-    stream: &[u8],
-) -> Refusal
-    requires sound { IsSound set.now }
-    requires few { length stream.now < 2 ^ 40 }
-    ensures { Measures command mode form set.now stream.now result }
+/// Looks at what a call was given besides templates, in this order: what it is asked for, the size of what it is to read.
+pub(crate) fn asked<A: Drop>(way: Option<A>, stream: &[u8]) -> Result<A, Refusal>
+    ensures ok { IfOk result (Asks way stream.now) }
+    ensures refused { IfErr result (RefusesAsked way stream.now) }
 {
-    let mut input = SliceInput::new(stream);
-    let mut tally = Tally::new();
-    match run(
-        alloc, command, set, mode, form, &mut input, &mut tally, TURNS,
-    ) {
-        Ok(summary) => Refusal::Room(summary.written),
-        Err(CanonFault::Stream(fault)) if fault.cause != Cause::Memory => {
-            Refusal::Room(tally.count)
-        }
-        Err(_) => Refusal::Memory,
-    }
-}
-
-/// Puts the bytes that a run wrote into the room, where they are what is asked for.
-fn settle(
-    ran: Result<Summary, CanonFault>,
-    bytes: &[u8],
-    room: &mut [u8],
-) -> Result<Summary, Refusal>
-    requires fits { length bytes.now ≤ length room.now }
-    ensures { Settles ran bytes.now room.old room.new result }
-{
-    let done = match ran {
-        Ok(summary) => Ok(summary),
-        Err(CanonFault::Stream(fault)) if fault.cause != Cause::Memory => {
-            Err(Refusal::Stream(fault, bytes.len() as u64))
-        }
-        // What is kept fails, where it fits, only for want of memory.
-        Err(_) => return Err(Refusal::Memory),
+    let Some(way) = way else {
+        return Err(Refusal::Mode);
     };
-    room[..bytes.len()].copy_from_slice(bytes);
-    done
-}
-
-/// Writes the canonical bytes of a stream.
-fn canon_with(
-    alloc: Global,
-    set: &TemplateSet,
-    mode: Mode,
-    stream: &[u8],
-    room: &mut [u8],
-) -> Result<Summary, Refusal>
-    requires sound { IsSound set.now }
-    requires few { length stream.now < 2 ^ 40 }
-    ensures { Writes IsCanonical mode (templates_in set.now) stream.now room.old room.new result }
-{
-    let mut input = SliceInput::new(stream);
-    // One byte more than the room tells that it is too short.
-    let mut kept = Kept::new(alloc, room.len() + 1);
-    let ran = run(
-        alloc,
-        Command::Canon,
-        set,
-        mode,
-        Form::Text,
-        &mut input,
-        &mut kept,
-        TURNS,
-    );
-    if kept.bytes.len() > room.len() {
-        return Err(overflow(alloc, Command::Canon, set, mode, Form::Text, stream));
-    }
-    settle(ran, &kept.bytes, room)
-}
-
-/// Writes the lines of a stream.
-fn show_with(
-    alloc: Global,
-    set: &TemplateSet,
-    mode: Mode,
-    form: Form,
-    stream: &[u8],
-    room: &mut [u8],
-) -> Result<Summary, Refusal>
-    requires sound { IsSound set.now }
-    requires few { length stream.now < 2 ^ 40 }
-    ensures { Writes (LinesOf form set.now) mode (templates_in set.now) stream.now room.old room.new result }
-{
-    let mut input = SliceInput::new(stream);
-    let mut kept = Kept::new(alloc, room.len() + 1);
-    let ran = run(
-        alloc,
-        Command::Show,
-        set,
-        mode,
-        form,
-        &mut input,
-        &mut kept,
-        TURNS,
-    );
-    if kept.bytes.len() > room.len() {
-        return Err(overflow(alloc, Command::Show, set, mode, form, stream));
-    }
-    settle(ran, &kept.bytes, room)
-}
-
-/// Counts what a stream carries.
-fn check_with(
-    alloc: Global,
-    set: &TemplateSet,
-    mode: Mode,
-    stream: &[u8],
-) -> Result<Summary, Refusal>
-    requires sound { IsSound set.now }
-    requires few { length stream.now < 2 ^ 40 }
-    ensures { CountsStream mode (templates_in set.now) stream.now result }
-{
-    let mut input = SliceInput::new(stream);
-    let ran = check(alloc, set, mode, &mut input, TURNS);
-    // A check writes nothing.
-    settle(ran, &[], &mut [])
-}
-
-/// The templates of a text, once the size of what a call is to read was looked at.
-pub(crate) fn templates_for(
-    alloc: Global,
-    templates: &[u8],
-    stream: &[u8],
-) -> Result<TemplateSet, Refusal>
-    ensures few { IfOk result (λ _. length stream.now < 2 ^ 40) }
-    ensures loads { IfOk result (λ set. LoadsText templates.now (Ok set)) }
-    ensures sound { IfOk result IsSound }
-    ensures refused { IfErr result (RefusesGiven templates.now stream.now) }
-{
     if stream.len() as u64 >= TURNS {
         return Err(Refusal::TooLong);
     }
-    load(alloc, templates)
+    Ok(way)
 }
 
-/// Looks at what a call was given, in this order: the mode, the size of the stream, the templates.
+/// Looks at what a call was given, the templates last.
 fn prepare(
     alloc: Global,
     templates: &[u8],
@@ -194,26 +62,103 @@ fn prepare(
     ensures ok { IfOk result (λ p. Prepares (way_of_lem word) templates.now stream.now p.0 p.1) }
     ensures refused { IfErr result (RefusesCall (way_of_lem word) templates.now stream.now) }
 {
-    let Some(way) = way_of(word) else {
-        return Err(Refusal::Mode);
-    };
-    let set = templates_for(alloc, templates, stream)?;
+    let way = asked(way_of(word), stream)?;
+    let set = load(alloc, templates)?;
     Ok((set, way))
 }
 
-/// What is counted of a stream, which has no packets.
-fn of_stream(done: Result<Summary, Refusal>) -> Result<Counts, Refusal>
-    ensures { result ≡ of_stream_lem done }
+/// Writes the canonical bytes of a stream or of a recording.
+fn canon_by(
+    alloc: Global,
+    set: &TemplateSet,
+    way: Way,
+    stream: &[u8],
+    room: &mut [u8],
+) -> Result<Counts, Refusal>
+    requires sound { IsSound set.now }
+    requires few { length stream.now < 2 ^ 40 }
+    ensures { CanonsBy set.now way stream.now room.old room.new result }
 {
-    match done {
-        Ok(summary) => Ok(Counts {
-            packets: 0,
-            messages: summary.messages,
-            read: summary.read,
-            written: summary.written,
-        }),
-        Err(refusal) => Err(refusal),
+    match way.reading {
+        Reading::Stream(mode) => of_stream(canon_with(alloc, set, mode, stream, room)),
+        Reading::Recording(level) => canon_recording(alloc, set, level, stream, room),
     }
+}
+
+/// Writes the lines of a stream or of a recording.
+fn show_by(
+    alloc: Global,
+    set: &TemplateSet,
+    way: Way,
+    stream: &[u8],
+    room: &mut [u8],
+) -> Result<Counts, Refusal>
+    requires sound { IsSound set.now }
+    requires few { length stream.now < 2 ^ 40 }
+    ensures { ShowsBy set.now way stream.now room.old room.new result }
+{
+    match way.reading {
+        Reading::Stream(mode) => of_stream(show_with(alloc, set, mode, way.form, stream, room)),
+        Reading::Recording(level) => show_recording(alloc, set, level, way.form, stream, room),
+    }
+}
+
+/// Counts what a stream or a recording carries.
+fn check_by(alloc: Global, set: &TemplateSet, way: Way, stream: &[u8]) -> Result<Counts, Refusal>
+    requires sound { IsSound set.now }
+    requires few { length stream.now < 2 ^ 40 }
+    ensures { ChecksBy set.now way stream.now result }
+{
+    match way.reading {
+        Reading::Stream(mode) => of_stream(check_with(alloc, set, mode, stream)),
+        Reading::Recording(level) => check_recording(alloc, set, level, stream),
+    }
+}
+
+/// Writes the canonical bytes of a stream or of a recording, with a set of templates.
+pub fn canon_over(
+    alloc: Global,
+    set: &TemplateSet,
+    word: u32,
+    stream: &[u8],
+    room: &mut [u8],
+) -> Result<Counts, Refusal>
+    ensures answer { CanonsOver set.now word stream.now room.old room.new result }
+    ensures sound { IsSound set.now }
+{
+    // Its clause says that the set is sound, which the laws of streams ask for.
+    let _slots = set.slots();
+    let way = asked(way_of(word), stream)?;
+    canon_by(alloc, set, way, stream, room)
+}
+
+/// Writes the lines of a stream or of a recording, with a set of templates.
+pub fn show_over(
+    alloc: Global,
+    set: &TemplateSet,
+    word: u32,
+    stream: &[u8],
+    room: &mut [u8],
+) -> Result<Counts, Refusal>
+    ensures { ShowsOver set.now word stream.now room.old room.new result }
+{
+    let _slots = set.slots();
+    let way = asked(way_of(word), stream)?;
+    show_by(alloc, set, way, stream, room)
+}
+
+/// Counts what a stream or a recording carries, with a set of templates.
+pub fn check_over(
+    alloc: Global,
+    set: &TemplateSet,
+    word: u32,
+    stream: &[u8],
+) -> Result<Counts, Refusal>
+    ensures { ChecksOver set.now word stream.now result }
+{
+    let _slots = set.slots();
+    let way = asked(way_of(word), stream)?;
+    check_by(alloc, set, way, stream)
 }
 
 /// Writes the canonical bytes of a stream or of a recording, with the templates of a text.
@@ -227,10 +172,7 @@ pub fn canon(
     ensures { Canons templates.now word stream.now room.old room.new result }
 {
     let (set, way) = prepare(alloc, templates, word, stream)?;
-    match way.reading {
-        Reading::Stream(mode) => of_stream(canon_with(alloc, &set, mode, stream, room)),
-        Reading::Recording(level) => canon_recording(alloc, &set, level, stream, room),
-    }
+    canon_by(alloc, &set, way, stream, room)
 }
 
 /// Writes the lines of a stream or of a recording, with the templates of a text.
@@ -244,10 +186,7 @@ pub fn show(
     ensures { Shows templates.now word stream.now room.old room.new result }
 {
     let (set, way) = prepare(alloc, templates, word, stream)?;
-    match way.reading {
-        Reading::Stream(mode) => of_stream(show_with(alloc, &set, mode, way.form, stream, room)),
-        Reading::Recording(level) => show_recording(alloc, &set, level, way.form, stream, room),
-    }
+    show_by(alloc, &set, way, stream, room)
 }
 
 /// Counts what a stream or a recording carries, with the templates of a text.
@@ -260,10 +199,7 @@ pub fn check_stream(
     ensures { Checks templates.now word stream.now result }
 {
     let (set, way) = prepare(alloc, templates, word, stream)?;
-    match way.reading {
-        Reading::Stream(mode) => of_stream(check_with(alloc, &set, mode, stream)),
-        Reading::Recording(level) => check_recording(alloc, &set, level, stream),
-    }
+    check_by(alloc, &set, way, stream)
 }
 
 /// Checks a template text.
@@ -271,10 +207,5 @@ pub fn check_templates(alloc: Global, templates: &[u8]) -> Result<Counts, Refusa
     ensures { ChecksText templates.now result }
 {
     load(alloc, templates)?;
-    Ok(Counts {
-        packets: 0,
-        messages: 0,
-        read: 0,
-        written: 0,
-    })
+    Ok(no_counts())
 }

@@ -9,10 +9,13 @@ mod input;
 mod kept;
 mod lines;
 mod recording;
+mod stream;
 mod tally;
 mod way;
 
-pub use answer::{Answer, Counts, Refusal, answer_of};
-pub use call::{canon, check_stream, check_templates, show};
+pub use answer::{Answer, Counts, Refusal, answer_of, no_counts};
+pub use call::{
+    canon, canon_over, check_over, check_stream, check_templates, load, show, show_over,
+};
 pub use fast_command::VERSION_NUMBER;
-pub use lines::write;
+pub use lines::{write, write_over};

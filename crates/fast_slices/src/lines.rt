@@ -1,10 +1,10 @@
 //! What is done with lines in memory.
 
 ghost use Rattle.std.specs.Prelude.{◌<◌, ◌≡◌, ◌≤◌, ◌^◌, length};
-ghost use Rattle.fast_slices.specs.Lines.{MeasuresLines, MeasuresRun, RunsLines, SettlesLines, WritesLines, WritesText, counts_by, numbering_of as numbering_of_lem};
+ghost use Rattle.fast_slices.specs.Lines.{MeasuresLines, MeasuresRun, RunsLines, SettlesLines, WritesLines, WritesOver, WritesText, counts_by, numbering_of as numbering_of_lem};
 
 use crate::answer::{Counts, Refusal};
-use crate::call::{TURNS, templates_for};
+use crate::call::{TURNS, asked, load};
 use crate::input::SliceInput;
 use crate::kept::Kept;
 use crate::tally::Tally;
@@ -131,9 +131,21 @@ pub fn write(
 ) -> Result<Counts, Refusal>
     ensures { WritesText templates.now word lines.now room.old room.new result }
 {
-    let Some(numbered) = numbering_of(word) else {
-        return Err(Refusal::Mode);
-    };
-    let set = templates_for(alloc, templates, lines)?;
+    let numbered = asked(numbering_of(word), lines)?;
+    let set = load(alloc, templates)?;
     write_with(alloc, numbered, &set, lines, room)
+}
+
+/// Writes the same, with a set of templates.
+pub fn write_over(
+    alloc: Global,
+    set: &TemplateSet,
+    word: u32,
+    lines: &[u8],
+    room: &mut [u8],
+) -> Result<Counts, Refusal>
+    ensures { WritesOver set.now word lines.now room.old room.new result }
+{
+    let numbered = asked(numbering_of(word), lines)?;
+    write_with(alloc, numbered, set, lines, room)
 }

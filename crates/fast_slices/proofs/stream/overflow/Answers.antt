@@ -2,7 +2,7 @@ use Rattle.std.proofs.Common.{◌≡◌, ◌≢◌, ◌^◌, ◌<◌, ◌++◌, 
 use Rattle.fast_wire.proofs.Calls.{all_bytes}
 use Rattle.fast_stream.specs.declared.fault.Cause.{Cause}
 use Rattle.fast_slices.proofs.Streams.{has_run, measured_run, refused_run}
-use Rattle.fast_slices.proofs.call.overflow.Goals as goal
+use Rattle.fast_slices.proofs.stream.overflow.Goals as goal
 
 pub returns-in-Ok : goal.returns-in-Ok
 returns-in-Ok c =

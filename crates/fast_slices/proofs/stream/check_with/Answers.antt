@@ -1,7 +1,7 @@
 use Rattle.std.proofs.Common.{◌∙◌, refl, sym, arith}
 use Rattle.fast_wire.proofs.Calls.{all_bytes}
 use Rattle.fast_slices.proofs.Streams.{counted_all, has_run}
-use Rattle.fast_slices.proofs.call.check_with.Goals as goal
+use Rattle.fast_slices.proofs.stream.check_with.Goals as goal
 
 pub returns : goal.returns
 returns c =

@@ -4,7 +4,7 @@ use Rattle.fast_wire.proofs.Calls.{all_bytes}
 use Rattle.fast_pass.specs.Passed.{Passes}
 use Rattle.fast_command.specs.Run.{LinesOf}
 use Rattle.fast_slices.proofs.Streams.{has_run, settled, show_overflows}
-use Rattle.fast_slices.proofs.call.show_with.Goals as goal
+use Rattle.fast_slices.proofs.stream.show_with.Goals as goal
 
 pub returns : goal.returns
 returns c =

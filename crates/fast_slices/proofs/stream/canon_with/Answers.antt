@@ -5,7 +5,7 @@ use Rattle.fast_writer.specs.Canonical.{IsCanonical}
 use Rattle.fast_pass.specs.Passed.{Passes}
 use Rattle.fast_lines.specs.declared.form.Form.TheVariants.{Text}
 use Rattle.fast_slices.proofs.Streams.{as_passes, canon_overflows, has_run, settled}
-use Rattle.fast_slices.proofs.call.canon_with.Goals as goal
+use Rattle.fast_slices.proofs.stream.canon_with.Goals as goal
 
 pub returns : goal.returns
 returns c =

@@ -1,0 +1,107 @@
+/* Tests of the memory of sets, of which each allocation is counted, and refused in turn: test_library_memory
+ * examples/worked.json. It is linked with --wrap=malloc,realloc,free. */
+#include "fastcat.h"
+
+#include <stdio.h>
+#include <stdlib.h>
+#include <string.h>
+
+void *__real_malloc(size_t size);
+void *__real_realloc(void *block, size_t size);
+void __real_free(void *block);
+
+static size_t held, left = SIZE_MAX; /* how many blocks there are, and how many may still be asked for */
+
+void *__wrap_malloc(size_t size) {
+  void *block = left > 0 ? __real_malloc(size) : NULL;
+  if (left > 0 && left < SIZE_MAX) left--;
+  if (block) held++;
+  return block;
+}
+
+void *__wrap_realloc(void *block, size_t size) {
+  void *moved = left > 0 ? __real_realloc(block, size) : NULL;
+  if (left > 0 && left < SIZE_MAX) left--;
+  if (moved && !block) held++;
+  return moved;
+}
+
+void __wrap_free(void *block) {
+  if (block) held--;
+  __real_free(block);
+}
+
+static unsigned passed, failed;
+
+static void expect(int holds, const char *what) {
+  if (holds) {
+    passed++;
+  } else {
+    failed++;
+    printf("failed: %s\n", what);
+  }
+}
+
+static uint8_t templates[1 << 16];
+static size_t templates_length;
+static const uint8_t stream[] = {0xf0, 0x81, 0x81, 0x41, 0xc2, 0xfe, 0x00, 0xe4};
+
+static int works(struct fastcat_set *set) {
+  struct fastcat_answer a;
+  return fastcat_set_check(set, FASTCAT_STRICT, stream, sizeof stream, &a) == FASTCAT_DONE && a.written == sizeof stream;
+}
+
+/* Each allocation refused in turn, a set is made in the place of another, which stays until then. */
+static void making(void) {
+  struct fastcat_set set = {0};
+  struct fastcat_answer a;
+  size_t before = held, first = 0, turns = 0;
+  left = SIZE_MAX;
+  expect(fastcat_set_new(templates, templates_length, &set, &a) == FASTCAT_DONE, "a set");
+  first = held;
+  for (uint32_t status = FASTCAT_NO_MEMORY; status != FASTCAT_DONE; turns++) {
+    left = turns;
+    status = fastcat_set_new(templates, templates_length, &set, &a);
+    left = SIZE_MAX;
+    expect(status == a.status && (status == FASTCAT_DONE || status == FASTCAT_NO_MEMORY), "a status");
+    expect(held == first && works(&set), "there is one set");
+  }
+  expect(turns > 10, "allocations are refused");
+  fastcat_set_free(&set);
+  expect(held == before, "all is freed");
+}
+
+static void sharing(void) {
+  struct fastcat_set set = {0}, other = {0};
+  struct fastcat_answer a;
+  size_t before = held, one = 0;
+  expect(fastcat_set_new(templates, templates_length, &set, &a) == FASTCAT_DONE, "a set to share");
+  one = held;
+  left = 0;
+  expect(fastcat_set_share(&set, &other) == FASTCAT_NO_MEMORY && other.at == NULL && other.there == 0, "no share");
+  left = SIZE_MAX;
+  expect(held == one && works(&set), "a set that was not shared");
+  expect(fastcat_set_share(&set, &other) == FASTCAT_DONE && held == one + 1, "a share is one block");
+  left = 0;
+  expect(fastcat_set_share(&other, &set) == FASTCAT_NO_MEMORY, "no share in the place of another");
+  left = SIZE_MAX;
+  expect(works(&set) && works(&other), "both are as they were");
+  fastcat_set_free(&set);
+  expect(works(&other), "the last share");
+  fastcat_set_free(&other);
+  expect(held == before, "the set is freed with its last share");
+}
+
+int main(int count, char **words) {
+  FILE *file = count == 2 ? fopen(words[1], "rb") : NULL;
+  if (!file) {
+    fprintf(stderr, "use: test_library_memory examples/worked.json\n");
+    return 2;
+  }
+  templates_length = fread(templates, 1, sizeof templates, file);
+  fclose(file);
+  making();
+  sharing();
+  printf("C, memory: %u passed, %u failed\n", passed, failed);
+  return failed != 0;
+}
