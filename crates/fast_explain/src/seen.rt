@@ -64,6 +64,13 @@ impl<I> Seen<I> {
         Seen { inner, alloc, kept }
     }
 
+    /// The reader itself.
+    pub fn into_inner(self) -> I
+        ensures { result ≡ inner_of self }
+    {
+        self.inner
+    }
+
     /// What was kept.
     pub(crate) fn kept(&self) -> Option<&Kept> {
         self.kept.as_ref()

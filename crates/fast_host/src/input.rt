@@ -1,6 +1,6 @@
 //! Reading a text whole.
 
-ghost use Rattle.std.specs.Prelude.{◌≤◌, ℕ, List, IfErr, IfOk};
+ghost use Rattle.std.specs.Prelude.{◌≡◌, ◌≤◌, ℕ, List, IfErr, IfOk, OnOk};
 ghost use Rattle.fast_decoder.specs.Inputs.{Reads, reader_by};
 ghost use Rattle.fast_host.specs.Input.{GivesNoText, IsText};
 
@@ -33,7 +33,7 @@ pub fn read_text<R: ByteInput>(
     reader: &mut R,
     turns: u64,
 ) -> Result<Vec<u8>, TextFault>
-    ensures { (count : ℕ) × (got : List ℕ)
+    ensures read { (count : ℕ) × (got : List ℕ)
         × Reads (reader_by R.left R.calls R.errors R.ends reader.old)
         (reader_by R.left R.calls R.errors R.ends reader.new) count got
         × (count ≤ turns)
@@ -41,6 +41,7 @@ pub fn read_text<R: ByteInput>(
         × IfErr result (λ fault. GivesNoText fault turns count got
         (reader_by R.left R.calls R.errors R.ends reader.old)
         (reader_by R.left R.calls R.errors R.ends reader.new)) }
+    ensures unfailed { OnOk result (R.errors reader.new ≡ R.errors reader.old) }
 {
     let mut text = Vec::new(alloc);
     let mut chunk = [0u8; CHUNK];

@@ -1,6 +1,6 @@
 -- What the program did, by what its files and its input gave and what its output took. How it answers is the project's
 -- own.
-use Rattle.std.specs.Prelude.{◌≡◌, ◌≢◌, ◌⊎◌, ◌&&◌, not, ℕ, ◌≤◌, ◌++◌, List, [], ◌∷◌, Bool, true, false, Option, None, Some, Result, Ok, Err, IsErr, IsErrAnd, IsUtf8}
+use Rattle.std.specs.Prelude.{◌≡◌, ◌⊎◌, ◌&&◌, not, ℕ, ◌≤◌, ◌++◌, List, [], ◌∷◌, Bool, true, false, Option, None, Some, Result, Ok, Err, IsErr, IsErrAnd, IsUtf8}
 use Rattle.std.specs.Io.KnownBytes.{Appends}
 use Rattle.hex.specs.Hex.{decode_of, encode_lower}
 use Rattle.serde_json.specs.Data.{Data}
@@ -18,7 +18,7 @@ use Rattle.fast_pass.specs.declared.summary.Summary.{Summary}
 use Rattle.fast_host.specs.HexText.{digits_of}
 use Rattle.fast_host.specs.Input.{GivesNoText, IsText}
 use Rattle.fast_host.specs.Refusals.{IsOfLoad, IsOfRun, IsOfStream, IsTextOrMemory, of_template_text_lem, of_text_lem, status_of, text_of}
-use Rattle.fast_host.specs.Devices.{Inputs, Writer, input_of}
+use Rattle.fast_host.specs.Devices.{Inputs, IsReadFrom, IsUnopened, Writer, input_of}
 use Rattle.fast_command.specs.Run.{Runs}
 use Rattle.fast_command.specs.RunPackets.{RunsPackets}
 use Rattle.fast_lines.specs.declared.form.Form.{Form}
@@ -93,11 +93,11 @@ RefusesText turns old new r =
     ((why : TextFault) × HasNoText turns old new why × (r ≡ of_template_text_lem why))
     ⊎ ((text : List ℕ) × (fault : LoadFault) × HasText turns old new text × LoadsText text (Err fault) × IsOfLoad fault r)
 
--- or they stand in a file, which cannot be opened
-abbrev pub RefusesTemplates : Inputs → Option (List ℕ) → ℕ → Refusal → Type 0
-RefusesTemplates inputs name turns r =
-    ((name ≢ None) × (r ≡ Refusal.Open))
-    ⊎ ((old : Reader) × (new : Reader) × (old.left ≡ input_of inputs name) × RefusesText turns old new r)
+-- or they stand in a file, which could not be opened
+abbrev pub RefusesTemplates : Inputs → Inputs → Option (List ℕ) → ℕ → Refusal → Type 0
+RefusesTemplates inputs_old inputs_new name turns r =
+    (IsUnopened inputs_old inputs_new name × (r ≡ Refusal.Open))
+    ⊎ ((old : Reader) × (new : Reader) × IsReadFrom inputs_old inputs_new name old new × RefusesText turns old new r)
 
 -- ---- a run in plain bytes
 
@@ -288,24 +288,24 @@ abbrev pub PerformsOver : Bool → Task → Form → TemplateList → ℕ → Re
 PerformsOver hex task form set turns in_old in_new out_old out_new err_old err_new r =
     PerformsBy (hex && not (is_written task)) hex task form set turns in_old in_new out_old out_new err_old err_new r
 
--- with templates that are loaded: the input's file cannot be opened, or it was opened at its beginning
-abbrev pub PerformsWith : Asked → TemplateList → Inputs → ℕ → Writer → Writer → Writer → Writer → Answer → Type 0
-PerformsWith asked set inputs turns out_old out_new err_old err_new r =
-    ((asked.input ≢ None) × (r ≡ Err Refusal.Open) × (out_new ≡ out_old) × (err_new ≡ err_old))
-    ⊎ ((in_old : Reader) × (in_new : Reader) × (in_old.left ≡ input_of inputs asked.input)
+-- with templates that are loaded: the input's file could not be opened, or it was opened at its beginning
+abbrev pub PerformsWith : Asked → TemplateList → Inputs → Inputs → ℕ → Writer → Writer → Writer → Writer → Answer → Type 0
+PerformsWith asked set inputs_old inputs_new turns out_old out_new err_old err_new r =
+    (IsUnopened inputs_old inputs_new asked.input × (r ≡ Err Refusal.Open) × (out_new ≡ out_old) × (err_new ≡ err_old))
+    ⊎ ((in_old : Reader) × (in_new : Reader) × IsReadFrom inputs_old inputs_new asked.input in_old in_new
     × PerformsOver asked.hex asked.task asked.form set turns in_old in_new out_old out_new err_old err_new r)
 
 -- the templates are refused, and nothing was written; or they are loaded
-abbrev pub PerformsAsked : Asked → Inputs → ℕ → Writer → Writer → Writer → Writer → Answer → Type 0
-PerformsAsked asked inputs turns out_old out_new err_old err_new r =
-    (IsErrAnd r (RefusesTemplates inputs asked.templates turns) × (out_new ≡ out_old) × (err_new ≡ err_old))
-    ⊎ ((set : TemplateList) × LoadsSet (input_of inputs asked.templates) turns set × PerformsWith asked set inputs turns out_old out_new err_old err_new r)
+abbrev pub PerformsAsked : Asked → Inputs → Inputs → ℕ → Writer → Writer → Writer → Writer → Answer → Type 0
+PerformsAsked asked inputs_old inputs_new turns out_old out_new err_old err_new r =
+    (IsErrAnd r (RefusesTemplates inputs_old inputs_new asked.templates turns) × (out_new ≡ out_old) × (err_new ≡ err_old))
+    ⊎ ((set : TemplateList) × LoadsSet (input_of inputs_old asked.templates) turns set × PerformsWith asked set inputs_old inputs_new turns out_old out_new err_old err_new r)
 
 -- the command line is refused, and this was left untouched; or it asks for something
-abbrev pub Performs : List (List ℕ) → Inputs → ℕ → Type 0 → Writer → Writer → Writer → Writer → Answer → Type 0
-Performs words inputs turns Untouched out_old out_new err_old err_new r =
+abbrev pub Performs : List (List ℕ) → Inputs → Inputs → ℕ → Type 0 → Writer → Writer → Writer → Writer → Answer → Type 0
+Performs words inputs_old inputs_new turns Untouched out_old out_new err_old err_new r =
     (IsErrAnd r IsTextOrMemory × Untouched × (err_new ≡ err_old))
-    ⊎ ((asked : Asked) × AsksFor words asked × PerformsAsked asked inputs turns out_old out_new err_old err_new r)
+    ⊎ ((asked : Asked) × AsksFor words asked × PerformsAsked asked inputs_old inputs_new turns out_old out_new err_old err_new r)
 
 -- ---- what is said
 

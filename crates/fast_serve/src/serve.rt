@@ -1,7 +1,7 @@
 //! The program as a call: from a command line, files and streams to the exit status.
 
-ghost use Rattle.std.specs.Prelude.{◌≡◌, ◌≢◌, ◌≤◌, ◌⊎◌, ◌^◌, ◌++◌, ℕ, List, None, Ok, Err, IfErr, IfOk, map, option_map, string_bytes};
-ghost use Rattle.fast_decoder.specs.Inputs.{Reader, reader_by};
+ghost use Rattle.std.specs.Prelude.{◌≡◌, ◌≢◌, ◌≤◌, ◌⊎◌, ◌^◌, ◌++◌, ℕ, List, None, Ok, Err, IfErr, IfOk, OnOk, map, option_map, string_bytes};
+ghost use Rattle.fast_decoder.specs.Inputs.{reader_by};
 ghost use Rattle.fast_template.specs.TemplateSets.{TemplateList};
 ghost use Rattle.fast_host.specs.Devices.{Writer, input_of, inputs_by, writer_by};
 ghost use Rattle.fast_host.specs.Refusals.{status_of, text_of};
@@ -33,8 +33,10 @@ fn read_templates<I: ByteInput>(
     notes: &mut Notes,
 ) -> Result<TemplateSet, Refusal>
     ensures ok { IfOk result (λ set. LoadsSet (I.left input.old) turns set) }
-    ensures refused { IfErr result (λ r. (old : Reader) × (new : Reader) × (old.left ≡ I.left input.old)
-        × RefusesText turns old new r) }
+    ensures refused { IfErr result (RefusesText turns
+        (reader_by I.left I.calls I.errors I.ends input.old)
+        (reader_by I.left I.calls I.errors I.ends input.new)) }
+    ensures unfailed { OnOk result (I.errors input.new ≡ I.errors input.old) }
 {
     match read_text(alloc, input, turns) {
         Err(fault) => Err(Refusal::of_template_text(fault)),
@@ -57,17 +59,29 @@ fn load<S: Source>(
     notes: &mut Notes,
 ) -> Result<TemplateSet, Refusal>
     ensures ok { IfOk result (λ set. LoadsSet
-        (input_of (inputs_by S.file S.input source.old) (option_map (λ n. n.now) name.entry)) turns set) }
-    ensures refused { IfErr result (RefusesTemplates (inputs_by S.file S.input source.old)
-        (option_map (λ n. n.now) name.entry) turns) }
+        (input_of (inputs_by S.file S.input S.unopened S.failed source.old) (option_map (λ n. n.now) name.entry)) turns
+        set) }
+    ensures refused { IfErr result (RefusesTemplates (inputs_by S.file S.input S.unopened S.failed source.old)
+        (inputs_by S.file S.input S.unopened S.failed source.new) (option_map (λ n. n.now) name.entry) turns) }
+    ensures opened { OnOk result (S.unopened source.new ≡ S.unopened source.old) }
+    ensures unfailed { OnOk result (S.failed source.new ≡ S.failed source.old) }
     ensures files { S.file source.new ≡ S.file source.old }
     ensures input { option_map (λ n. n.now) name.entry ≢ None → S.input source.new ≡ S.input source.old }
 {
     match name {
-        None => read_templates(alloc, &mut source.standard(), turns, notes),
+        None => {
+            let mut input = source.standard();
+            let answer = read_templates(alloc, &mut input, turns, notes);
+            source.leave_standard(input);
+            answer
+        }
         Some(name) => match source.open(name) {
             None => Err(Refusal::Open),
-            Some(mut file) => read_templates(alloc, &mut file, turns, notes),
+            Some(mut file) => {
+                let answer = read_templates(alloc, &mut file, turns, notes);
+                source.close(name, file);
+                answer
+            }
         },
     }
 }
@@ -351,7 +365,7 @@ fn perform_over<I: ByteInput, O: ByteOutput, E: ByteOutput>(
     }
 }
 
-/// Does what is asked of an input that is open, whose bytes are noted as they are read.
+/// Does what is asked of an input that is open, whose bytes are noted as they are read; answers the input too.
 fn perform_seen<I: ByteInput + Drop, O: ByteOutput, E: ByteOutput>(
     alloc: Global,
     request: Request<'_>,
@@ -361,18 +375,19 @@ fn perform_seen<I: ByteInput + Drop, O: ByteOutput, E: ByteOutput>(
     err: &mut E,
     turns: u64,
     notes: &mut Notes,
-) -> Result<Ended, Refusal>
+) -> (Result<Ended, Refusal>, I)
     requires turns { turns ≤ 2 ^ 40 }
-    ensures performed { (in_old : Reader) × (in_new : Reader) × (in_old.left ≡ I.left input)
-        × PerformsOver request.entry.hex request.entry.task request.entry.form set.now turns in_old in_new
+    ensures performed { PerformsOver request.entry.hex request.entry.task request.entry.form set.now turns
+        (reader_by I.left I.calls I.errors I.ends input)
+        (reader_by I.left I.calls I.errors I.ends result.1)
         (writer_by O.taken O.errors O.flushes out.old) (writer_by O.taken O.errors O.flushes out.new)
-        (writer_by E.taken E.errors E.flushes err.old) (writer_by E.taken E.errors E.flushes err.new) result }
-    ensures quiet { result ≡ Ok Ended.Accepted → err.new ≡ err.old }
+        (writer_by E.taken E.errors E.flushes err.old) (writer_by E.taken E.errors E.flushes err.new) result.0 }
+    ensures quiet { result.0 ≡ Ok Ended.Accepted → err.new ≡ err.old }
 {
     let mut seen = Seen::new(alloc, input, notes.is_asked() && !request.hex);
     let answer = perform_over(alloc, request, set, &mut seen, out, err, turns, notes);
     notes.stream_seen(&seen);
-    answer
+    (answer, seen.into_inner())
 }
 
 /// Opens the input, and does what is asked of it.
@@ -387,7 +402,9 @@ fn perform_with<S: Source, O: ByteOutput, E: ByteOutput>(
     notes: &mut Notes,
 ) -> Result<Ended, Refusal>
     requires turns { turns ≤ 2 ^ 40 }
-    ensures performed { PerformsWith (asked_by request.entry) set.now (inputs_by S.file S.input source.old) turns
+    ensures performed { PerformsWith (asked_by request.entry) set.now
+        (inputs_by S.file S.input S.unopened S.failed source.old)
+        (inputs_by S.file S.input S.unopened S.failed source.new) turns
         (writer_by O.taken O.errors O.flushes out.old) (writer_by O.taken O.errors O.flushes out.new)
         (writer_by E.taken E.errors E.flushes err.old) (writer_by E.taken E.errors E.flushes err.new) result }
     ensures quiet { result ≡ Ok Ended.Accepted → err.new ≡ err.old }
@@ -395,11 +412,19 @@ fn perform_with<S: Source, O: ByteOutput, E: ByteOutput>(
     match request.input {
         None => {
             let input = source.standard();
-            perform_seen(alloc, request, set, input, out, err, turns, notes)
+            let (answer, input) = perform_seen(alloc, request, set, input, out, err, turns, notes);
+            source.leave_standard(input);
+            answer
         }
         Some(name) => match source.open(name) {
             None => Err(Refusal::Open),
-            Some(file) => perform_seen(alloc, request, set, file, out, err, turns, notes),
+            Some(file) => {
+                let (answer, file) = perform_seen(
+                    alloc, request, set, file, out, err, turns, notes,
+                );
+                source.close(name, file);
+                answer
+            }
         },
     }
 }
@@ -416,7 +441,9 @@ fn perform_asked<S: Source, O: ByteOutput, E: ByteOutput>(
 ) -> Result<Ended, Refusal>
     requires turns { turns ≤ 2 ^ 40 }
     requires one_is_a_file { (asked_by request).templates ≡ None → (asked_by request).input ≢ None }
-    ensures performed { PerformsAsked (asked_by request.entry) (inputs_by S.file S.input source.old) turns
+    ensures performed { PerformsAsked (asked_by request.entry)
+        (inputs_by S.file S.input S.unopened S.failed source.old)
+        (inputs_by S.file S.input S.unopened S.failed source.new) turns
         (writer_by O.taken O.errors O.flushes out.old) (writer_by O.taken O.errors O.flushes out.new)
         (writer_by E.taken E.errors E.flushes err.old) (writer_by E.taken E.errors E.flushes err.new) result }
     ensures quiet { result ≡ Ok Ended.Accepted → err.new ≡ err.old }
@@ -515,7 +542,8 @@ fn serve_request<S: Source, O: ByteOutput, E: ByteOutput>(
     ensures status { result ≤ 3 }
     ensures quiet { result ≡ 0 → err.new ≡ err.old }
     ensures performed { (r : _) × (told : Writer) × (result ≡ status_after r)
-        × PerformsAsked (asked_by request.entry) (inputs_by S.file S.input source.old) turns
+        × PerformsAsked (asked_by request.entry) (inputs_by S.file S.input S.unopened S.failed source.old)
+        (inputs_by S.file S.input S.unopened S.failed source.new) turns
         (writer_by O.taken O.errors O.flushes out.old) (writer_by O.taken O.errors O.flushes out.new)
         (writer_by E.taken E.errors E.flushes err.old) told r
         × Says request.entry.explain told (writer_by E.taken E.errors E.flushes err.new) r }
@@ -553,7 +581,8 @@ pub fn serve<S: Source, O: ByteOutput, E: ByteOutput>(
     // what was read, written, told and answered, that the status is that of the answer, and what is said behind what was
     // told; where the command line is refused nothing is opened or written
     ensures performed { (r : _) × (told : Writer) × (result ≡ status_after r)
-        × Performs (map (λ w. w.now) words.now) (inputs_by S.file S.input source.old) turns
+        × Performs (map (λ w. w.now) words.now) (inputs_by S.file S.input S.unopened S.failed source.old)
+        (inputs_by S.file S.input S.unopened S.failed source.new) turns
         ((source.new ≡ source.old) × (out.new ≡ out.old))
         (writer_by O.taken O.errors O.flushes out.old) (writer_by O.taken O.errors O.flushes out.new)
         (writer_by E.taken E.errors E.flushes err.old) told r
@@ -596,7 +625,8 @@ pub fn serve_words<S: Source, O: ByteOutput, E: ByteOutput>(
     ensures performed { IfOk words (λ texts. (r : _) × (told : Writer) × (result ≡ status_after r)
         × (((r ≡ Err Refusal.Memory) × (source.new ≡ source.old) × (out.new ≡ out.old)
         × (told ≡ writer_by E.taken E.errors E.flushes err.old))
-        ⊎ Performs (map string_bytes texts.items) (inputs_by S.file S.input source.old) turns
+        ⊎ Performs (map string_bytes texts.items) (inputs_by S.file S.input S.unopened S.failed source.old)
+        (inputs_by S.file S.input S.unopened S.failed source.new) turns
         ((source.new ≡ source.old) × (out.new ≡ out.old))
         (writer_by O.taken O.errors O.flushes out.old) (writer_by O.taken O.errors O.flushes out.new)
         (writer_by E.taken E.errors E.flushes err.old) told r)

@@ -63,6 +63,9 @@ pub struct Shelf<'a> {
     pub templates: Feed<'a>,
     pub stream: Feed<'a>,
     pub standard: Feed<'a>,
+    // of all names together
+    pub unopened: u64,
+    pub failed: u64,
 }
 
 impl<'a> Source for Shelf<'a> {
@@ -74,18 +77,31 @@ impl<'a> Source for Shelf<'a> {
 
     ghost input = { λ s. None };
 
+    ghost unopened = { λ s name. s.unopened };
+
+    ghost failed = { λ s name. s.failed };
+
     fn open(&mut self, name: &str) -> Option<Counted<Feed<'a>>> {
         if name == TEMPLATES {
             Some(Counted::new(self.templates))
         } else if name == STREAM {
             Some(Counted::new(self.stream))
         } else {
+            self.unopened = self.unopened.saturating_add(1);
             None
         }
     }
 
+    fn close(&mut self, _name: &str, reader: Counted<Feed<'a>>) {
+        self.failed = self.failed.saturating_add(reader.failed_calls());
+    }
+
     fn standard(&mut self) -> Counted<Feed<'a>> {
         Counted::new(self.standard)
+    }
+
+    fn leave_standard(&mut self, reader: Counted<Feed<'a>>) {
+        self.failed = self.failed.saturating_add(reader.failed_calls());
     }
 
     fn look(&self, name: &str) -> FileState {

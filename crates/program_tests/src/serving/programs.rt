@@ -133,6 +133,8 @@ impl<'a> Case<'a> {
                 width: self.width,
                 after: self.input_end,
             },
+            unopened: 0,
+            failed: 0,
         }
     }
 }
