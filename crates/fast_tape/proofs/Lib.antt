@@ -1,0 +1,4 @@
+mod Marks
+mod Nodes
+mod Joining
+mod Lying
