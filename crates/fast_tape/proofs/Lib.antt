@@ -2,3 +2,4 @@ mod Marks
 mod Nodes
 mod Joining
 mod Lying
+mod WorkedTapes
