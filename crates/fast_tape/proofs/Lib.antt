@@ -1,5 +1,6 @@
-mod Marks
-mod Nodes
+mod Building
 mod Joining
 mod Lying
+mod Marks
+mod Nodes
 mod WorkedTapes

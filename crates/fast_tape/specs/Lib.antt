@@ -1,3 +1,4 @@
-pub mod Tapes
+pub mod Building
 pub mod Moved
 pub mod Open
+pub mod Tapes

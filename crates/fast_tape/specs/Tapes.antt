@@ -52,28 +52,40 @@ pub record LiesAt (bytes : List ℕ) (place : ℕ) (text : List ℕ) : Type 0 wh
 
 abbrev pub message_kind : ℕ
 message_kind = 0
+
 abbrev pub absent_kind : ℕ
 absent_kind = 1
+
 abbrev pub uint32_kind : ℕ
 uint32_kind = 2
+
 abbrev pub uint64_kind : ℕ
 uint64_kind = 3
+
 abbrev pub int32_kind : ℕ
 int32_kind = 4
+
 abbrev pub int64_kind : ℕ
 int64_kind = 5
+
 abbrev pub decimal_kind : ℕ
 decimal_kind = 6
+
 abbrev pub ascii_kind : ℕ
 ascii_kind = 7
+
 abbrev pub unicode_kind : ℕ
 unicode_kind = 8
+
 abbrev pub bytes_kind : ℕ
 bytes_kind = 9
+
 abbrev pub group_kind : ℕ
 group_kind = 10
+
 abbrev pub sequence_kind : ℕ
 sequence_kind = 11
+
 abbrev pub element_kind : ℕ
 element_kind = 12
 

@@ -4,16 +4,27 @@
 pub const MESSAGE: u32 = 0;
 /// A field, a group or a sequence that is left out.
 pub const ABSENT: u32 = 1;
+
 pub const UINT32: u32 = 2;
+
 pub const UINT64: u32 = 3;
+
 pub const INT32: u32 = 4;
+
 pub const INT64: u32 = 5;
+
 pub const DECIMAL: u32 = 6;
+
 pub const ASCII: u32 = 7;
+
 pub const UNICODE: u32 = 8;
+
 pub const BYTES: u32 = 9;
+
 pub const GROUP: u32 = 10;
+
 pub const SEQUENCE: u32 = 11;
+
 pub const ELEMENT: u32 = 12;
 
 /// A node of a message, 32 bytes. What its kind says nothing of is 0.

@@ -155,7 +155,13 @@ impl OpenTape {
     }
 
     // A string of this kind, as the slot's last one where it is the same.
-    fn push_text(&mut self, kind: u32, instruction: u32, slot: u32, text: &[u8]) -> Result<(), AllocError>
+    fn push_text(
+        &mut self,
+        kind: u32,
+        instruction: u32,
+        slot: u32,
+        text: &[u8],
+    ) -> Result<(), AllocError>
         ensures { OnOk result ((mark : Mark) → ((bytes : List ℕ) (node : NodeOf) → SaysText kind bytes text.now node → Says bytes mark node)
             → Adds mark self.old self.new) }
     {
@@ -171,27 +177,62 @@ impl OpenTape {
     }
 
     /// A field's value, or that there is none. A string that its slot told last in this message is told by its place again.
-    pub fn push_value(&mut self, instruction: u32, slot: u32, value: Option<&Scalar>) -> Result<(), AllocError>
+    pub fn push_value(
+        &mut self,
+        instruction: u32,
+        slot: u32,
+        value: Option<&Scalar>,
+    ) -> Result<(), AllocError>
         ensures { OnOk result (Adds (tells (option_copied value.entry)) self.old self.new) }
     {
         match value {
             None => self.push(TapeNode::long(ABSENT, instruction, 0, 0)),
-            Some(Scalar::U32(number)) => self.push(TapeNode::long(UINT32, instruction, *number as u64, 0)),
+            Some(Scalar::U32(number)) => self.push(TapeNode::long(
+                UINT32,
+                instruction,
+                *number as u64,
+                0,
+            )),
             Some(Scalar::U64(number)) => self.push(TapeNode::long(UINT64, instruction, *number, 0)),
-            Some(Scalar::I32(number)) => self.push(TapeNode::signed(INT32, instruction, *number as i64, 0)),
-            Some(Scalar::I64(number)) => self.push(TapeNode::signed(INT64, instruction, *number, 0)),
+            Some(Scalar::I32(number)) => self.push(TapeNode::signed(
+                INT32,
+                instruction,
+                *number as i64,
+                0,
+            )),
+            Some(Scalar::I64(number)) => self.push(TapeNode::signed(
+                INT64,
+                instruction,
+                *number,
+                0,
+            )),
             Some(Scalar::Decimal { exponent, mantissa }) => {
                 self.push(TapeNode::signed(DECIMAL, instruction, *mantissa, *exponent))
             }
             Some(Scalar::Ascii(text)) => self.push_text(ASCII, instruction, slot, text.as_slice()),
-            Some(Scalar::Unicode(text)) => self.push_text(UNICODE, instruction, slot, text.as_bytes()),
-            Some(Scalar::Bytes(bytes)) => self.push_text(BYTES, instruction, slot, bytes.as_slice()),
+            Some(Scalar::Unicode(text)) => self.push_text(
+                UNICODE,
+                instruction,
+                slot,
+                text.as_bytes(),
+            ),
+            Some(Scalar::Bytes(bytes)) => self.push_text(
+                BYTES,
+                instruction,
+                slot,
+                bytes.as_slice(),
+            ),
         }
     }
 
     /// A decimal, or that a field is left out.
     #[inline(always)]
-    pub fn push_decimal(&mut self, instruction: u32, mantissa: i64, exponent: i32) -> Result<(), AllocError>
+    pub fn push_decimal(
+        &mut self,
+        instruction: u32,
+        mantissa: i64,
+        exponent: i32,
+    ) -> Result<(), AllocError>
         ensures { OnOk result (Adds (tells (Some (Decimal exponent mantissa))) self.old self.new) }
     {
         self.push(TapeNode::signed(DECIMAL, instruction, mantissa, exponent))

@@ -1,6 +1,6 @@
 //! Tapes.
 
-ghost use Rattle.std.specs.Prelude.{◌≡◌, ◌++◌, [], ◌∷◌, length, map, take, vec_len, OnOk, OnErr};
+ghost use Rattle.std.specs.Prelude.{◌≡◌, ◌≤◌, ◌↔◌, ◌++◌, [], ◌∷◌, true, false, IsTrue, drop, length, map, take, vec_len, OnOk, OnErr};
 ghost use Rattle.fast_tape.specs.Moved.{moved};
 
 use crate::node::TapeNode;
@@ -72,5 +72,24 @@ impl Tape {
                 Err(AllocError)
             }
         }
+    }
+
+    /// Puts the nodes and the bytes into the front of these rooms; answers whether they have room. If not, nothing changes.
+    pub fn copy_to(&self, nodes: &mut [TapeNode], bytes: &mut [u8]) -> bool
+        ensures nodes { result ≡ true → nodes.new
+            ≡ self.now.nodes.items ++ drop (length self.now.nodes.items) nodes.old }
+        ensures bytes { result ≡ true → bytes.new
+            ≡ self.now.bytes.items ++ drop (length self.now.bytes.items) bytes.old }
+        ensures same_nodes { result ≡ false → nodes.new ≡ nodes.old }
+        ensures same_bytes { result ≡ false → bytes.new ≡ bytes.old }
+        ensures room { IsTrue result ↔ ((length self.now.nodes.items ≤ length nodes.old)
+            × (length self.now.bytes.items ≤ length bytes.old)) }
+    {
+        if nodes.len() < self.nodes.len() || bytes.len() < self.bytes.len() {
+            return false;
+        }
+        nodes[..self.nodes.len()].copy_from_slice(&self.nodes);
+        bytes[..self.bytes.len()].copy_from_slice(&self.bytes);
+        true
     }
 }

@@ -1,0 +1,226 @@
+//! Builds tapes of messages.
+
+ghost use Rattle.std.specs.Prelude.{◌≡◌, ◌++◌, [], ◌∷◌, List, OnOk, true};
+ghost use Rattle.std.specs.FinMap as finite;
+
+use crate::node::{ELEMENT, GROUP, MESSAGE, SEQUENCE, TapeNode};
+use crate::open::OpenTape;
+use crate::tape::Tape;
+use fast_dictionary::Entries;
+use fast_field::FieldFault;
+use fast_part::{take_exponent, take_identifier, take_length, take_mantissa, take_part};
+use fast_template::{FieldPart, Name, Presence};
+use fast_walk::Receiver;
+use fast_wire::Level;
+use std::alloc::{AllocError, Global};
+
+/// Builds tapes of the fields that it receives: of the messages that have ended, which wait until they are taken, and of the one
+/// that is open.
+#[derive(Drop)]
+pub struct TapeBuilder {
+    whole: Tape,
+    // how many messages wait
+    messages: u64,
+    open: OpenTape,
+    // of the decimal whose mantissa is next, and the number of its instruction
+    exponent: i32,
+    instruction: u32,
+}
+
+impl TapeBuilder {
+    ghost use Rattle.fast_template.specs.Resolved.{Resolved};
+
+    /// With no message, of which one may have so many bytes of strings. Takes no memory.
+    pub fn new(alloc: Global, most_bytes: u32) -> TapeBuilder
+        ensures stands { (set : List Resolved) → ⟦<TapeBuilder as Receiver>⟧.stands result set [] finite.empty }
+    {
+        TapeBuilder {
+            whole: Tape::new(alloc),
+            messages: 0,
+            open: OpenTape::new(alloc, most_bytes),
+            exponent: 0,
+            instruction: 0,
+        }
+    }
+}
+
+impl Receiver for TapeBuilder {
+    ghost use Rattle.fast_tape.specs.Building.{HasTape, HasWaiting};
+
+    ghost has = { λ b o d. HasTape b o };
+
+    ghost stands = { λ b set ms d. HasWaiting b ms };
+
+    ghost keeps = { λ b set ms d. HasWaiting b ms };
+
+    ghost room = { λ w around left. true };
+
+    #[inline(always)]
+    fn begin<E: Entries>(
+        &mut self,
+        alloc: Global,
+        entries: &mut E,
+        identifier: &FieldPart,
+        bit: bool,
+        level: Level,
+        bytes: &[u8],
+        at: usize,
+    ) -> Result<(u32, usize), FieldFault> {
+        let (id, next) = take_identifier(alloc, entries, identifier, bit, level, bytes, at)?;
+        self.open.clear();
+        self.open.open(TapeNode::long(MESSAGE, id, 0, 0))?;
+        Ok((id, next))
+    }
+
+    #[inline(always)]
+    fn finish(&mut self, _alloc: Global) -> Result<(), AllocError> {
+        let Some(messages) = self.messages.checked_add(1) else {
+            return Err(AllocError);
+        };
+        self.open.close()?;
+        self.whole.append(&self.open.tape)?;
+        self.messages = messages;
+        Ok(())
+    }
+
+    #[inline(always)]
+    fn back(&mut self, _alloc: Global) {}
+
+    #[inline(always)]
+    fn field<E: Entries>(
+        &mut self,
+        alloc: Global,
+        _name: &Name,
+        _presence: Presence,
+        entries: &mut E,
+        part: &FieldPart,
+        bit: bool,
+        level: Level,
+        bytes: &[u8],
+        at: usize,
+    ) -> Result<usize, FieldFault> {
+        let (value, next) = take_part(alloc, entries, part, bit, level, bytes, at)?;
+        self.open
+            .push_value(part.number, part.key.slot, value.as_ref())?;
+        Ok(next)
+    }
+
+    #[inline(always)]
+    fn exponent<E: Entries>(
+        &mut self,
+        alloc: Global,
+        _name: &Name,
+        _presence: Presence,
+        entries: &mut E,
+        part: &FieldPart,
+        bit: bool,
+        level: Level,
+        bytes: &[u8],
+        at: usize,
+    ) -> Result<(bool, usize), FieldFault> {
+        match take_exponent(alloc, entries, part, bit, level, bytes, at)? {
+            (None, next) => {
+                self.open.push_absent(part.number)?;
+                Ok((false, next))
+            }
+            (Some(exponent), next) => {
+                self.exponent = exponent;
+                self.instruction = part.number;
+                Ok((true, next))
+            }
+        }
+    }
+
+    #[inline(always)]
+    fn mantissa<E: Entries>(
+        &mut self,
+        alloc: Global,
+        entries: &mut E,
+        part: &FieldPart,
+        bit: bool,
+        level: Level,
+        bytes: &[u8],
+        at: usize,
+    ) -> Result<usize, FieldFault> {
+        let (mantissa, next) = take_mantissa(alloc, entries, part, bit, level, bytes, at)?;
+        self.open
+            .push_decimal(self.instruction, mantissa, self.exponent)?;
+        Ok(next)
+    }
+
+    #[inline(always)]
+    fn begin_sequence<E: Entries>(
+        &mut self,
+        alloc: Global,
+        _name: &Name,
+        _presence: Presence,
+        entries: &mut E,
+        part: &FieldPart,
+        bit: bool,
+        level: Level,
+        bytes: &[u8],
+        at: usize,
+    ) -> Result<(Option<u32>, usize), FieldFault> {
+        match take_length(alloc, entries, part, bit, level, bytes, at)? {
+            (None, next) => {
+                self.open.push_absent(part.number)?;
+                Ok((None, next))
+            }
+            (Some(length), next) => {
+                self.open
+                    .open(TapeNode::long(SEQUENCE, part.number, length as u64, 0))?;
+                Ok((Some(length), next))
+            }
+        }
+    }
+
+    #[inline(always)]
+    fn left_out(&mut self, _name: &Name, number: u32) -> Result<(), AllocError> {
+        self.open.push_absent(number)?;
+        Ok(())
+    }
+
+    #[inline(always)]
+    fn enter(
+        &mut self,
+        _alloc: Global,
+        _name: &Name,
+        number: u32,
+        _optional: bool,
+        _own_map: bool,
+        _size: usize,
+    ) -> Result<(), AllocError> {
+        self.open.open(TapeNode::long(GROUP, number, 0, 0))?;
+        Ok(())
+    }
+
+    #[inline(always)]
+    fn leave(&mut self, _alloc: Global) -> Result<(), AllocError> {
+        self.open.close()?;
+        Ok(())
+    }
+
+    #[inline(always)]
+    fn enter_element(
+        &mut self,
+        _alloc: Global,
+        number: u32,
+        _own_map: bool,
+        _size: usize,
+    ) -> Result<(), AllocError> {
+        self.open.open(TapeNode::long(ELEMENT, number, 0, 0))?;
+        Ok(())
+    }
+
+    #[inline(always)]
+    fn leave_element(&mut self, _alloc: Global) -> Result<(), AllocError> {
+        self.open.close()?;
+        Ok(())
+    }
+
+    #[inline(always)]
+    fn end_sequence(&mut self, _alloc: Global) -> Result<(), AllocError> {
+        self.open.close()?;
+        Ok(())
+    }
+}
