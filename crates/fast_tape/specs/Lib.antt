@@ -1,4 +1,6 @@
 pub mod Building
+pub mod Faults
 pub mod Moved
 pub mod Open
 pub mod Tapes
+pub mod Waiting

@@ -1,6 +1,7 @@
 //! Builds tapes of messages.
 
-ghost use Rattle.std.specs.Prelude.{◌≡◌, ◌++◌, [], ◌∷◌, List, OnOk, true};
+ghost use Rattle.std.specs.Prelude.{◌≡◌, ◌≤◌, ◌↔◌, ◌++◌, [], List, IfSome, IfNone, IsSome, drop, length, true, false};
+ghost use Rattle.fast_tape.specs.Waiting.{Forgets, counts_of, is_full};
 ghost use Rattle.std.specs.FinMap as finite;
 
 use crate::node::{ELEMENT, GROUP, MESSAGE, SEQUENCE, TapeNode};
@@ -13,6 +14,14 @@ use fast_template::{FieldPart, Name, Presence};
 use fast_walk::Receiver;
 use fast_wire::Level;
 use std::alloc::{AllocError, Global};
+
+/// How many messages, nodes and bytes.
+#[derive(Clone, Copy, Debug)]
+pub struct Taken {
+    pub messages: u64,
+    pub nodes: usize,
+    pub bytes: usize,
+}
 
 /// Builds tapes of the fields that it receives: of the messages that have ended, which wait until they are taken, and of the one
 /// that is open.
@@ -41,6 +50,68 @@ impl TapeBuilder {
             exponent: 0,
             instruction: 0,
         }
+    }
+
+    /// Whether so many messages wait that no more are to be read before they are taken: 65,536 nodes, or 1 MiB of strings.
+    #[inline(always)]
+    pub fn is_full(&self) -> bool
+        ensures { result ≡ is_full self.now }
+    {
+        self.whole.nodes.len() >= 65_536 || self.whole.bytes.len() >= 1_048_576
+    }
+
+    /// Whether memory was refused because the open message has more bytes of strings than one may have.
+    pub fn is_too_large(&self) -> bool
+        ensures { result ≡ self.now.«open».too_large }
+    {
+        self.open.is_too_large()
+    }
+
+    /// How many messages, nodes and bytes wait.
+    pub fn counts(&self) -> Taken
+        ensures { result ≡ counts_of self.now }
+    {
+        Taken {
+            messages: self.messages,
+            nodes: self.whole.nodes.len(),
+            bytes: self.whole.bytes.len(),
+        }
+    }
+
+    /// Forgets the messages that wait, and keeps their memory.
+    pub fn forget(&mut self)
+        ensures { Forgets self.old self.new }
+    {
+        self.whole.clear();
+        self.messages = 0;
+    }
+
+    /// Forgets the messages that wait, and what there is of the open one.
+    pub fn reset(&mut self)
+        ensures stands { (set : List Resolved) → ⟦<TapeBuilder as Receiver>⟧.stands self.new set [] finite.empty }
+        ensures small { self.new.«open».too_large ≡ false }
+    {
+        self.forget();
+        self.open.clear();
+    }
+
+    /// Puts the nodes and the bytes of the messages that wait into the front of these rooms, and forgets them; answers how many
+    /// they are. None: the rooms are too short, and nothing changes.
+    pub fn take(&mut self, nodes: &mut [TapeNode], bytes: &mut [u8]) -> Option<Taken>
+        ensures taken { IfSome result (λ taken. (taken ≡ counts_of self.old)
+            × (nodes.new ≡ self.old.whole.nodes.items ++ drop taken.nodes nodes.old)
+            × (bytes.new ≡ self.old.whole.bytes.items ++ drop taken.bytes bytes.old)
+            × Forgets self.old self.new) }
+        ensures short { IfNone result ((nodes.new ≡ nodes.old) × (bytes.new ≡ bytes.old) × (self.new ≡ self.old)) }
+        ensures room { IsSome result ↔ ((length self.old.whole.nodes.items ≤ length nodes.old)
+            × (length self.old.whole.bytes.items ≤ length bytes.old)) }
+    {
+        if !self.whole.copy_to(nodes, bytes) {
+            return None;
+        }
+        let taken = self.counts();
+        self.forget();
+        Some(taken)
     }
 }
 

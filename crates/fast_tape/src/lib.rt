@@ -2,12 +2,14 @@
 #![tactic(auto)]
 
 mod builder;
+mod fault;
 pub mod laws;
 mod node;
 mod open;
 mod tape;
 
-pub use builder::TapeBuilder;
+pub use builder::{Taken, TapeBuilder};
+pub use fault::{TapeFault, told_as};
 pub use node::{
     ABSENT, ASCII, BYTES, DECIMAL, ELEMENT, GROUP, INT32, INT64, MESSAGE, SEQUENCE, TapeNode,
     UINT32, UINT64, UNICODE,

@@ -86,10 +86,18 @@ impl OpenTape {
         ensures nodes { self.new.tape.nodes.items ≡ [] }
         ensures bytes { self.new.tape.bytes.items ≡ [] }
         ensures starts { self.new.starts.items ≡ [] }
+        ensures small { self.new.too_large ≡ false }
     {
         self.tape.clear();
         self.starts.clear();
         self.too_large = false;
+    }
+
+    /// Whether memory was refused because the strings have more bytes than those of a message may have.
+    pub fn is_too_large(&self) -> bool
+        ensures { result ≡ self.now.too_large }
+    {
+        self.too_large
     }
 
     // Puts a node behind the others.

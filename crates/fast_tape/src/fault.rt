@@ -1,0 +1,28 @@
+//! Why a stream is not read on.
+
+ghost use Rattle.std.specs.Prelude.{◌≡◌};
+ghost use Rattle.fast_tape.specs.Faults.{told_as as fault_told};
+
+use fast_stream::{Cause, Fault};
+
+/// Why the messages of a stream are not read on as nodes.
+#[derive(Clone, Copy, Debug)]
+pub enum TapeFault {
+    /// The stream is refused, or memory was.
+    Stream(Fault),
+    /// The message of this number, counted from 1, has more bytes of strings than one may have.
+    MessageTooLarge(u64),
+}
+
+/// What a stream's fault is told as, where the message may have been too large.
+pub fn told_as(fault: Fault, too_large: bool) -> TapeFault
+    ensures { result ≡ fault_told too_large fault }
+{
+    if !too_large {
+        return TapeFault::Stream(fault);
+    }
+    match fault.cause {
+        Cause::Memory => TapeFault::MessageTooLarge(fault.place.message),
+        _ => TapeFault::Stream(fault),
+    }
+}
