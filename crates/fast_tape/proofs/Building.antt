@@ -1,5 +1,5 @@
 -- What there is of an open message stays so, step by step.
-use Rattle.std.proofs.Common.{◌≡◌, ◌≤◌, ◌<◌, ◌+◌, ◌-◌, ◌++◌, ◌∙◌, [], ◌∷◌, ℕ, ℤ, suc, zero, Bool, List, Option, Some, None, length, arith, ap, ap₂, subst, sym, refl, append_assoc, append-nil}
+use Rattle.std.proofs.Common.{◌≡◌, ◌<◌, ◌+◌, ◌-◌, ◌++◌, ◌∙◌, [], ◌∷◌, ℕ, ℤ, suc, Bool, List, Option, Some, length, arith, ap, ap₂, subst, sym, refl, append_assoc, append-nil}
 use Rattle.std.specs.List.{flat_map}
 use Rattle.std.proofs.lemmas.Grind.{flat_map-append}
 use Rattle.std.proofs.lemmas.List.{length-append}
@@ -12,7 +12,7 @@ use Rattle.fast_value.specs.declared.scalar.Scalar.TheVariants.{I32}
 use Rattle.fast_template.specs.Resolved.{Instructions, Resolved}
 use Rattle.fast_dictionary.specs.Dictionary.{Dictionary}
 use Rattle.fast_template.specs.declared.resolved.FieldPart.{FieldPart}
-use Rattle.fast_walk.specs.OpenSegments.{Waiting, Inside, in_group, in_sequence, Sequel, Body, Next, at_instruction, at_mantissa, at_element, with_item, with_element, fewer}
+use Rattle.fast_walk.specs.OpenSegments.{Waiting, in_group, in_sequence, Sequel, Next, at_instruction, at_mantissa, at_element, fewer}
 use Rattle.fast_walk.specs.Received as received
 use Rattle.fast_walk.specs.Received.{Received, content_received, moved, passed, entered, after_exponent, after_length, in_element, after_sequence, ended_in}
 use Rattle.fast_tape.specs.Tapes.{Head, Mark, opens, tells, of_message, of_group, of_sequence, of_element, segment, marks_of, marks_in, marks_in_elements, marks_of_messages, long_node, Says, SayAll}

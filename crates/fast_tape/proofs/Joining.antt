@@ -1,12 +1,11 @@
 -- Tapes one behind the other.
-use Rattle.std.proofs.Common.{◌≡◌, ℕ, ◌+◌, List, [], ◌∷◌, ◌++◌, length, map, Option, Some, None, refl, sym, ap, ap₂, ◌∙◌, append_assoc, append-nil, subst, arith}
+use Rattle.std.proofs.Common.{◌≡◌, ℕ, ◌+◌, List, [], ◌∷◌, ◌++◌, length, map, Some, None, refl, sym, ap, ◌∙◌, append_assoc, subst, arith}
 use Rattle.std.proofs.lemmas.List.{length-append}
-use Rattle.fast_value.specs.declared.scalar.Scalar.{Scalar}
 use Rattle.fast_value.specs.declared.scalar.Scalar.TheVariants.{I32, U32, I64, U64, Decimal, Ascii, Unicode, Bytes}
 use Rattle.fast_tape.specs.declared.node.TapeNode.{TapeNode}
 use Rattle.fast_stream.specs.Nodes.{Content}
 use Rattle.fast_tape.specs.Moved.{moved}
-use Rattle.fast_tape.specs.Tapes.{Head, of_message, of_group, of_sequence, of_element, Mark, opens, tells, segment, LiesAt, Says, SayAll, SaysText, marks_in, marks_of_messages}
+use Rattle.fast_tape.specs.Tapes.{of_message, of_group, of_sequence, of_element, Mark, opens, tells, segment, LiesAt, Says, SayAll, marks_in, marks_of_messages}
 use Rattle.fast_tape.proofs.Nodes.{say_all_more, say_both}
 
 lies_behind : (front bytes : List ℕ) (place : ℕ) (text : List ℕ) → LiesAt bytes place text → LiesAt (front ++ bytes) (place + length front) text

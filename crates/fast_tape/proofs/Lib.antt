@@ -1,4 +1,5 @@
 mod Building
+mod Reading
 mod Joining
 mod Lying
 mod Marks

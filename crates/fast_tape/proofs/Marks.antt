@@ -1,8 +1,8 @@
 -- What nodes say has one content.
-use Rattle.std.proofs.Common.{◌≡◌, ℕ, ◌+◌, suc, zero, List, [], ◌∷◌, ◌++◌, length, Option, Some, None, refl, sym, ap, ap₂, ◌∙◌, append_assoc, append-nil, arith}
+use Rattle.std.proofs.Common.{◌≡◌, ℕ, ◌+◌, List, [], ◌∷◌, ◌++◌, length, refl, sym, ap, ap₂, ◌∙◌, arith}
 use Rattle.std.proofs.lemmas.List.{length-append}
-use Rattle.fast_stream.specs.Nodes.{Item, single, group_items, sequence_elements, Items, no_items, then_item, Elements, no_elements, then_element, element_count, items_of, elements_of, nodes_of, nodes_in, nodes_in_elements, Content}
-use Rattle.fast_tape.specs.Tapes.{Head, of_message, of_group, of_sequence, of_element, Mark, opens, tells, segment, marks_of, marks_in, marks_in_elements, marks_of_messages}
+use Rattle.fast_stream.specs.Nodes.{Item, single, group_items, sequence_elements, Items, no_items, then_item, Elements, no_elements, then_element, element_count, nodes_of, nodes_in, nodes_in_elements, Content}
+use Rattle.fast_tape.specs.Tapes.{Head, of_message, of_group, of_sequence, of_element, Mark, segment, marks_of, marks_in, marks_in_elements, marks_of_messages}
 
 -- ---- how many
 

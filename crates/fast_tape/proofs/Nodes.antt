@@ -1,13 +1,11 @@
 -- What one node says.
-use Rattle.std.proofs.Common.{◌≡◌, ℕ, ◌+◌, suc, zero, List, [], ◌∷◌, ◌++◌, length, take, drop, Option, Some, None, refl, sym, ap, ap₂, ◌∙◌, append_assoc, append-nil, arith, Bool, if◌then◌else◌}
-use Rattle.std.specs.Prelude.{◌==◌}
+use Rattle.std.proofs.Common.{◌≡◌, ℕ, ◌+◌, suc, zero, List, [], ◌∷◌, ◌++◌, length, take, drop, Some, None, refl, sym, ap, ap₂, ◌∙◌, append_assoc, arith}
 use Rattle.std.proofs.lemmas.List.{length-append}
 use Rattle.std.proofs.Math.Seq.{drop-append_seam, take-append_seam}
-use Rattle.fast_value.specs.declared.scalar.Scalar.{Scalar}
 use Rattle.fast_value.specs.declared.scalar.Scalar.TheVariants.{I32, U32, I64, U64, Decimal, Ascii, Unicode, Bytes}
 use Rattle.fast_tape.specs.declared.node.TapeNode.{TapeNode}
 use Rattle.fast_stream.specs.Nodes.{Content, nodes_in}
-use Rattle.fast_tape.specs.Tapes.{Head, of_message, of_group, of_sequence, of_element, Mark, opens, tells, segment, LiesAt, Says, SayAll, SaysText, long_node, signed_node, marks_in, marks_of_messages}
+use Rattle.fast_tape.specs.Tapes.{of_message, of_group, of_sequence, of_element, Mark, opens, tells, LiesAt, Says, SayAll, marks_in, marks_of_messages}
 use Rattle.fast_tape.proofs.Marks.{count_in, messages_same}
 
 text_at : List ℕ → ℕ → ℕ → List ℕ

@@ -1,10 +1,9 @@
 -- Rows that hold the definitions in place: worked messages as nodes.
-use Rattle.std.proofs.Common.{◌≡◌, ◌++◌, ℕ, pos, negsuc, List, [], ◌∷◌, Some, refl, codes, length, arith, ap, ◌∙◌, sym}
+use Rattle.std.proofs.Common.{◌≡◌, ◌++◌, ℕ, pos, negsuc, [], ◌∷◌, Some, refl, codes, length, arith, ap, ◌∙◌}
 use Rattle.std.proofs.lemmas.List.{length-append}
-use Rattle.fast_value.specs.declared.scalar.Scalar.{Scalar}
-use Rattle.fast_value.specs.declared.scalar.Scalar.TheVariants.{I32, U32, I64, U64, Ascii, Unicode, Bytes}
+use Rattle.fast_value.specs.declared.scalar.Scalar.TheVariants.{I32, I64, U64}
 use Rattle.fast_stream.specs.Nodes.{single}
-use Rattle.fast_stream.proofs.Rows.{absent, decimal, group, message, quote, sequence, text, u32, unicode, vector}
+use Rattle.fast_stream.proofs.Rows.{absent, group, message, quote, sequence, u32, unicode, vector}
 use Rattle.fast_tape.specs.declared.node.TapeNode.{TapeNode}
 use Rattle.fast_tape.specs.Tapes.{IsTape, LiesAt, long_node, signed_node}
 

@@ -1,7 +1,6 @@
 -- What there is of the message that is open (our own): its nodes so far, and which of them are headers of open segments.
 use Rattle.std.specs.Prelude.{◌≡◌, ℕ, ◌+◌, suc, ℤ, List, [], ◌∷◌, ◌++◌, length}
 use Rattle.std.specs.List.{flat_map}
-use Rattle.fast_tape.specs.declared.node.TapeNode.{TapeNode}
 use Rattle.fast_tape.specs.declared.open.OpenTape.{OpenTape}
 use Rattle.fast_tape.specs.declared.builder.TapeBuilder.{TapeBuilder}
 use Rattle.fast_stream.specs.Nodes.{items_of, elements_of, Item, Items, Content}

@@ -2,5 +2,6 @@ pub mod Building
 pub mod Faults
 pub mod Moved
 pub mod Open
+pub mod Reading
 pub mod Tapes
 pub mod Waiting

@@ -1,6 +1,5 @@
 -- What waits in a builder until it is taken.
-use Rattle.std.specs.Prelude.{◌≡◌, ℕ, Bool, ◌||◌, nat_le, List, [], ◌++◌, length, drop}
-use Rattle.fast_tape.specs.declared.node.TapeNode.{TapeNode}
+use Rattle.std.specs.Prelude.{◌≡◌, Bool, ◌||◌, nat_le, [], length}
 use Rattle.fast_tape.specs.declared.builder.TapeBuilder.{TapeBuilder}
 use Rattle.fast_tape.specs.declared.builder.Taken.{Taken}
 

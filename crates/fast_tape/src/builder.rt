@@ -1,6 +1,6 @@
 //! Builds tapes of messages.
 
-ghost use Rattle.std.specs.Prelude.{◌≡◌, ◌≤◌, ◌↔◌, ◌++◌, [], List, IfSome, IfNone, IsSome, drop, length, true, false};
+ghost use Rattle.std.specs.Prelude.{◌≡◌, ◌≤◌, ◌↔◌, ◌++◌, [], List, IsTrue, drop, length, true, false};
 ghost use Rattle.fast_tape.specs.Waiting.{Forgets, counts_of, is_full};
 ghost use Rattle.std.specs.FinMap as finite;
 
@@ -86,32 +86,36 @@ impl TapeBuilder {
         self.messages = 0;
     }
 
-    /// Forgets the messages that wait, and what there is of the open one.
-    pub fn reset(&mut self)
-        ensures stands { (set : List Resolved) → ⟦<TapeBuilder as Receiver>⟧.stands self.new set [] finite.empty }
+    /// Forgets what there is of the open message.
+    pub fn forget_open(&mut self)
+        ensures whole { self.new.whole ≡ self.old.whole }
+        ensures messages { self.new.messages ≡ self.old.messages }
         ensures small { self.new.«open».too_large ≡ false }
     {
-        self.forget();
         self.open.clear();
     }
 
-    /// Puts the nodes and the bytes of the messages that wait into the front of these rooms, and forgets them; answers how many
-    /// they are. None: the rooms are too short, and nothing changes.
-    pub fn take(&mut self, nodes: &mut [TapeNode], bytes: &mut [u8]) -> Option<Taken>
-        ensures taken { IfSome result (λ taken. (taken ≡ counts_of self.old)
-            × (nodes.new ≡ self.old.whole.nodes.items ++ drop taken.nodes nodes.old)
-            × (bytes.new ≡ self.old.whole.bytes.items ++ drop taken.bytes bytes.old)
-            × Forgets self.old self.new) }
-        ensures short { IfNone result ((nodes.new ≡ nodes.old) × (bytes.new ≡ bytes.old) × (self.new ≡ self.old)) }
-        ensures room { IsSome result ↔ ((length self.old.whole.nodes.items ≤ length nodes.old)
-            × (length self.old.whole.bytes.items ≤ length bytes.old)) }
+    /// Whether rooms of so many nodes and so many bytes are enough for the messages that wait.
+    pub fn fits(&self, nodes: usize, bytes: usize) -> bool
+        ensures { IsTrue result ↔ (((counts_of self.now).nodes ≤ nodes) × ((counts_of self.now).bytes ≤ bytes)) }
     {
-        if !self.whole.copy_to(nodes, bytes) {
-            return None;
-        }
+        self.whole.fits(nodes, bytes)
+    }
+
+    /// Puts the nodes and the bytes of the messages that wait into the front of these rooms, which are long enough, and forgets
+    /// them; answers how many they are.
+    pub fn take(&mut self, nodes: &mut [TapeNode], bytes: &mut [u8]) -> Taken
+        requires nodes { (counts_of self.now).nodes ≤ length nodes.now }
+        requires bytes { (counts_of self.now).bytes ≤ length bytes.now }
+        ensures counts { result ≡ counts_of self.old }
+        ensures nodes { nodes.new ≡ self.old.whole.nodes.items ++ drop result.nodes nodes.old }
+        ensures bytes { bytes.new ≡ self.old.whole.bytes.items ++ drop result.bytes bytes.old }
+        ensures forgets { Forgets self.old self.new }
+    {
+        self.whole.copy_to(nodes, bytes);
         let taken = self.counts();
         self.forget();
-        Some(taken)
+        taken
     }
 }
 

@@ -6,6 +6,7 @@ mod fault;
 pub mod laws;
 mod node;
 mod open;
+mod reader;
 mod tape;
 
 pub use builder::{Taken, TapeBuilder};
@@ -15,4 +16,5 @@ pub use node::{
     UINT32, UINT64, UNICODE,
 };
 pub use open::OpenTape;
+pub use reader::TapeReader;
 pub use tape::Tape;

@@ -1,6 +1,6 @@
 //! Tapes.
 
-ghost use Rattle.std.specs.Prelude.{◌≡◌, ◌≤◌, ◌↔◌, ◌++◌, [], ◌∷◌, true, false, IsTrue, drop, length, map, take, vec_len, OnOk, OnErr};
+ghost use Rattle.std.specs.Prelude.{◌≡◌, ◌≤◌, ◌↔◌, ◌++◌, [], ◌∷◌, IsTrue, drop, length, map, take, vec_len, OnOk, OnErr};
 ghost use Rattle.fast_tape.specs.Moved.{moved};
 
 use crate::node::TapeNode;
@@ -74,22 +74,21 @@ impl Tape {
         }
     }
 
-    /// Puts the nodes and the bytes into the front of these rooms; answers whether they have room. If not, nothing changes.
-    pub fn copy_to(&self, nodes: &mut [TapeNode], bytes: &mut [u8]) -> bool
-        ensures nodes { result ≡ true → nodes.new
-            ≡ self.now.nodes.items ++ drop (length self.now.nodes.items) nodes.old }
-        ensures bytes { result ≡ true → bytes.new
-            ≡ self.now.bytes.items ++ drop (length self.now.bytes.items) bytes.old }
-        ensures same_nodes { result ≡ false → nodes.new ≡ nodes.old }
-        ensures same_bytes { result ≡ false → bytes.new ≡ bytes.old }
-        ensures room { IsTrue result ↔ ((length self.now.nodes.items ≤ length nodes.old)
-            × (length self.now.bytes.items ≤ length bytes.old)) }
+    /// Whether rooms of so many nodes and so many bytes are enough.
+    pub fn fits(&self, nodes: usize, bytes: usize) -> bool
+        ensures { IsTrue result ↔ ((length self.now.nodes.items ≤ nodes) × (length self.now.bytes.items ≤ bytes)) }
     {
-        if nodes.len() < self.nodes.len() || bytes.len() < self.bytes.len() {
-            return false;
-        }
+        self.nodes.len() <= nodes && self.bytes.len() <= bytes
+    }
+
+    /// Puts the nodes and the bytes into the front of these rooms, which are long enough.
+    pub fn copy_to(&self, nodes: &mut [TapeNode], bytes: &mut [u8])
+        requires nodes { length self.now.nodes.items ≤ length nodes.now }
+        requires bytes { length self.now.bytes.items ≤ length bytes.now }
+        ensures nodes { nodes.new ≡ self.now.nodes.items ++ drop (length self.now.nodes.items) nodes.old }
+        ensures bytes { bytes.new ≡ self.now.bytes.items ++ drop (length self.now.bytes.items) bytes.old }
+    {
         nodes[..self.nodes.len()].copy_from_slice(&self.nodes);
         bytes[..self.bytes.len()].copy_from_slice(&self.bytes);
-        true
     }
 }

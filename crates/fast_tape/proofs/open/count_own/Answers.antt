@@ -1,5 +1,4 @@
-use Rattle.std.proofs.Common.{◌≡◌, ◌-◌, ◌∙◌, sym, ap, length, arith, rules, vec_len}
-use Rattle.fast_tape.specs.Moved.{with_length}
+use Rattle.std.proofs.Common.{◌≡◌, ◌-◌, ◌∙◌, ap, length, rules, vec_len}
 use Rattle.std.proofs.Math.ListN.{set}
 use Rattle.fast_tape.proofs.Lying.{counted}
 use Rattle.fast_tape.proofs.open.count_own.Goals as goal

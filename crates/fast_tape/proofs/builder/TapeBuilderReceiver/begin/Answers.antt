@@ -1,4 +1,3 @@
-use Rattle.std.proofs.Common.{◌≡◌, ◌∙◌, [], ap, sym, subst}
 use Rattle.fast_tape.specs.Tapes.{of_message}
 use Rattle.fast_tape.proofs.Building.{has_begun}
 use Rattle.fast_tape.proofs.builder.TapeBuilderReceiver.begin.Goals as goal
