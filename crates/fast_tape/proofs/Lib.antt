@@ -1,5 +1,6 @@
 mod Building
 mod Reading
+mod Taking
 mod Joining
 mod Lying
 mod Marks

@@ -3,5 +3,6 @@ pub mod Faults
 pub mod Moved
 pub mod Open
 pub mod Reading
+pub mod Taking
 pub mod Tapes
 pub mod Waiting

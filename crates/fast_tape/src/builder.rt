@@ -4,15 +4,17 @@ ghost use Rattle.std.specs.Prelude.{◌≡◌, ◌≤◌, ◌↔◌, ◌++◌, [
 ghost use Rattle.fast_tape.specs.Waiting.{Forgets, counts_of, is_full};
 ghost use Rattle.std.specs.FinMap as finite;
 
+use crate::fields::tell_fields;
 use crate::node::{ELEMENT, GROUP, MESSAGE, SEQUENCE, TapeNode};
 use crate::open::OpenTape;
 use crate::tape::Tape;
+use crate::told::tell;
 use fast_dictionary::Entries;
 use fast_field::FieldFault;
-use fast_part::{take_exponent, take_identifier, take_length, take_mantissa, take_part};
-use fast_template::{FieldPart, Name, Presence};
-use fast_walk::Receiver;
-use fast_wire::Level;
+use fast_part::{take_exponent, take_identifier, take_length, take_mantissa};
+use fast_template::{ByteString, FieldPart, Flat, Name, Presence, Scalar};
+use fast_walk::{Fields, Receiver};
+use fast_wire::{Bits, Level};
 use std::alloc::{AllocError, Global};
 
 /// How many messages, nodes and bytes.
@@ -34,6 +36,8 @@ pub struct TapeBuilder {
     // of the decimal whose mantissa is next, and the number of its instruction
     exponent: i32,
     instruction: u32,
+    // the last value that is in no entry, kept for its memory
+    aside: Scalar,
 }
 
 impl TapeBuilder {
@@ -49,6 +53,7 @@ impl TapeBuilder {
             open: OpenTape::new(alloc, most_bytes),
             exponent: 0,
             instruction: 0,
+            aside: Scalar::Ascii(ByteString::from_vec(Vec::new(alloc))),
         }
     }
 
@@ -174,10 +179,39 @@ impl Receiver for TapeBuilder {
         bytes: &[u8],
         at: usize,
     ) -> Result<usize, FieldFault> {
-        let (value, next) = take_part(alloc, entries, part, bit, level, bytes, at)?;
-        self.open
-            .push_value(part.number, part.key.slot, value.as_ref())?;
-        Ok(next)
+        let tape = &mut self.open;
+        let aside = &mut self.aside;
+        tell(alloc, entries, part, bit, level, bytes, at, tape, aside)
+    }
+
+    #[inline(always)]
+    fn fields<'a, E: Entries>(
+        &mut self,
+        alloc: Global,
+        entries: &mut E,
+        rest: &'a [Flat],
+        bits: &mut Bits,
+        spare: u32,
+        level: Level,
+        bytes: &[u8],
+        at: usize,
+    ) -> Result<Fields<'a>, AllocError> {
+        // decimals in parts, groups and sequences begin no call of the loop
+        match rest.first() {
+            Some(Flat::Field { .. }) => {
+                let tape = &mut self.open;
+                let aside = &mut self.aside;
+                tell_fields(
+                    alloc, entries, rest, bits, spare, level, bytes, at, tape, aside,
+                )
+            }
+            _ => Ok(Fields {
+                mantissa: None,
+                rest,
+                spare,
+                place: at,
+            }),
+        }
     }
 
     #[inline(always)]

@@ -3,11 +3,13 @@
 
 mod builder;
 mod fault;
+mod fields;
 pub mod laws;
 mod node;
 mod open;
 mod reader;
 mod tape;
+mod told;
 
 pub use builder::{Taken, TapeBuilder};
 pub use fault::{TapeFault, told_as};

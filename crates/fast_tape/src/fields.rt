@@ -1,0 +1,146 @@
+//! Fields that are told one after the other, with no step of the walk between them.
+
+ghost use Rattle.std.specs.Prelude.{◌≡◌, ◌≤◌, ◌<◌, ℕ, true, None, IsSome, IfOk, OnOk, length};
+ghost use Rattle.fast_template.specs.Resolved.{list_of, then_instruction, whole_field};
+ghost use Rattle.fast_walk.specs.Passing.{next_behind};
+ghost use Rattle.fast_walk.specs.Told.{KeepScalars};
+ghost use Rattle.fast_walk.specs.Walks.{AreServed, IsNextServed};
+ghost use Rattle.fast_tape.specs.Taking.{TellsFields};
+
+use crate::open::OpenTape;
+use crate::told::tell;
+use fast_dictionary::Entries;
+use fast_field::FieldFault;
+use fast_template::{FieldPart, Flat, Name, Presence, Scalar, part_needs_bit};
+use fast_walk::{Fields, first_for, take_for};
+use fast_wire::{Bits, Level};
+use std::alloc::{AllocError, Global};
+
+// Takes the field that is next, with its node and its bit. False: nothing has changed, since it has no reading.
+#[inline(always)]
+fn tell_field<'a, E: Entries>(
+    alloc: Global,
+    entries: &mut E,
+    _name: &Name,
+    _presence: Presence,
+    whole: &FieldPart,
+    others: &'a [Flat],
+    fields: &mut Fields<'a>,
+    bits: &mut Bits,
+    level: Level,
+    bytes: &[u8],
+    tape: &mut OpenTape,
+    aside: &mut Scalar,
+) -> Result<bool, AllocError>
+    requires place { fields.now.place ≤ length bytes.now }
+    requires spare { 0 < fields.now.spare }
+    requires first { (number : ℕ) × (list_of fields.now.rest.now
+        ≡ then_instruction (whole_field _name.now number _presence whole.now) (list_of others.now)) }
+    requires served { AreServed (E.serves entries.now) (list_of fields.now.rest.now) }
+    requires kept { KeepScalars (E.contents entries.now) }
+    ensures place { OnOk result ((fields.old.place ≤ fields.new.place)
+        × (fields.new.place ≤ length bytes.now)) }
+    ensures mantissa { fields.new.mantissa ≡ fields.old.mantissa }
+    ensures few { OnOk result (fields.new.spare ≤ fields.old.spare) }
+    ensures fewer { IfOk result (λ b. b ≡ true → fields.new.spare < fields.old.spare) }
+    ensures served { OnOk result (AreServed (E.serves entries.old) (list_of fields.new.rest.now)) }
+    ensures takes { OnOk result (TellsFields level bytes.now tape.old (E.contents entries.old) bits.old fields.old
+        tape.new (E.contents entries.new) bits.new fields.new) }
+    ensures kept { OnOk result (KeepScalars (E.contents entries.new)) }
+    ensures same_keys { E.serves entries.new ≡ E.serves entries.old }
+{
+    let needs = part_needs_bit(whole);
+    let bit = first_for(bits, needs);
+    let at = fields.place;
+    match tell(alloc, entries, whole, bit, level, bytes, at, tape, aside) {
+        Err(fault) => match fault {
+            FieldFault::Memory => Err(AllocError),
+            _ => Ok(false),
+        },
+        Ok(next) => {
+            take_for(bits, needs);
+            fields.rest = others;
+            fields.spare -= 1;
+            fields.place = next;
+            Ok(true)
+        }
+    }
+}
+
+/// Tells fields from the front of the open body, up to what is no field, to one that has no reading, or until no node may
+/// come.
+///
+/// # Errors
+///
+/// Memory was refused to the tape or to the entries.
+#[inline(never)]
+pub fn tell_fields<'a, E: Entries>(
+    alloc: Global,
+    entries: &mut E,
+    rest: &'a [Flat],
+    bits: &mut Bits,
+    spare: u32,
+    level: Level,
+    bytes: &[u8],
+    at: usize,
+    tape: &mut OpenTape,
+    aside: &mut Scalar,
+) -> Result<Fields<'a>, AllocError>
+    requires place { at ≤ length bytes.now }
+    requires served { AreServed (E.serves entries.now) (list_of rest.now) }
+    requires kept { KeepScalars (E.contents entries.now) }
+    ensures place { IfOk result (λ f. (at ≤ f.place) × (f.place ≤ length bytes.now)) }
+    ensures few { IfOk result (λ f. f.spare ≤ spare) }
+    ensures fewer { IfOk result (λ f. IsSome f.mantissa → f.spare < spare) }
+    ensures served { IfOk result (λ f. AreServed (E.serves entries.old) (list_of f.rest.now)
+        × IsNextServed (E.serves entries.old) (next_behind f.mantissa)) }
+    ensures none { IfOk result (λ f. f.mantissa ≡ None) }
+    ensures takes { IfOk result (λ f. TellsFields level bytes.now tape.old (E.contents entries.old) bits.old
+        (record { mantissa = None; rest = rest.entry; spare = spare; place = at })
+        tape.new (E.contents entries.new) bits.new f) }
+    ensures kept { OnOk result (KeepScalars (E.contents entries.new)) }
+    ensures same_keys { E.serves entries.new ≡ E.serves entries.old }
+{
+    let mut fields = Fields {
+        mantissa: None,
+        rest,
+        spare,
+        place: at,
+    };
+    'fields: loop {
+        if fields.spare == 0 {
+            return Ok(fields);
+        }
+        match fields.rest.split_first() {
+            Some(
+                (
+                    Flat::Field {
+                        name,
+                        presence,
+                        whole,
+                        ..
+                    },
+                    others,
+                ),
+            ) => match tell_field(
+                alloc,
+                entries,
+                name,
+                *presence,
+                whole,
+                others,
+                &mut fields,
+                bits,
+                level,
+                bytes,
+                tape,
+                aside,
+            ) {
+                Err(error) => return Err(error),
+                Ok(false) => return Ok(fields),
+                Ok(true) => {}
+            },
+            _ => return Ok(fields),
+        }
+    }
+}
