@@ -2,7 +2,7 @@ mod Building
 mod Reading
 mod Taking
 mod Joining
-mod Lying
-mod Marks
-mod Nodes
+pub mod Lying
+pub mod Marks
+pub mod Nodes
 mod WorkedTapes

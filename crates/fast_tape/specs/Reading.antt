@@ -1,5 +1,5 @@
 -- How a reader stands to what it was fed since its reset.
-use Rattle.std.specs.Prelude.{List, ℕ, ◌++◌, take, Option, option_map, Result, Ok, Err}
+use Rattle.std.specs.Prelude.{List, [], ℕ, ◌++◌, take, Option, option_map, Result, Ok, Err}
 use Rattle.fast_dictionary.specs.declared.entries.Entries.{Ghosts}
 use Rattle.fast_stream.specs.Nodes.{Content}
 use Rattle.fast_machine.specs.Following.{Follows}
@@ -16,9 +16,14 @@ Reads r fed messages waiting = Follows r.machine waiting fed messages
 abbrev pub HoldsWaiting : {E : Type 0} {entries : Ghosts E} → TapeReader E entries → List Content → Type 0
 HoldsWaiting r waiting = HasWaiting r.machine.receiver waiting
 
--- the bytes of a chunk that a call has taken: a fault is behind them all
+-- the most bytes that are fed between two resets
+abbrev pub stream_limit : ℕ
+stream_limit = 1099511627776
+
+-- the bytes of a chunk that a call has taken: a fault of the stream is behind them all
 abbrev pub taken_of : Result ℕ TapeFault → List ℕ → List ℕ
 taken_of (Ok n) chunk = take n chunk
+taken_of (Err TapeFault.StreamTooLong) chunk = []
 taken_of (Err f) chunk = chunk
 
 -- the fault that it keeps, if there is one

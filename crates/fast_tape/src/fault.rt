@@ -1,6 +1,6 @@
 //! Why a stream is not read on.
 
-ghost use Rattle.std.specs.Prelude.{◌≡◌};
+ghost use Rattle.std.specs.Prelude.{◌≡◌, ◌≢◌};
 ghost use Rattle.fast_tape.specs.Faults.{told_as as fault_told};
 
 use fast_stream::{Cause, Fault};
@@ -12,11 +12,14 @@ pub enum TapeFault {
     Stream(Fault),
     /// The message of this number, counted from 1, has more bytes of strings than one may have.
     MessageTooLarge(u64),
+    /// The bytes since the reset would be more than 2^40. Nothing has changed.
+    StreamTooLong,
 }
 
 /// What a stream's fault is told as, where the message may have been too large.
 pub fn told_as(fault: Fault, too_large: bool) -> TapeFault
-    ensures { result ≡ fault_told too_large fault }
+    ensures told { result ≡ fault_told too_large fault }
+    ensures long { result ≢ TapeFault.StreamTooLong }
 {
     if !too_large {
         return TapeFault::Stream(fault);

@@ -22,6 +22,9 @@ use fast_stream::{Fault, Mode};
 use fast_template::TemplateSet;
 use std::alloc::Global;
 
+/// The most bytes that are fed between two resets.
+const STREAM_LIMIT: u64 = 1 << 40;
+
 // Reads messages from the front of a chunk until many wait; answers how many bytes were taken.
 #[inline(always)]
 fn feed_some<E: Entries>(
@@ -56,7 +59,7 @@ pub struct TapeReader<'a, E: Entries> {
 }
 
 impl<'a, E: Entries> TapeReader<'a, E> {
-    ghost use Rattle.fast_tape.specs.Reading.{HoldsWaiting, Reads, ReadsOn, fault_kept, taken_of};
+    ghost use Rattle.fast_tape.specs.Reading.{HoldsWaiting, Reads, ReadsOn, fault_kept, stream_limit, taken_of};
 
     /// A reader of a set, at the beginning of a stream. A message whose strings have more than so many bytes is not read. The
     /// entries are reset. Takes no memory.
@@ -114,13 +117,14 @@ impl<'a, E: Entries> TapeReader<'a, E> {
     /// # Errors
     ///
     /// The first fault of the bytes fed since the reset, or the refusal of memory, behind the messages before it, which wait.
-    /// It is kept until the reset.
+    /// It is kept until the reset. StreamTooLong: the bytes would be more than 2^40, and nothing has changed.
     pub fn feed(&mut self, chunk: &[u8]) -> Result<usize, TapeFault>
-        requires room { self.now.machine.fed + length chunk.now ≤ 2 ^ 60 }
         ensures kept { IsSome self.old.machine.fault → self.new ≡ self.old }
         ensures reads { self.old.machine.fault ≡ None → ReadsOn self.old (taken_of result chunk.now) self.new }
         ensures open { IfOk result (λ n. self.new.machine.fault ≡ None) }
-        ensures refused { IfErr result (λ f. fault_kept self.new ≡ Some f) }
+        ensures refused { IfErr result (λ f. f ≢ TapeFault.StreamTooLong → fault_kept self.new ≡ Some f) }
+        ensures too_long { IfErr result (λ f. f ≡ TapeFault.StreamTooLong → (self.new ≡ self.old)
+            × (stream_limit < self.old.machine.fed + length chunk.now)) }
         ensures within { IfOk result (λ n. n ≤ length chunk.now) }
         ensures stops { IfOk result (λ n. n < length chunk.now → is_full self.new.machine.receiver ≡ true) }
         ensures moves { IfOk result (λ n. is_full self.old.machine.receiver ≡ false → 0 < length chunk.now → 0 < n) }
@@ -129,6 +133,11 @@ impl<'a, E: Entries> TapeReader<'a, E> {
     {
         if let Some(fault) = self.fault() {
             return Err(fault);
+        }
+        if chunk.len() as u64 > STREAM_LIMIT
+            || self.machine.fed() > STREAM_LIMIT - chunk.len() as u64
+        {
+            return Err(TapeFault::StreamTooLong);
         }
         match feed_some(&mut self.machine, chunk) {
             Ok(taken) => Ok(taken),
@@ -167,7 +176,7 @@ impl<'a, E: Entries> TapeReader<'a, E> {
         ensures ok { OnOk result ((self.new ≡ self.old) × ((fed : List ℕ) (messages waiting : List Content)
             → Reads self.old fed messages waiting
             → Carries (mode_of self.old.machine) (templates_in self.old.machine.traversal.set.now) fed messages)) }
-        ensures refused { IfErr result (λ f. fault_kept self.new ≡ Some f) }
+        ensures refused { IfErr result (λ f. (fault_kept self.new ≡ Some f) × (f ≢ TapeFault.StreamTooLong)) }
         ensures reads { (fed : List ℕ) (messages waiting : List Content)
             → Reads self.old fed messages waiting → Reads self.new fed messages waiting }
         ensures same { IsSameStream self.old.machine self.new.machine }
@@ -188,6 +197,32 @@ impl<'a, E: Entries> TapeReader<'a, E> {
         let machine = &mut self.machine;
         machine.receiver.forget_open();
         machine.reset();
+    }
+
+    /// Reads a packet, which is a stream of its own: all entries are undefined at its beginning. Its messages wait behind those
+    /// that wait. Answers how many of its bytes were taken: where they are fewer than it has, as `feed` has it, the rest is then
+    /// fed and the packet ended by `finish`.
+    ///
+    /// # Errors
+    ///
+    /// As `feed` and `finish` have them.
+    pub fn packet(&mut self, bytes: &[u8]) -> Result<usize, TapeFault>
+        ensures reads { (waiting : List Content) → HoldsWaiting self.old waiting
+            → (ended : List Content) × Reads self.new (taken_of result bytes.now) ended (waiting ++ ended) }
+        ensures whole { IfOk result (λ n. n ≡ length bytes.now → (messages waiting : List Content)
+            → Reads self.new bytes.now messages waiting
+            → Carries (mode_of self.new.machine) (templates_in self.new.machine.traversal.set.now) bytes.now messages) }
+        ensures refused { IfErr result (λ f. f ≢ TapeFault.StreamTooLong → fault_kept self.new ≡ Some f) }
+        ensures within { IfOk result (λ n. n ≤ length bytes.now) }
+        ensures stops { IfOk result (λ n. n < length bytes.now → is_full self.new.machine.receiver ≡ true) }
+        ensures same { IsSameStream self.old.machine self.new.machine }
+    {
+        self.begin_packet();
+        let taken = self.feed(bytes)?;
+        if taken == bytes.len() {
+            self.finish()?;
+        }
+        Ok(taken)
     }
 
     /// Begins a new stream, with all entries undefined; what waits is forgotten. Takes no memory.
