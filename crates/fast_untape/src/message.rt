@@ -1,0 +1,1 @@
+//! The message that nodes begin with.
