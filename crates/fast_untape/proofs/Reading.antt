@@ -19,10 +19,10 @@ use Rattle.fast_untape.specs.Reading.{AreSoMany, HeadsNone, SayFirst, SaysNoValu
 -- ---- what stands in front
 
 -- nodes that say something begin with the first, which says the first of it
-abbrev FrontOf : List ℕ → TapeNode → List TapeNode → List TapeNode → List TapeNode → Mark → List Mark → Type 0
+abbrev pub FrontOf : List ℕ → TapeNode → List TapeNode → List TapeNode → List TapeNode → Mark → List Mark → Type 0
 FrontOf bytes first behind own b m ms = (rest : List TapeNode) × (own ≡ first ∷ rest) × (behind ≡ rest ++ b) × Says bytes m first × SayAll bytes ms rest
 
-front_of : (bytes : List ℕ) (first : TapeNode) (behind own b : List TapeNode) (m : Mark) (ms : List Mark) → first ∷ behind ≡ own ++ b → SayAll bytes (m ∷ ms) own → FrontOf bytes first behind own b m ms
+pub front_of : (bytes : List ℕ) (first : TapeNode) (behind own b : List TapeNode) (m : Mark) (ms : List Mark) → first ∷ behind ≡ own ++ b → SayAll bytes (m ∷ ms) own → FrontOf bytes first behind own b m ms
 front_of bytes first behind [] b m ms join says = absurd says
 front_of bytes first behind (x ∷ rest) b m ms join says =
     let same : first ≡ x = cc in
@@ -55,10 +55,10 @@ unfit_parts bytes first behind name number presence exponent mantissa nothing (s
 
 -- ---- a header and its own nodes
 
-first_own : {A : Type 0} (own behind : List A) → own ≡ take (length own) behind → length own ≤ length behind → (rest b : List A) → behind ≡ rest ++ b → length rest ≡ length own → rest ≡ own
+pub first_own : {A : Type 0} (own behind : List A) → own ≡ take (length own) behind → length own ≤ length behind → (rest b : List A) → behind ≡ rest ++ b → length rest ≡ length own → rest ≡ own
 first_own own behind is le rest b join same = sym (take-append_seam rest b) ∙ ap (λ n. take n (rest ++ b)) same ∙ ap (λ l. take (length own) l) (sym join) ∙ sym is
 
-take_own : (first : TapeNode) (behind own : List TapeNode) → own ≡ take (length own) behind → take (length own + 1) (first ∷ behind) ≡ first ∷ own
+pub take_own : (first : TapeNode) (behind own : List TapeNode) → own ≡ take (length own) behind → take (length own + 1) (first ∷ behind) ≡ first ∷ own
 take_own first behind own own_is =
     let more : length own + 1 ≡ suc (length own) = omega arith in
     ap (λ n. take n (first ∷ behind)) more ∙ ap (λ l. first ∷ l) (sym own_is)

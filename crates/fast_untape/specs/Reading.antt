@@ -2,19 +2,39 @@
 use Rattle.std.specs.Prelude.{◌≡◌, ◌⊎◌, ◌≤◌, ◌==◌, if◌then◌else◌, IsUtf8, ℕ, true, false, List, [], ◌∷◌, ◌++◌, length, drop, take, Option, Some, None}
 use Rattle.fast_value.specs.declared.scalar.Scalar.{Scalar}
 use Rattle.fast_value.specs.declared.scalar.Scalar.TheVariants.{Ascii, Bytes, Unicode}
-use Rattle.fast_template.specs.Resolved.{Instruction, Instructions}
+use Rattle.fast_template.specs.Resolved.{Instruction, Instructions, Resolved}
+use Rattle.fast_stream.specs.Streams.{members_of}
+use Rattle.fast_nodes.specs.declared.fault.EncodeCause.{EncodeCause}
+use Rattle.fast_nodes.specs.declared.fault.EncodeFault.{EncodeFault}
+use Rattle.fast_untape.specs.declared.fault.PutFault.{PutFault}
 use Rattle.fast_field.specs.Within.{HasRange, HasRangeOr}
 use Rattle.fast_stream.specs.Nodes.{Item, Items, Elements, element_count, Content}
-use Rattle.fast_nodes.specs.FirstRefusal.{item_fits, items_fit, elements_fit}
+use Rattle.fast_nodes.specs.FirstRefusal.{early_refusal, item_fits, items_fit, elements_fit, refused}
 use Rattle.fast_nodes.specs.Ranges.{HasRanges, HaveRanges, HaveRangesIn, IsInRange}
 use Rattle.fast_tape.specs.declared.node.TapeNode.{TapeNode}
 use Rattle.fast_tape.specs.Tapes.{IsTape, LiesAt, Mark, SayAll, Says, ascii_kind, bytes_kind, unicode_kind, long_node, marks_in, marks_in_elements, marks_of, tells}
 
--- The first of the nodes, so many, are the tape of this message, whose values are in the range of their types.
-pub record IsOf (bytes : List ℕ) (nodes : List TapeNode) (count : ℕ) (m : Content) : Type 0 where
+-- The first of the nodes, so many, are the tape of these messages.
+pub record BeginWith (bytes : List ℕ) (nodes : List TapeNode) (count : ℕ) (messages : List Content) : Type 0 where
   pub within : count ≤ length nodes
-  pub tape : IsTape bytes (m ∷ []) (take count nodes)
-  pub range : IsInRange m
+  pub tape : IsTape bytes messages (take count nodes)
+
+-- The nodes do not begin with those of a message whose values are in the range of their types.
+abbrev pub BeginWithNone : List ℕ → List TapeNode → Type 0
+BeginWithNone bytes nodes = (m : Content) (count : ℕ) → IsInRange m → BeginWith bytes nodes count (m ∷ []) → ⊥
+
+-- Whatever message the nodes begin with, this is why it is refused; or memory was.
+abbrev pub IsRefusedAs : (Content → Option EncodeFault) → List ℕ → List TapeNode → EncodeFault → Type 0
+IsRefusedAs refusal bytes nodes f = (f ≡ refused EncodeCause.Memory) ⊎ ((m : Content) (count : ℕ) → IsInRange m → BeginWith bytes nodes count (m ∷ []) → refusal m ≡ Some f)
+
+-- why no message was put
+abbrev pub IsNotPut : (Content → Option EncodeFault) → List ℕ → List TapeNode → PutFault → Type 0
+IsNotPut refusal bytes nodes PutFault.NoMessage = BeginWithNone bytes nodes
+IsNotPut refusal bytes nodes (PutFault.Refused f) = IsRefusedAs refusal bytes nodes f
+
+-- what is judged of a message before its fields, with the templates of a set
+abbrev pub early_of : List Resolved → Content → Option EncodeFault
+early_of set m = early_refusal (members_of set m.template) m.items
 
 -- ---- No public clause names these.
 
