@@ -1,5 +1,5 @@
 -- The message that nodes begin with.
-use Rattle.std.proofs.Common.{◌≡◌, ◌≤◌, ◌⊎◌, inl, inr, ℕ, ◌+◌, suc, List, [], ◌∷◌, ◌++◌, length, take, drop, Option, Some, None, refl, sym, ap, subst, ◌∙◌, append-nil, append_assoc, arith, true, false}
+use Rattle.std.proofs.Common.{◌≡◌, ◌≤◌, ◌⊎◌, inl, inr, ℕ, ◌+◌, suc, List, [], ◌∷◌, ◌++◌, length, take, drop, Option, Some, None, refl, sym, ap, subst, ◌∙◌, append-nil, append_assoc, length-drop, zero, arith, false}
 use Rattle.std.proofs.lemmas.List.{take-append-drop}
 use Rattle.std.specs.FinMap as map
 use Rattle.fast_template.specs.Resolved.{Instructions, Resolved}
@@ -11,16 +11,15 @@ use Rattle.fast_writer.proofs.Writers.{canon_more}
 use Rattle.fast_nodes.specs.FirstRefusal.{early_refusal, first_refusal, items_fit, refused, whole_refusal}
 use Rattle.fast_nodes.specs.declared.fault.EncodeCause.{EncodeCause}
 use Rattle.fast_nodes.specs.declared.fault.EncodeFault.{EncodeFault}
-use Rattle.fast_nodes.specs.Ranges.{IsInRange}
 use Rattle.fast_nodes.proofs.Messages.{early_first}
 use Rattle.fast_tape.specs.declared.node.TapeNode.{TapeNode}
-use Rattle.fast_tape.specs.Tapes.{Mark, SayAll, Says, opens, of_message, segment, long_node, message_kind, marks_in, marks_of_messages}
+use Rattle.fast_tape.specs.Tapes.{SayAll, opens, of_message, segment, long_node, message_kind, marks_in, marks_of_messages}
 use Rattle.fast_tape.proofs.Marks.{items_same, same_fronts}
 use Rattle.fast_tape.proofs.Nodes.{as_many, marks_same}
 use Rattle.fast_untape.specs.declared.fault.PutFault.{PutFault}
 use Rattle.fast_untape.specs.Reading.{BeginWith, BeginWithNone, IsNotPut, IsRefusedAs, UnfitAll, early_of}
 use Rattle.fast_untape.specs.Writing.{HasWritten}
-use Rattle.fast_untape.proofs.Reading.{first_own, front_of, own_is, take_own}
+use Rattle.fast_untape.proofs.Reading.{front_of, own_is, says_behind, take_own}
 
 -- the nodes behind the header of a message that are its own
 pub record FrontMessage (bytes : List ℕ) (first : TapeNode) (behind : List TapeNode) (m : Content) : Type 0 where
@@ -106,3 +105,20 @@ read_refused refusal bytes (first ∷ behind) count m f begins (inr h) = inr (λ
 pub written_more : (set : List Resolved) (messages : List Content) (m : Content) (taken waiting later bytes : List ℕ) (d e : Dictionary) → later ≡ waiting ++ bytes → CanonMessage set d bytes m e → HasWritten set messages taken waiting d → HasWritten set (messages ++ m ∷ []) taken later e
 written_more set messages m taken waiting later bytes d e is form has =
     subst (λ l. CanonFrom set map.empty l (messages ++ m ∷ []) e) (append_assoc taken waiting bytes ∙ ap (λ l. taken ++ l) (sym is)) (canon_more set messages m map.empty (taken ++ waiting) bytes d e has form)
+
+-- ---- messages in a row
+
+messages_more : (ms : List Content) (m : Content) → marks_of_messages (ms ++ m ∷ []) ≡ marks_of_messages ms ++ marks_of_messages (m ∷ [])
+messages_more [] m = refl
+messages_more (k ∷ ms) m = ap (λ ks. segment (of_message k.template) (marks_in k.items) ++ ks) (messages_more ms m) ∙ sym (append_assoc (segment (of_message k.template) (marks_in k.items)) (marks_of_messages ms) (marks_of_messages (m ∷ [])))
+
+pub begins_more : (bytes : List ℕ) (nodes : List TapeNode) (at count : ℕ) (ms : List Content) (m : Content) → BeginWith bytes nodes at ms → BeginWith bytes (drop at nodes) count (m ∷ []) → BeginWith bytes nodes (at + count) (ms ++ m ∷ [])
+begins_more bytes nodes at count ms m a b = record {
+  within = omega (arith, a.within, b.within, length-drop at nodes);
+  tape = subst (λ ks. SayAll bytes ks (take (at + count) nodes)) (sym (messages_more ms m)) (says_behind bytes (marks_of_messages ms) (marks_of_messages (m ∷ [])) nodes at count a.tape b.tape);
+}
+
+-- a message has a node
+pub some_node : (bytes : List ℕ) (nodes : List TapeNode) (count : ℕ) (m : Content) → BeginWith bytes nodes count (m ∷ []) → 1 ≤ count
+some_node bytes nodes zero m b = absurd b.tape
+some_node bytes nodes (suc n) m b = omega arith

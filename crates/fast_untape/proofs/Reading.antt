@@ -1,20 +1,19 @@
 -- What nodes are read as, by the instructions of a template.
-use Rattle.std.proofs.Common.{◌≡◌, ℕ, ◌+◌, ◌-◌, ◌<◌, ◌≤◌, suc, zero, Bool, true, false, List, [], ◌∷◌, ◌++◌, length, take, drop, Option, Some, None, refl, sym, ap, ap₂, subst, ◌∙◌, append_assoc, append-nil, length-drop, arith, ◌&&◌}
-use Rattle.std.proofs.lemmas.List.{length-append, drop-drop, length-take-le, take_all, take-append-drop}
+use Rattle.std.proofs.Common.{◌≡◌, ℕ, ◌+◌, ◌-◌, ◌<◌, ◌≤◌, suc, Bool, true, false, List, [], ◌∷◌, ◌++◌, length, take, drop, Option, Some, None, refl, sym, ap, ap₂, subst, ◌∙◌, append_assoc, append-nil, length-drop, arith, ◌&&◌}
+use Rattle.std.proofs.lemmas.List.{drop-drop, length-take-le, take_all, take-append-drop}
 use Rattle.std.proofs.Math.Seq.{take-add, take-append_seam}
 use Rattle.fast_value.specs.declared.scalar.Scalar.{Scalar}
-use Rattle.fast_value.specs.declared.scalar.Scalar.TheVariants.{Decimal, I32, I64, U32, U64, Ascii, Unicode, Bytes}
 use Rattle.fast_value.specs.declared.kind.Presence.{Presence}
 use Rattle.fast_template.specs.declared.resolved.FieldPart.{FieldPart}
 use Rattle.fast_template.specs.Resolved.{Instruction, Instructions, whole_field, field_in_parts, group_of, sequence_of, no_instructions, then_instruction}
 use Rattle.fast_stream.specs.Nodes.{Item, single, group_items, sequence_elements, Items, no_items, then_item, Elements, no_elements, then_element, element_count, items_of, elements_of}
 use Rattle.fast_nodes.specs.FirstRefusal.{item_fits, items_fit, elements_fit}
-use Rattle.fast_nodes.specs.Ranges.{HasRanges, HaveRanges, HaveRangesIn}
+use Rattle.fast_nodes.specs.Ranges.{HaveRanges, HaveRangesIn}
 use Rattle.fast_tape.specs.declared.node.TapeNode.{TapeNode}
 use Rattle.fast_tape.specs.Tapes.{Head, Mark, SayAll, Says, opens, tells, segment, of_group, of_sequence, of_element, long_node, group_kind, sequence_kind, element_kind, marks_in, marks_in_elements, marks_of}
-use Rattle.fast_tape.proofs.Marks.{count_in, item_same, same_fronts}
+use Rattle.fast_tape.proofs.Marks.{item_same}
 use Rattle.fast_tape.proofs.Nodes.{as_many, marks_same, say_both}
-use Rattle.fast_untape.specs.Reading.{AreSoMany, HeadsNone, SayFirst, SaysNoValue, Unfit, UnfitAll, UnfitEach}
+use Rattle.fast_untape.specs.Reading.{AreSoMany, SayFirst, SaysNoValue, Unfit, UnfitAll, UnfitEach}
 
 -- ---- what stands in front
 

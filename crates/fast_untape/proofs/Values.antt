@@ -1,15 +1,14 @@
 -- What a node can say, by its kind.
-use Rattle.std.proofs.Common.{◌≡◌, ◌≢◌, ◌⊎◌, inl, inr, ℕ, ◌+◌, ◌<◌, ◌^◌, ℤ, pos, Bool, true, false, List, [], ◌∷◌, ◌++◌, length, Option, Some, None, Result, Ok, Err, IsTrue, refl, sym, ap, subst, ◌∙◌, arith}
+use Rattle.std.proofs.Common.{◌≡◌, ◌⊎◌, inl, inr, ℕ, ◌<◌, ◌^◌, ℤ, pos, List, ◌++◌, length, Option, Some, None, Result, Ok, Err, IsTrue, sym, ap, subst, ◌∙◌, arith}
 use Rattle.std.specs.Prelude.{IfOk, IsUtf8, MatchOption}
 use Rattle.fast_value.specs.declared.scalar.Scalar.{Scalar}
 use Rattle.fast_value.specs.declared.scalar.Scalar.TheVariants.{I32, U32, I64, U64, Decimal, Ascii, Unicode, Bytes}
 use Rattle.fast_value.specs.Scalar.{in_range}
 use Rattle.fast_value.specs.declared.kind.Kind.{Kind}
-use Rattle.fast_field.specs.Within.{HasRange, HasRangeOr}
 use Rattle.fast_tape.specs.declared.node.TapeNode.{TapeNode}
-use Rattle.fast_tape.specs.Tapes.{LiesAt, Says, SaysText, long_node, signed_node, tells, uint32_kind, uint64_kind, int32_kind, int64_kind, decimal_kind, ascii_kind, unicode_kind, bytes_kind}
+use Rattle.fast_tape.specs.Tapes.{LiesAt, Says, SaysText, long_node, signed_node, tells, uint32_kind, uint64_kind, int32_kind, int64_kind, decimal_kind, unicode_kind}
 use Rattle.fast_tape.proofs.Marks.{same_fronts}
-use Rattle.fast_untape.specs.Reading.{IsNoText, IsTextKind, LiesNowhere, SaysNone, SaysNoValue, text_of}
+use Rattle.fast_untape.specs.Reading.{IsNoText, IsTextKind, SaysNone, SaysNoValue, text_of}
 
 abbrev kind_of : Scalar → ℕ
 kind_of (U32 k) = 2

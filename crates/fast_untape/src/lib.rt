@@ -12,4 +12,4 @@ mod value;
 mod writer;
 
 pub use fault::PutFault;
-pub use writer::TapeWriter;
+pub use writer::{Put, TapeWriter};

@@ -17,6 +17,17 @@ use fast_tape::TapeNode;
 use fast_template::TemplateSet;
 use std::alloc::Global;
 
+/// What was put of nodes.
+#[derive(Clone, Copy, Debug, PartialEq, Eq)]
+pub struct Put {
+    /// How many messages were written.
+    pub messages: usize,
+    /// How many nodes they have, from the front.
+    pub nodes: usize,
+    /// Why those behind them were not written; none where there are none.
+    pub fault: Option<PutFault>,
+}
+
 /// Writes messages that come as nodes. Their canonical bytes wait in it until they are taken.
 #[derive(Drop)]
 pub struct TapeWriter<'a, E: Entries> {
@@ -74,6 +85,39 @@ impl<'a, E: Entries> TapeWriter<'a, E> {
             Err(fault) => Err(PutFault::Refused(fault)),
             Ok(()) => Ok(count),
         }
+    }
+
+    /// Writes the messages that nodes are, one after the other, until one is refused. Their strings lie among the bytes.
+    pub fn put_all(&mut self, nodes: &[TapeNode], bytes: &[u8]) -> Put
+        ensures put { (more : List Content) × BeginWith bytes.now nodes.now result.nodes more
+            × (result.messages ≡ length more)
+            × ((messages : List Content) (taken : List ℕ)
+            → HasWritten (templates_in self.old.set.now) messages taken self.old.waiting.items (E.contents self.old.encoder.journal.entries)
+            → HasWritten (templates_in self.old.set.now) (messages ++ more) taken self.new.waiting.items
+            (E.contents self.new.encoder.journal.entries)) }
+        ensures all { result.fault ≡ None → result.nodes ≡ length nodes.now }
+        ensures refused { IfSome result.fault (IsNotPut (first_refusal (templates_in self.old.set.now)
+            (E.contents self.new.encoder.journal.entries)) bytes.now (drop result.nodes nodes.now)) }
+        ensures set { self.new.set ≡ self.old.set }
+    {
+        let mut put = Put {
+            messages: 0,
+            nodes: 0,
+            fault: None,
+        };
+        'messages: while put.nodes < nodes.len() {
+            match self.put(&nodes[put.nodes..], bytes) {
+                Err(fault) => {
+                    put.fault = Some(fault);
+                    return put;
+                }
+                Ok(count) => {
+                    put.messages += 1;
+                    put.nodes += count;
+                }
+            }
+        }
+        put
     }
 
     /// Puts the bytes that wait into the front of a room, and forgets them; answers how many. None: the room is too short, and

@@ -1,12 +1,12 @@
-use Rattle.std.proofs.Common.{◌≡◌, ◌∙◌, ◌+◌, ◌-◌, ◌++◌, ◌∷◌, [], None, ap, sym, refl, length, take, drop, map, arith, rules, subst, append-nil, length-append, length-drop}
+use Rattle.std.proofs.Common.{◌≡◌, ◌∙◌, ◌+◌, ◌-◌, ◌++◌, ◌∷◌, [], None, ap, sym, refl, length, take, drop, map, arith, subst, append-nil, length-append, length-drop}
 use Rattle.std.proofs.lemmas.List.{drop_all, drop-drop, length-map, map-append, take-append-drop}
 use Rattle.fast_template.specs.Resolved.{instruction_of, list_of}
 use Rattle.fast_stream.specs.Nodes.{element_count, elements_of, items_in, items_of, item_of}
 use Rattle.fast_tape.specs.Tapes.{SayAll, element_kind, group_kind, long_node, marks_in, marks_in_elements, marks_of, of_group, of_sequence, sequence_kind}
-use Rattle.fast_walk.proofs.Pieces.{is_field, is_group, is_parts, is_sequence}
+use Rattle.fast_walk.proofs.Pieces.{is_group, is_sequence}
 use Rattle.fast_nodes.proofs.Tries.{next_of}
 use Rattle.fast_untape.specs.Reading.{SayFirst}
-use Rattle.fast_untape.proofs.Reading.{Leaves, LeavesEach, all_left, drop_own, count_elements, elements_more, headed_first, is_false, items_more, leaves_element, leaves_item, none_left, own_is, says_behind, says_element, single_first, so_many, unfit_element, unfit_end, unfit_field, unfit_group, unfit_header, unfit_here, unfit_parts, unfit_sequence}
+use Rattle.fast_untape.proofs.Reading.{Leaves, LeavesEach, all_left, drop_own, count_elements, elements_more, headed_first, is_false, items_more, leaves_element, leaves_item, none_left, own_is, says_behind, says_element, single_first, so_many, unfit_element, unfit_end, unfit_group, unfit_header, unfit_here, unfit_sequence}
 use Rattle.fast_untape.proofs.read.+read.Goals as goal
 
 -- ---- an item

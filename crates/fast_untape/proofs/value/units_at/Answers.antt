@@ -1,4 +1,4 @@
-use Rattle.std.proofs.Common.{◌≡◌, ◌+◌, ◌-◌, arith, refl, length, take, drop, length-drop, ap, sym, ◌∙◌}
+use Rattle.std.proofs.Common.{◌+◌, ◌-◌, arith, refl, take, drop, length-drop}
 use Rattle.std.proofs.lemmas.List.{length-take-le}
 use Rattle.fast_tape.proofs.Lying.{lies}
 use Rattle.fast_untape.proofs.value.units_at.Goals as goal
