@@ -235,7 +235,7 @@ impl Receiver for Builder {
         }
     }
 
-    fn left_out(&mut self, _name: &Name) -> Result<(), AllocError> {
+    fn left_out(&mut self, _name: &Name, _number: u32) -> Result<(), AllocError> {
         self.nodes.push(Node::Absent)?;
         Ok(())
     }
@@ -244,6 +244,7 @@ impl Receiver for Builder {
         &mut self,
         alloc: Global,
         _name: &Name,
+        _number: u32,
         _optional: bool,
         _own_map: bool,
         size: usize,
@@ -270,6 +271,7 @@ impl Receiver for Builder {
     fn enter_element(
         &mut self,
         alloc: Global,
+        _number: u32,
         _own_map: bool,
         size: usize,
     ) -> Result<(), AllocError> {

@@ -272,7 +272,7 @@ impl<S: Signs> Receiver for LineWriter<'_, S> {
     }
 
     #[inline(always)]
-    fn left_out(&mut self, name: &Name) -> Result<(), AllocError> {
+    fn left_out(&mut self, name: &Name, _number: u32) -> Result<(), AllocError> {
         self.line.tell_absent(self.signs, name)?;
         Ok(())
     }
@@ -282,6 +282,7 @@ impl<S: Signs> Receiver for LineWriter<'_, S> {
         &mut self,
         _alloc: Global,
         name: &Name,
+        _number: u32,
         _optional: bool,
         _own_map: bool,
         _size: usize,
@@ -300,6 +301,7 @@ impl<S: Signs> Receiver for LineWriter<'_, S> {
     fn enter_element(
         &mut self,
         _alloc: Global,
+        _number: u32,
         _own_map: bool,
         _size: usize,
     ) -> Result<(), AllocError> {

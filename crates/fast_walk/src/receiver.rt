@@ -286,9 +286,9 @@ pub trait Receiver: Drop {
         ensures keeps { Carries (keeps self.old) (keeps self.new) }
         ensures same_keys { E.serves entries.new ≡ E.serves entries.old };
 
-    /// A group that is left out.
-    fn left_out(&mut self, name: &Name) -> Result<(), AllocError>
-        ensures has { OnOk result ((number : ℕ) (presence : PresenceOf) (members is : Instructions)
+    /// A group of this name and number that is left out.
+    fn left_out(&mut self, name: &Name, number: u32) -> Result<(), AllocError>
+        ensures has { OnOk result ((presence : PresenceOf) (members is : Instructions)
             (o : Received) (d : Dictionary) → o.next ≡ at_instruction
             → o.body.rest ≡ then_instruction (group_of name.now number presence members) is
             → is_optional presence ≡ true → has self.old o d
@@ -298,16 +298,18 @@ pub trait Receiver: Drop {
             → IsTrue (room self.new around (after_bit optional b))) }
         ensures keeps { Carries (keeps self.old) (keeps self.new) };
 
-    /// The beginning of a group, whether it is optional and has a map of its own, and how many instructions it has.
+    /// The beginning of a group of this name and number, whether it is optional and has a map of its own, and how many
+    /// instructions it has.
     fn enter(
         &mut self,
         alloc: Global,
         name: &Name,
+        number: u32,
         optional: bool,
         own_map: bool,
         size: usize,
     ) -> Result<(), AllocError>
-        ensures has { OnOk result ((number : ℕ) (presence : PresenceOf) (members is : Instructions)
+        ensures has { OnOk result ((presence : PresenceOf) (members is : Instructions)
             (bits : List Bool) (o : Received) (d : Dictionary) → o.next ≡ at_instruction
             → o.body.rest ≡ then_instruction (group_of name.now number presence members) is
             → optional ≡ is_optional presence → own_map ≡ has_map members
@@ -327,10 +329,17 @@ pub trait Receiver: Drop {
         ensures room { OnOk result (HasRoomOutside (room self.old) (room self.new)) }
         ensures keeps { Carries (keeps self.old) (keeps self.new) };
 
-    /// The beginning of an element, whether it has a map of its own, and how many instructions it has.
-    fn enter_element(&mut self, alloc: Global, own_map: bool, size: usize) -> Result<(), AllocError>
+    /// The beginning of an element of the sequence of this number, whether it has a map of its own, and how many
+    /// instructions it has.
+    fn enter_element(
+        &mut self,
+        alloc: Global,
+        number: u32,
+        own_map: bool,
+        size: usize,
+    ) -> Result<(), AllocError>
         ensures has { OnOk result ((s : Sequel) (bits : List Bool) (o : Received) (d : Dictionary)
-            → o.next ≡ at_element s → own_map ≡ s.own_map → 0 < s.left
+            → o.next ≡ at_element s → number ≡ s.number → own_map ≡ s.own_map → 0 < s.left
             → has self.old o d → has self.new (in_element o bits s) d) }
         ensures room { OnOk result ((around : List (List Bool)) (b bits : List Bool)
             → CanBeMap bits → IsTrue (room self.old around b)
@@ -348,14 +357,20 @@ pub trait Receiver: Drop {
         ensures room { OnOk result (HasRoomOutside (room self.old) (room self.new)) }
         ensures keeps { Carries (keeps self.old) (keeps self.new) };
 
-    /// The end of an element and the beginning of the next one of its sequence, whether that has a map of its own, and how
-    /// many instructions it has.
-    fn next_element(&mut self, alloc: Global, own_map: bool, size: usize) -> Result<(), AllocError>
+    /// The end of an element and the beginning of the next one of its sequence, which has this number, whether that element
+    /// has a map of its own, and how many instructions it has.
+    fn next_element(
+        &mut self,
+        alloc: Global,
+        number: u32,
+        own_map: bool,
+        size: usize,
+    ) -> Result<(), AllocError>
         requires room { HasRoomInside (room self.now) }
         ensures has { OnOk result ((o : Received) (d : Dictionary) (ws : List Waiting) (w :
             Waiting) (s : Sequel) (bits : List Bool)
             → o.next ≡ at_instruction → o.body.rest ≡ no_instructions → o.around ≡ ws ++ w ∷ []
-            → w.inside ≡ in_sequence s → own_map ≡ s.own_map → 0 < s.left → has self.old o d
+            → w.inside ≡ in_sequence s → number ≡ s.number → own_map ≡ s.own_map → 0 < s.left → has self.old o d
             → has self.new (in_next o bits ws w.body s) d) }
         ensures room { OnOk result ((around : List (List Bool)) (b bits later : List Bool)
             → CanBeMap later → IsTrue (room self.old (around ++ b ∷ []) bits)
@@ -363,7 +378,7 @@ pub trait Receiver: Drop {
         ensures keeps { Carries (keeps self.old) (keeps self.new) }
     {
         self.leave_element(alloc)?;
-        self.enter_element(alloc, own_map, size)?;
+        self.enter_element(alloc, number, own_map, size)?;
         Ok(())
     }
 

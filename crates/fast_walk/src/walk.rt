@@ -295,12 +295,12 @@ impl<'a> Walk<'a> {
                 if present {
                     let own_map = has_map(members);
                     let (bits, next) = read_own_map(alloc, *number, own_map, level, bytes, at)?;
-                    receiver.enter(alloc, name, optional, own_map, members.len())?;
+                    receiver.enter(alloc, name, *number, optional, own_map, members.len())?;
                     take_for(&mut self.bits, optional);
                     self.open(members, others, bits, Inside::Group(*number))?;
                     Ok(next)
                 } else {
-                    receiver.left_out(name)?;
+                    receiver.left_out(name, *number)?;
                     self.pass_field(optional, others);
                     Ok(at)
                 }
@@ -515,7 +515,7 @@ impl<'a> Walk<'a> {
                 let own_map = sequel.own_map;
                 self.count(number)?;
                 let (bits, next) = read_own_map(alloc, number, own_map, level, bytes, at)?;
-                receiver.enter_element(alloc, own_map, sequel.members.len())?;
+                receiver.enter_element(alloc, number, own_map, sequel.members.len())?;
                 let others = Sequel {
                     number,
                     own_map,
@@ -541,7 +541,7 @@ impl<'a> Walk<'a> {
                             let (bits, next) = read_own_map(
                                 alloc, number, own_map, strictness, bytes, at,
                             )?;
-                            receiver.next_element(alloc, own_map, sequel.members.len())?;
+                            receiver.next_element(alloc, number, own_map, sequel.members.len())?;
                             self.go_on(sequel, bits);
                             Ok(next)
                         }

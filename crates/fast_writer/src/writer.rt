@@ -250,7 +250,7 @@ impl Receiver for Writer {
     }
 
     #[inline(always)]
-    fn left_out(&mut self, _name: &Name) -> Result<(), AllocError> {
+    fn left_out(&mut self, _name: &Name, _number: u32) -> Result<(), AllocError> {
         self.inner.ask(true, false)?;
         Ok(())
     }
@@ -260,6 +260,7 @@ impl Receiver for Writer {
         &mut self,
         alloc: Global,
         _name: &Name,
+        _number: u32,
         optional: bool,
         own_map: bool,
         _size: usize,
@@ -280,6 +281,7 @@ impl Receiver for Writer {
     fn enter_element(
         &mut self,
         alloc: Global,
+        _number: u32,
         own_map: bool,
         _size: usize,
     ) -> Result<(), AllocError> {
@@ -297,6 +299,7 @@ impl Receiver for Writer {
     fn next_element(
         &mut self,
         _alloc: Global,
+        _number: u32,
         own_map: bool,
         _size: usize,
     ) -> Result<(), AllocError> {

@@ -87,7 +87,7 @@ returns-in_ok-left_out-in-Group-clause-piece g c =
         from = omega arith;
         within = c.requires.place;
         goes = moves_on g.L.Leveled.at g.R.Receiver.has c.args.receiver.now c.left_out.new.self d d bytes bytes at_instruction (λ done. done ++ single None ∷ []) begins c.in_ok-count-in-Group.ensures end refl
-            (λ o next first had. left.has c.in-Group.number c.in-Group.presence (list_of c.in-Group.members.items) (list_of c.args.others.now) o d next first (needed optional old.bits bit) had) (λ done more h. rw (h, bit) refl);
+            (λ o next first had. left.has c.in-Group.presence (list_of c.in-Group.members.items) (list_of c.args.others.now) o d next first (needed optional old.bits bit) had) (λ done more h. rw (h, bit) refl);
         on = record {
           ready = record { next = rw (end.next) tt; rest = rw (end.rest) (begins_served can begins).1; around = rw (end.around) can.ready.around };
           kept = can.kept;
@@ -131,7 +131,7 @@ returns-in_ok-open-in-Group-clause-piece g c =
                   around = rw (end.around) (map_push bare o.around (record { bits = bits; number = number; body = record { rest = others; done = o.body.done }; inside = in_group })
                       ∙ ap (λ (ws : List Waiting). ws ++ record { bits = bits; number = number; body = record { rest = others; done = [] }; inside = in_group } ∷ []) at.0.around);
                 },
-                enter.has number c.in-Group.presence members others bits o d next first refl map_is at.1,
+                enter.has c.in-Group.presence members others bits o d next first refl map_is at.1,
               ),
               record { set = refl; before = refl; template = refl; members = refl; start = refl },
               λ more.

@@ -1,4 +1,4 @@
-use Rattle.fast_walk.proofs.Common.{◌≡◌, ◌++◌, ◌-◌, ◌∷◌, [], List, Some, length, length-append, drop, map, refl, ap, ◌∙◌, arith, rules, map_push, nil_from_length, option_to_list, Option, Decimal, list_of, bytes_from, single, Sequel, Waiting, cursor, in_sequence, after_sequence, closed_in, ended_in, passed, left_around, bare, frame_of, inside_of, next_of, weight_of, Frame as FrameNow}
+use Rattle.fast_walk.proofs.Common.{◌≡◌, ◌++◌, ◌-◌, ◌∷◌, [], List, Some, length, length-append, drop, map, refl, sym, ap, ◌∙◌, arith, rules, map_push, nil_from_length, option_to_list, Option, Decimal, list_of, bytes_from, single, Sequel, Waiting, cursor, in_sequence, after_sequence, closed_in, ended_in, passed, left_around, bare, frame_of, inside_of, next_of, weight_of, Frame as FrameNow}
 use Rattle.fast_walk.proofs.Steps.{exit_is}
 use Rattle.fast_walk.proofs.Pieces.{fault_stops, less_opened, opened_on, part_on, part_took, stops_here}
 use Rattle.fast_walk.proofs.Steps.{count_goes}
@@ -76,7 +76,7 @@ returns-in_ok-open-in-Element-clause-piece g c =
         goes = λ o at.
             let a = at_element_of o at.0 c.in-Element.is in
             enters g.L.Leveled.at g.R.Receiver.has old c.enter_element.new.self d o o (drop c.args.at c.args.bytes.now) (drop bits.next c.args.bytes.now) a (record { set = refl; before = refl; template = refl; members = refl; start = refl }) (λ b. refl)
-            (omega (arith, c.if-sequel-eq0.false)) c.in_ok-count-in-Element.ensures end (rw (c.level-level.ensures) at bits.ensures.goes d old.bits (old.spare - 1)) (λ own some. enter.has a.sequel old.bits o d a.next own some at.1);
+            (omega (arith, c.if-sequel-eq0.false)) c.in_ok-count-in-Element.ensures end (rw (c.level-level.ensures) at bits.ensures.goes d old.bits (old.spare - 1)) (λ own some. enter.has a.sequel old.bits o d a.next (sym (ap (λ (s : Sequel). s.number) a.same)) own some at.1);
         on = opened_on end members (can.ready.rest, members) can.ready.around can.kept (enter.room _ old.bits _ bits.ensures.room can.room);
       },
       less_opened old.next c.in_ok-count-in-Element.ensures end,
@@ -120,7 +120,7 @@ returns-in_ok-next_element-in-Some-next_sequel-clause-piece g c =
             let n = has_next o.around at.0.around l in
             enters g.L.Leveled.at g.R.Receiver.has old c.next_element.new.self d o (ended_in o n.last.before n.last.last.body (in_sequence n.sequel)) (drop c.args.at c.args.bytes.now) (drop bits.next c.args.bytes.now) (ended_at o _ _ n) (record { set = refl; before = refl; template = refl; members = refl; start = refl })
             (λ b. sequel_on g.L.Leveled.at o _ _ n (cursor d old.bits old.spare b) (rw (c.level-in-None.ensures) at c.in_ok-judge_end-in-None.ensures.clear) next rest)
-            c.in-Some-next_sequel.ensures.0 c.in_ok-count-in-Some-next_sequel.ensures end (rw (c.level-strictness.ensures) at bits.ensures.goes d l.frame.bits (old.spare - 1)) (λ own some. enter.has o d n.last.before n.last.last n.sequel l.frame.bits next rest n.last.is n.is own some at.1);
+            c.in-Some-next_sequel.ensures.0 c.in_ok-count-in-Some-next_sequel.ensures end (rw (c.level-strictness.ensures) at bits.ensures.goes d l.frame.bits (old.spare - 1)) (λ own some. enter.has o d n.last.before n.last.last n.sequel l.frame.bits next rest n.last.is n.is (sym (ap (λ (s : Sequel). s.number) n.same)) own some at.1);
         on = opened_on end members (served.1.0, members) served.0 can.kept (enter.room (left_around (map frame_of l.fore)) l.frame.bits old.bits bits.bits bits.ensures.room (rw (left_last _ _ _ (last_frames l)) at can.room));
       },
       omega (arith, less, ap (λ (fs : List FrameNow). length fs) l.frames ∙ length-append l.fore (l.frame ∷ [])),

@@ -4,7 +4,7 @@ use Rattle.fast_writer.proofs.MapRoom.{asked_room, opened_room}
 use Rattle.fast_writer.proofs.writer.WriterReceiver.enter.Goals as goal
 
 pub returns-clause-has : goal.returns-clause-has
-returns-clause-has c = λ number presence members is bits o d next first optional own.
+returns-clause-has c = λ presence members is bits o d next first optional own.
     rw (c.open.ensures.out) (has_entered bits next first optional c.in_ok-ask.ensures.asked c.in_ok-open.ensures.outer (rw (own) at c.in_ok-open.ensures.begun))
 
 pub returns-clause-room : goal.returns-clause-room

@@ -9,7 +9,7 @@ end-requires c =
     record { some = λ none. r.0 (ap (map level_of) none); room = r.1 }
 
 pub returns-clause-has : goal.returns-clause-has
-returns-clause-has c = λ o d ws w s bits next rest is inside own some has.
+returns-clause-has c = λ o d ws w s bits next rest is inside numbered own some has.
     let closed = c.in_ok-end.ensures.closed in
     has_element {s = with_element s (items_of o.body.done)} bits refl own some closed.later_is c.begin.ensures (has_ended {inside = in_sequence s} ws w next rest is inside closed.closes has)
 
