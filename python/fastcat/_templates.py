@@ -9,14 +9,14 @@ import os
 import pathlib
 import threading
 import warnings
-from typing import Any, Iterable, Iterator, Literal, Union
+from typing import Any, Iterable, Iterator, Literal, Sequence, Union
 
 from . import xml_templates
 from ._answers import FastcatError, Status
 from ._library import RawAnswer, RawField, RawSet, RawSizes, answer_of, call, library
 
 # A text in JSON or XML, or a file that has one.
-Text = Union[str, bytes, bytearray, memoryview, "os.PathLike[str]"]
+Text = Union[str, bytes, bytearray, memoryview, os.PathLike[str]]
 Kind = Literal[
     "uInt32", "uInt64", "int32", "int64", "decimal", "ascii", "unicode", "byteVector", "group", "sequence"
 ]
@@ -196,8 +196,8 @@ def given(templates: Text | Templates) -> Iterator[tuple[str, tuple[Any, ...]]]:
         library.fastcat_set_free(ctypes.byref(share))
 
 
-def told_templates(handle: Any) -> list[tuple[str, int | None, tuple[Field, ...]]]:
-    """What the library tells of the templates behind a handle."""
+def told_rows(handle: Any) -> tuple[Sequence[RawField], bytes]:
+    """The fields of the templates behind a handle, and their names."""
     sizes = RawSizes()
     rows, names = (RawField * 0)(), ctypes.create_string_buffer(0)
     status = library.fastcat_set_fields(handle, rows, 0, names, 0, ctypes.byref(sizes))
@@ -206,22 +206,25 @@ def told_templates(handle: Any) -> list[tuple[str, int | None, tuple[Field, ...]
         status = library.fastcat_set_fields(handle, rows, sizes.fields, names, sizes.names, ctypes.byref(sizes))
     if status != Status.DONE:
         raise FastcatError(answer_of(RawAnswer(status=status)))
+    return rows, names.raw
+
+
+def told_templates(handle: Any) -> list[tuple[str, int | None, tuple[Field, ...]]]:
+    """Each template behind a handle: its name, its identifier and its fields."""
+    rows, names = told_rows(handle)
 
     def name_of(row: RawField) -> str:
-        return names.raw[row.name : row.name + row.name_length].decode("ascii")
+        return names[row.name : row.name + row.name_length].decode("ascii")
 
-    def fields_of(at: int, end: int) -> Iterator[Field]:
+    def level(at: int, end: int) -> Iterator[tuple[RawField, tuple[Field, ...]]]:
+        """The rows of one level, each with the fields that are its own."""
         while at < end:
             row = rows[at]
             behind = at + 1 + row.length
-            inside = tuple(fields_of(at + 1, behind))
-            yield Field(name_of(row), KINDS[row.kind], row.instruction, row.optional == 1, inside)
+            yield row, tuple(field_of(*it) for it in level(at + 1, behind))
             at = behind
 
-    told, at = [], 0
-    while at < sizes.fields:
-        row = rows[at]
-        behind = at + 1 + row.length
-        told.append((name_of(row), row.instruction if row.optional else None, tuple(fields_of(at + 1, behind))))
-        at = behind
-    return told
+    def field_of(row: RawField, inside: tuple[Field, ...]) -> Field:
+        return Field(name_of(row), KINDS[row.kind], row.instruction, row.optional == 1, inside)
+
+    return [(name_of(row), row.instruction if row.optional else None, inside) for row, inside in level(0, len(rows))]
