@@ -611,6 +611,8 @@ class Xml(unittest.TestCase):
             for given in (templates % encoding, (templates % encoding).encode(encoding)):
                 with self.subTest(encoding=encoding, given=type(given)):
                     self.assertEqual(library.show(given, b"\xc0\x81"), '1 T S="\\xc3\\xa4"\n')
+                    self.assertEqual(library.show(given, b"\xc0\x81", json=True),
+                                     '{"template":"T","id":1,"fields":{"S":"\u00e4"}}\n')
 
     def test_refused(self):
         error = outcome(library.canon, '<templates>\n<template name="T"><real name="A"/></template></templates>', b"")

@@ -21,7 +21,7 @@ def mode_of(strict: bool, blocks: bool, packets: bool, json: bool = False) -> in
     return (1 if strict else 0) | (2 if blocks else 0) | (4 if json else 0) | (8 if packets else 0)
 
 
-def written_by(name: str, templates: Text | Templates, data: bytes, mode: int) -> bytes:
+def written_by(name: str, templates: Text | Templates, data: bytes, mode: int) -> memoryview:
     """What a function writes into a room, which is grown until it is enough."""
     length = max(len(data), 64)
     with given(templates) as (kind, arguments):
@@ -32,9 +32,9 @@ def written_by(name: str, templates: Text | Templates, data: bytes, mode: int) -
             if answer.status is not Status.ROOM_TOO_SHORT:
                 break
             length = answer.written
-    written = ctypes.string_at(room, answer.written)
+    written = memoryview(room)[: answer.written]
     if answer.status is not Status.DONE:
-        raise FastcatError(answer, written)
+        raise FastcatError(answer, bytes(written))
     return written
 
 
@@ -42,7 +42,7 @@ def canon(
     templates: Text | Templates, stream: Bytes, strict: bool = False, blocks: bool = False, packets: bool = False
 ) -> bytes:
     """The canonical bytes of a stream, or with `packets` of a recording."""
-    return written_by("canon", templates, bytes_of("stream", stream), mode_of(strict, blocks, packets))
+    return bytes(written_by("canon", templates, bytes_of("stream", stream), mode_of(strict, blocks, packets)))
 
 
 def show(
@@ -55,7 +55,7 @@ def show(
 ) -> str:
     """A line for each message of a stream or a recording: of text, in ASCII, or a JSON text, which with `packets` says its
     packet first."""
-    return written_by("show", templates, bytes_of("stream", stream), mode_of(strict, blocks, packets, json)).decode()
+    return str(written_by("show", templates, bytes_of("stream", stream), mode_of(strict, blocks, packets, json)), "utf-8")
 
 
 def in_json(value: Any) -> Any:
@@ -105,7 +105,7 @@ def write(templates: Text | Templates, messages: str | Bytes | Iterable[Message]
     or bytes. Decimals are `decimal.Decimal` or `int`, and a `float` is a `TypeError`. A byte vector is bytes, or hex text.
     `messages` may also be a text of lines. Where one is refused, the answer's `message` is its place, from 1, or its line's.
     """
-    return written_by("write", templates, lines_of(messages), mode_of(False, False, packets, True))
+    return bytes(written_by("write", templates, lines_of(messages), mode_of(False, False, packets, True)))
 
 
 def check(
