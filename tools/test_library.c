@@ -404,8 +404,10 @@ static const char fielded[] =
     "{\"name\":\"All\",\"id\":4294967295,\"instructions\":["
     "{\"kind\":\"uInt32\",\"name\":\"a\"},{\"kind\":\"uInt64\",\"name\":\"b\"},{\"kind\":\"int32\",\"name\":\"c\"},"
     "{\"kind\":\"int64\",\"name\":\"d\"},{\"kind\":\"decimal\",\"name\":\"e\"},"
-    "{\"kind\":\"decimal\",\"name\":\"ff\",\"presence\":\"optional\",\"exponent\":{\"operator\":\"copy\"},\"mantissa\":{\"operator\":\"delta\"}},"
-    "{\"kind\":\"string\",\"name\":\"g\"},{\"kind\":\"string\",\"charset\":\"unicode\",\"name\":\"h\"},{\"kind\":\"byteVector\",\"name\":\"i\"},"
+    "{\"kind\":\"decimal\",\"name\":\"ff\",\"presence\":\"optional\","
+    "\"exponent\":{\"operator\":\"copy\"},\"mantissa\":{\"operator\":\"delta\"}},"
+    "{\"kind\":\"string\",\"name\":\"g\"},{\"kind\":\"string\",\"charset\":\"unicode\",\"name\":\"h\"},"
+    "{\"kind\":\"byteVector\",\"name\":\"i\"},"
     "{\"kind\":\"group\",\"name\":\"j\",\"presence\":\"optional\",\"instructions\":["
     "{\"kind\":\"sequence\",\"name\":\"k\",\"instructions\":[{\"kind\":\"templateRef\",\"name\":\"Common\"}]},"
     "{\"kind\":\"uInt32\",\"name\":\"l\"}]},{\"kind\":\"templateRef\",\"name\":\"Common\"}]},"
@@ -413,10 +415,10 @@ static const char fielded[] =
 static const struct { const char *name; uint32_t kind, instruction, optional, length; } wanted_fields[] = {
     {"Common", FASTCAT_MESSAGE, 0, 0, 1}, {"B", FASTCAT_UINT32, 1, 1, 0},
     {"All", FASTCAT_MESSAGE, 4294967295, 1, 14}, {"a", FASTCAT_UINT32, 1, 0, 0}, {"b", FASTCAT_UINT64, 2, 0, 0},
-    {"c", FASTCAT_INT32, 3, 0, 0}, {"d", FASTCAT_INT64, 4, 0, 0}, {"e", FASTCAT_DECIMAL, 5, 0, 0}, {"ff", FASTCAT_DECIMAL, 6, 1, 0},
-    {"g", FASTCAT_ASCII, 7, 0, 0}, {"h", FASTCAT_UNICODE, 8, 0, 0}, {"i", FASTCAT_BYTES, 9, 0, 0},
-    {"j", FASTCAT_GROUP, 10, 1, 3}, {"k", FASTCAT_SEQUENCE, 11, 0, 1}, {"B", FASTCAT_UINT32, 12, 1, 0}, {"l", FASTCAT_UINT32, 13, 0, 0},
-    {"B", FASTCAT_UINT32, 14, 1, 0}, {"Bare", FASTCAT_MESSAGE, 0, 1, 0}};
+    {"c", FASTCAT_INT32, 3, 0, 0}, {"d", FASTCAT_INT64, 4, 0, 0}, {"e", FASTCAT_DECIMAL, 5, 0, 0},
+    {"ff", FASTCAT_DECIMAL, 6, 1, 0}, {"g", FASTCAT_ASCII, 7, 0, 0}, {"h", FASTCAT_UNICODE, 8, 0, 0}, {"i", FASTCAT_BYTES, 9, 0, 0},
+    {"j", FASTCAT_GROUP, 10, 1, 3}, {"k", FASTCAT_SEQUENCE, 11, 0, 1}, {"B", FASTCAT_UINT32, 12, 1, 0},
+    {"l", FASTCAT_UINT32, 13, 0, 0}, {"B", FASTCAT_UINT32, 14, 1, 0}, {"Bare", FASTCAT_MESSAGE, 0, 1, 0}};
 static const char wanted_names[] = "CommonBAllabcdeffghijkBlBBare";
 enum { FIELDS_WANTED = sizeof wanted_fields / sizeof *wanted_fields, NAMES_WANTED = sizeof wanted_names - 1 };
 
@@ -466,8 +468,8 @@ static void fields(void) {
                rows[i].name == at && rows[i].name_length == length, wanted_fields[i].name);
     at += length;
   }
-  expect(fastcat_next_field(rows) == rows + 2 && fastcat_next_field(rows + 2) == rows + 17 && fastcat_next_field(rows + 12) == rows + 16 &&
-             fastcat_next_field(rows + 17) == rows + FIELDS_WANTED, "the next field of a level");
+  expect(fastcat_next_field(rows) == rows + 2 && fastcat_next_field(rows + 2) == rows + 17 &&
+             fastcat_next_field(rows + 12) == rows + 16 && fastcat_next_field(rows + 17) == rows + FIELDS_WANTED, "the next field of a level");
   make_of_nothing(&set);
   expect(fastcat_set_fields(&set, NULL, 0, NULL, 0, &sizes) == FASTCAT_DONE && has_sizes(&sizes, 0, 0, 0), "no fields");
   fastcat_set_free(&set);

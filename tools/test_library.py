@@ -606,7 +606,8 @@ class Xml(unittest.TestCase):
     def test_encodings(self):
         """A text is a text, whatever encoding it declares; bytes have the one that they declare."""
         templates = ('<?xml version="1.0" encoding="%s"?><templates xmlns="http://www.fixprotocol.org/ns/fast/td/1.1">'
-                     '<template name="T" id="1"><string name="S" charset="unicode"><constant value="\u00e4"/></string></template></templates>')
+                     '<template name="T" id="1"><string name="S" charset="unicode"><constant value="\u00e4"/></string></template>'
+                     '</templates>')
         for encoding in ("iso-8859-1", "utf-8", "utf-16"):
             for given in (templates % encoding, (templates % encoding).encode(encoding)):
                 with self.subTest(encoding=encoding, given=type(given)):
