@@ -102,6 +102,64 @@ enum fastcat_cause {
   FASTCAT_TOO_SHORT = 207     /* a value is shorter than the earlier one whose end a tail changes */
 };
 
+/* The names of statuses and causes, as texts for people: "room too short"; and "D2", "BlockEnd" and the like, as the program
+ * prints them. Of FASTCAT_NO_CAUSE it is the empty text, of a number that is none of these "unknown". */
+static inline const char *fastcat_status_name(uint32_t status) {
+  switch (status) {
+  case FASTCAT_DONE: return "done";
+  case FASTCAT_STREAM_REFUSED: return "stream refused";
+  case FASTCAT_TEMPLATES_REFUSED: return "templates refused";
+  case FASTCAT_ROOM_TOO_SHORT: return "room too short";
+  case FASTCAT_NO_MEMORY: return "no memory";
+  case FASTCAT_UNKNOWN_MODE: return "unknown mode";
+  case FASTCAT_STREAM_TOO_LONG: return "stream too long";
+  case FASTCAT_LINE_REFUSED: return "line refused";
+  case FASTCAT_WRONG_HANDLE: return "wrong handle";
+  default: return "unknown";
+  }
+}
+
+static inline const char *fastcat_cause_name(uint32_t cause) {
+  switch (cause) {
+  case FASTCAT_NO_CAUSE: return "";
+  case FASTCAT_D2: return "D2";
+  case FASTCAT_D4: return "D4";
+  case FASTCAT_D5: return "D5";
+  case FASTCAT_D6: return "D6";
+  case FASTCAT_D7: return "D7";
+  case FASTCAT_D9: return "D9";
+  case FASTCAT_D12: return "D12";
+  case FASTCAT_R1: return "R1";
+  case FASTCAT_R2: return "R2";
+  case FASTCAT_R6: return "R6";
+  case FASTCAT_R7: return "R7";
+  case FASTCAT_R8: return "R8";
+  case FASTCAT_R9: return "R9";
+  case FASTCAT_BLOCK_END: return "BlockEnd";
+  case FASTCAT_TRUNCATED: return "Truncated";
+  case FASTCAT_LIMIT: return "Limit";
+  case FASTCAT_S1: return "S1";
+  case FASTCAT_S2: return "S2";
+  case FASTCAT_S3: return "S3";
+  case FASTCAT_S4: return "S4";
+  case FASTCAT_S5: return "S5";
+  case FASTCAT_D8: return "D8";
+  case FASTCAT_DUPLICATE_NAME: return "DuplicateName";
+  case FASTCAT_DUPLICATE_ID: return "DuplicateId";
+  case FASTCAT_CYCLE: return "Cycle";
+  case FASTCAT_TOO_DEEP: return "TooDeep";
+  case FASTCAT_TOO_MANY: return "TooMany";
+  case FASTCAT_NOT_JSON: return "Json";
+  case FASTCAT_LINE: return "Line";
+  case FASTCAT_MEMBER: return "Member";
+  case FASTCAT_MISMATCH: return "Mismatch";
+  case FASTCAT_D3: return "D3";
+  case FASTCAT_NOT_CONSTANT: return "NotConstant";
+  case FASTCAT_TOO_SHORT: return "TooShort";
+  default: return "unknown";
+  }
+}
+
 /* What a call answers. Each call sets every field, to 0 where it has nothing to say of it. */
 struct fastcat_answer {
   uint64_t messages;    /* the messages of the stream or the lines, or of a refused stream or packet those before its fault */
@@ -172,6 +230,51 @@ uint32_t fastcat_set_show(struct fastcat_set *set, uint32_t mode, const uint8_t 
                           size_t room_length, struct fastcat_answer *answer);
 uint32_t fastcat_set_write(struct fastcat_set *set, uint32_t mode, const uint8_t *lines, size_t lines_length, uint8_t *room,
                            size_t room_length, struct fastcat_answer *answer);
+
+/* ---- the fields that the messages of a set have */
+
+/* What a field is: its type, or that it has fields of its own. */
+enum fastcat_kind {
+  FASTCAT_MESSAGE = 0, /* a template */
+  FASTCAT_UINT32 = 2,
+  FASTCAT_UINT64 = 3,
+  FASTCAT_INT32 = 4,
+  FASTCAT_INT64 = 5,
+  FASTCAT_DECIMAL = 6,
+  FASTCAT_ASCII = 7,
+  FASTCAT_UNICODE = 8,
+  FASTCAT_BYTES = 9,
+  FASTCAT_GROUP = 10,
+  FASTCAT_SEQUENCE = 11
+};
+
+/* A field, of 32 bytes. */
+struct fastcat_field {
+  uint32_t kind;        /* enum fastcat_kind */
+  uint32_t instruction; /* its number, from 1, as answers have it; of a template the identifier, or 0 */
+  uint64_t name;        /* where its name begins in the names, ASCII; no zero ends it */
+  uint64_t name_length; /* how many bytes it has */
+  uint32_t optional;    /* 1 where messages may lack it, of a template where it has an identifier; else 0 */
+  uint32_t length;      /* how many fields behind it are its own, those inside them too */
+};
+
+/* How many templates, fields (a template is one too) and bytes of names there are. */
+struct fastcat_sizes {
+  uint64_t templates, fields, names;
+};
+
+/* Puts the templates of a set into the front of the fields, each before its own fields, in the order of their values in a
+ * message, a group or sequence before what is in it; references are replaced by what they stand for. So the field of
+ * instruction n stands n places behind its template. Names go into the front of the names, one behind the other. Where a room
+ * is too short, both are as they were. The sizes are told in that case too, and are 0 with any other status than
+ * FASTCAT_DONE. */
+uint32_t fastcat_set_fields(struct fastcat_set *set, struct fastcat_field *fields, size_t fields_length, uint8_t *names,
+                            size_t names_length, struct fastcat_sizes *sizes);
+
+/* The field behind this one and all that are its own: the next one of its level, if there is one. */
+static inline const struct fastcat_field *fastcat_next_field(const struct fastcat_field *field) {
+  return field + 1 + field->length;
+}
 
 #ifdef __cplusplus
 }

@@ -2,6 +2,7 @@
  * docs/FORMAT.md. */
 #include "fastcat.h"
 
+#include <ctype.h>
 #include <pthread.h>
 #include <stdio.h>
 #include <stdlib.h>
@@ -395,6 +396,91 @@ static void threads(void) {
   }
 }
 
+/* ---- the fields of a set */
+
+/* Of every kind; a reference stands for its field wherever it stands. */
+static const char fielded[] =
+    "{\"templates\":[{\"name\":\"Common\",\"instructions\":[{\"kind\":\"uInt32\",\"name\":\"B\",\"presence\":\"optional\"}]},"
+    "{\"name\":\"All\",\"id\":4294967295,\"instructions\":["
+    "{\"kind\":\"uInt32\",\"name\":\"a\"},{\"kind\":\"uInt64\",\"name\":\"b\"},{\"kind\":\"int32\",\"name\":\"c\"},"
+    "{\"kind\":\"int64\",\"name\":\"d\"},{\"kind\":\"decimal\",\"name\":\"e\"},"
+    "{\"kind\":\"decimal\",\"name\":\"ff\",\"presence\":\"optional\","
+    "\"exponent\":{\"operator\":\"copy\"},\"mantissa\":{\"operator\":\"delta\"}},"
+    "{\"kind\":\"string\",\"name\":\"g\"},{\"kind\":\"string\",\"charset\":\"unicode\",\"name\":\"h\"},"
+    "{\"kind\":\"byteVector\",\"name\":\"i\"},"
+    "{\"kind\":\"group\",\"name\":\"j\",\"presence\":\"optional\",\"instructions\":["
+    "{\"kind\":\"sequence\",\"name\":\"k\",\"instructions\":[{\"kind\":\"templateRef\",\"name\":\"Common\"}]},"
+    "{\"kind\":\"uInt32\",\"name\":\"l\"}]},{\"kind\":\"templateRef\",\"name\":\"Common\"}]},"
+    "{\"name\":\"Bare\",\"id\":0,\"instructions\":[]}]}";
+static const struct { const char *name; uint32_t kind, instruction, optional, length; } wanted_fields[] = {
+    {"Common", FASTCAT_MESSAGE, 0, 0, 1}, {"B", FASTCAT_UINT32, 1, 1, 0},
+    {"All", FASTCAT_MESSAGE, 4294967295, 1, 14}, {"a", FASTCAT_UINT32, 1, 0, 0}, {"b", FASTCAT_UINT64, 2, 0, 0},
+    {"c", FASTCAT_INT32, 3, 0, 0}, {"d", FASTCAT_INT64, 4, 0, 0}, {"e", FASTCAT_DECIMAL, 5, 0, 0},
+    {"ff", FASTCAT_DECIMAL, 6, 1, 0}, {"g", FASTCAT_ASCII, 7, 0, 0}, {"h", FASTCAT_UNICODE, 8, 0, 0}, {"i", FASTCAT_BYTES, 9, 0, 0},
+    {"j", FASTCAT_GROUP, 10, 1, 3}, {"k", FASTCAT_SEQUENCE, 11, 0, 1}, {"B", FASTCAT_UINT32, 12, 1, 0},
+    {"l", FASTCAT_UINT32, 13, 0, 0}, {"B", FASTCAT_UINT32, 14, 1, 0}, {"Bare", FASTCAT_MESSAGE, 0, 1, 0}};
+static const char wanted_names[] = "CommonBAllabcdeffghijkBlBBare";
+enum { FIELDS_WANTED = sizeof wanted_fields / sizeof *wanted_fields, NAMES_WANTED = sizeof wanted_names - 1 };
+
+static int has_sizes(const struct fastcat_sizes *sizes, uint64_t count, uint64_t of_fields, uint64_t of_names) {
+  return sizes->templates == count && sizes->fields == of_fields && sizes->names == of_names;
+}
+
+static int is_untouched(const void *bytes, size_t length) {
+  for (size_t i = 0; i < length; i++)
+    if (((const uint8_t *)bytes)[i] != 0xaa) return 0;
+  return 1;
+}
+
+static void fields(void) {
+  static struct fastcat_field rows[FIELDS_WANTED + 1];
+  static uint8_t names[NAMES_WANTED + 1];
+  struct fastcat_set set = {0};
+  struct fastcat_answer a;
+  struct fastcat_sizes sizes;
+  expect(sizeof *rows == 32, "a field has 32 bytes");
+  expect(fastcat_set_new((const uint8_t *)fielded, sizeof fielded - 1, &set, &a) == FASTCAT_DONE, "a set of every kind of field");
+
+  static const size_t short_rooms[][2] = {
+      {0, 0}, {FIELDS_WANTED, NAMES_WANTED - 1}, {FIELDS_WANTED - 1, NAMES_WANTED}, {FIELDS_WANTED - 1, NAMES_WANTED + 1}};
+  for (size_t i = 0; i < sizeof short_rooms / sizeof *short_rooms; i++) {
+    memset(rows, 0xaa, sizeof rows);
+    memset(names, 0xaa, sizeof names);
+    memset(&sizes, 0xaa, sizeof sizes);
+    expect(fastcat_set_fields(&set, rows, short_rooms[i][0], names, short_rooms[i][1], &sizes) == FASTCAT_ROOM_TOO_SHORT &&
+               has_sizes(&sizes, 3, FIELDS_WANTED, NAMES_WANTED) && is_untouched(rows, sizeof rows) &&
+               is_untouched(names, sizeof names), "rooms that are too short for fields");
+  }
+  expect(fastcat_set_fields(&set, NULL, 0, NULL, 0, &sizes) == FASTCAT_ROOM_TOO_SHORT, "no rooms for fields");
+  for (size_t more = 0; more < 2; more++) {
+    memset(rows, 0xaa, sizeof rows);
+    memset(names, 0xaa, sizeof names);
+    memset(&sizes, 0xaa, sizeof sizes);
+    expect(fastcat_set_fields(&set, rows, FIELDS_WANTED + more, names, NAMES_WANTED + more, &sizes) == FASTCAT_DONE &&
+               has_sizes(&sizes, 3, FIELDS_WANTED, NAMES_WANTED) && memcmp(names, wanted_names, NAMES_WANTED) == 0 &&
+               is_untouched(rows + FIELDS_WANTED, sizeof *rows) && is_untouched(names + NAMES_WANTED, 1), "fields");
+  }
+  size_t at = 0;
+  for (size_t i = 0; i < FIELDS_WANTED; i++) {
+    size_t length = strlen(wanted_fields[i].name);
+    expect(rows[i].kind == wanted_fields[i].kind && rows[i].instruction == wanted_fields[i].instruction &&
+               rows[i].optional == wanted_fields[i].optional && rows[i].length == wanted_fields[i].length &&
+               rows[i].name == at && rows[i].name_length == length, wanted_fields[i].name);
+    at += length;
+  }
+  expect(fastcat_next_field(rows) == rows + 2 && fastcat_next_field(rows + 2) == rows + 17 &&
+             fastcat_next_field(rows + 12) == rows + 16 && fastcat_next_field(rows + 17) == rows + FIELDS_WANTED, "the next field of a level");
+  make_of_nothing(&set);
+  expect(fastcat_set_fields(&set, NULL, 0, NULL, 0, &sizes) == FASTCAT_DONE && has_sizes(&sizes, 0, 0, 0), "no fields");
+  fastcat_set_free(&set);
+  memset(rows, 0xaa, sizeof rows);
+  memset(&sizes, 0xaa, sizeof sizes);
+  expect(fastcat_set_fields(&set, rows, FIELDS_WANTED, names, NAMES_WANTED, &sizes) == FASTCAT_WRONG_HANDLE &&
+             has_sizes(&sizes, 0, 0, 0) && is_untouched(rows, sizeof rows) && is_empty(&set), "the fields of no set");
+}
+
+/* ---- causes */
+
 /* The causes by the names of fastcat.h. */
 #define CAUSE(name) {#name, FASTCAT_##name}
 static const struct { const char *name; uint32_t number; } causes[] = {
@@ -414,6 +500,30 @@ static uint32_t number_of(const char *name) {
   return UINT32_MAX;
 }
 
+/* The name of a cause for people is that of the header, without its signs between words. */
+static int is_named(uint32_t number, const char *name) {
+  const char *for_people = fastcat_cause_name(number);
+  if (strcmp(name, "NO_CAUSE") == 0) return *for_people == 0;
+  if (strcmp(name, "NOT_JSON") == 0) return strcmp(for_people, "Json") == 0;
+  for (; *name; name++) {
+    if (*name == '_') continue;
+    if (toupper((unsigned char)*for_people++) != *name) return 0;
+  }
+  return *for_people == 0;
+}
+
+static void names(void) {
+  static const char *const statuses[] = {"done", "stream refused", "templates refused", "room too short", "no memory",
+                                         "unknown mode", "stream too long", "line refused", "wrong handle"};
+  for (uint32_t status = 0; status < sizeof statuses / sizeof *statuses; status++)
+    expect(strcmp(fastcat_status_name(status), statuses[status]) == 0, statuses[status]);
+  expect(strcmp(fastcat_status_name(sizeof statuses / sizeof *statuses), "unknown") == 0, "a status that is none");
+  size_t known = 0;
+  for (uint32_t cause = 0; cause < 1000; cause++)
+    if (strcmp(fastcat_cause_name(cause), "unknown") != 0) known++;
+  expect(known == sizeof causes / sizeof *causes, "the causes that have names");
+}
+
 /* Each row of the table is refused for its cause. */
 static void table(FILE *file) {
   static char line[8192], over[8192], what[8192];
@@ -422,7 +532,7 @@ static void table(FILE *file) {
   struct fastcat_answer a;
   while (fgets(line, sizeof line, file)) {
     if (line[0] == '#' || sscanf(line, "%15s %31s %u %u %8191[^\n]", kind, name, &number, &mode, what) != 5) continue;
-    expect(number_of(name) == number, name);
+    expect(number_of(name) == number && is_named(number, name), name);
     if (strcmp(kind, "over") == 0) {
       strcpy(over, what);
     } else if (strcmp(kind, "stream") == 0) {
@@ -458,6 +568,8 @@ int main(int count, char **words) {
   sets();
   shares();
   threads();
+  fields();
+  names();
   table(rows);
   fclose(rows);
   printf("C: %u passed, %u failed\n", passed, failed);

@@ -13,9 +13,13 @@ import pathlib
 import pickle
 import re
 import resource
+import shutil
+import subprocess
 import sys
+import tempfile
 import threading
 import unittest
+import warnings
 
 TOP = pathlib.Path(__file__).resolve().parent.parent
 sys.path.insert(0, str(TOP / "python"))
@@ -81,6 +85,7 @@ def data(name):
 
 WORKED = text("worked.json")
 ONE = bytes.fromhex("f0818141c2fe00e4")
+PROGRAM = TOP / "crates/fastcat/out/fastcat"
 HEADER = (TOP / "include/fastcat.h").read_text()
 
 
@@ -177,6 +182,7 @@ class Refusals(unittest.TestCase):
         error = self.refusal(fastcat.show, WORKED, b"\x88" + ONE + b"\x83\x80\x80\x81", packets=True)
         self.assertEqual(str(error), "refused D5 packet=2 message=1 offset=11 template=0 instruction=0")
         self.assertEqual(error.written, b'1 Quote Seq=1 Sym="AB" Px=100e-2 Qty=-\n')
+        self.assertEqual((error.packet, error.message, error.offset), (2, 1, 11))
         error = self.refusal(fastcat.canon, WORKED, b"\x88" + ONE, packets=True, blocks=True)
         self.assertEqual(str(error), "unknown mode")
 
@@ -184,6 +190,8 @@ class Refusals(unittest.TestCase):
         error = self.refusal(fastcat.canon, WORKED, ONE + b"\x80")
         self.assertEqual(str(error), "refused Truncated message=2 offset=9 template=1 instruction=3")
         self.assertEqual((error.written, error.answer.messages), (ONE, 1))
+        self.assertEqual((error.status, error.cause), (fastcat.Status.STREAM_REFUSED, fastcat.Cause.Truncated))
+        self.assertEqual((error.message, error.offset, error.template, error.instruction, error.packet), (2, 9, 1, 3, 0))
         self.assertNotIn("written=b", repr(error))
         self.assertNotIn("\\x", repr(error))
         copied = pickle.loads(pickle.dumps(error))
@@ -343,13 +351,51 @@ class Causes(unittest.TestCase):
         """Each bit of a mode has the number of fastcat.h, by its name."""
         modes = dict(re.findall(r"FASTCAT_(\w+) = (\d+)", HEADER.split("enum fastcat_status")[0]))
         names = ("strict", "blocks", "packets", "json")
-        self.assertEqual(modes, {it.upper(): str(fastcat._mode(*(it == other for other in names))) for it in names})
+        self.assertEqual(modes, {it.upper(): str(fastcat._calls.mode_of(*(it == other for other in names))) for it in names})
 
     def test_answer(self):
         """The parts of an answer stand in the order of fastcat.h, and are as wide."""
         parts = re.findall(r"uint(\d+)_t (\w+);", HEADER.split("struct fastcat_answer {")[1].split("};")[0])
         self.assertEqual([(name.removesuffix("_id"), int(bits)) for bits, name in parts],
-                         [(name, 8 * ctypes.sizeof(kind)) for name, kind in fastcat._Answer._fields_])
+                         [(name, 8 * ctypes.sizeof(kind)) for name, kind in fastcat._library.RawAnswer._fields_])
+
+    def test_fields(self):
+        """Fields, sizes and kinds are those of fastcat.h."""
+        for name, raw in (("field", fastcat._library.RawField), ("sizes", fastcat._library.RawSizes)):
+            declared = HEADER.split(f"struct fastcat_{name} {{")[1].split("};")[0]
+            parts = [(one, int(bits)) for bits, names in re.findall(r"uint(\d+)_t ([\w, ]+);", declared) for one in names.split(", ")]
+            self.assertEqual(parts, [(one, 8 * ctypes.sizeof(kind)) for one, kind in raw._fields_])
+        kinds = re.findall(r"FASTCAT_(\w+) = (\d+)", HEADER.split("enum fastcat_kind")[1].split("};")[0])
+        named = {"bytes": "bytevector"}
+        self.assertEqual({int(number): named.get(name.lower(), name.lower()) for name, number in kinds if name != "MESSAGE"},
+                         {number: kind.lower() for number, kind in fastcat._templates.KINDS.items()})
+
+    def test_names(self):
+        """Statuses and causes have the names of fastcat.h for people."""
+        names = dict(re.findall(r'case FASTCAT_(\w+): return "([^"]*)";', HEADER))
+        of = {it.name: it.name.lower().replace("_", " ") for it in fastcat.Status}
+        of |= {name_in_c(it.name): "" if it is fastcat.Cause.NONE else it.name for it in fastcat.Cause}
+        self.assertEqual(names, of)
+
+    @unittest.skipUnless(PROGRAM.exists(), "the program is not built")
+    def test_the_program(self):
+        """The program names causes so."""
+        with tempfile.TemporaryDirectory() as folder:
+            over, file = pathlib.Path(folder, "over"), pathlib.Path(folder, "file")
+            for kind, name, _, mode, what in self.ROWS:
+                with self.subTest(name=name):
+                    if kind == "over":
+                        over.write_text(what)
+                        continue
+                    templates = folder + "/templates" if kind == "templates" else str(over)
+                    if kind == "templates":
+                        pathlib.Path(templates).write_text(what)
+                    file.write_text("" if kind == "templates" else what)
+                    words = ["write"] if kind == "line" else ["check", "--hex"]
+                    words += ["--strict"] * (mode in "13") + ["--blocks"] * (mode in "23")
+                    ended = subprocess.run([PROGRAM, *words, "--templates", templates, file], capture_output=True, text=True)
+                    cause = ended.stderr.removeprefix("templates ").split()[1]
+                    self.assertEqual(name_in_c(cause), name)
 
     def test_rows(self):
         over = next(row[4] for row in self.ROWS if row[0] == "over")
@@ -457,7 +503,7 @@ class Sets(unittest.TestCase):
         """A handle has the fields of fastcat.h."""
         fields = re.findall(r"(void \*|uint32_t )(\w+);", HEADER.split("struct fastcat_set {")[1].split("};")[0])
         kinds = {"void *": ctypes.c_void_p, "uint32_t ": ctypes.c_uint32}
-        self.assertEqual([(name, kinds[kind]) for kind, name in fields], library._Set._fields_)
+        self.assertEqual([(name, kinds[kind]) for kind, name in fields], library._library.RawSet._fields_)
 
     def test_memory_is_given_back(self):
         """A hundred sets of a megabyte and more, one after the other, take no more than a few."""
@@ -472,6 +518,56 @@ class Sets(unittest.TestCase):
             del read
         gc.collect()
         self.assertLess(resource.getrusage(resource.RUSAGE_SELF).ru_maxrss - before, 50_000)
+
+    def test_fields(self):
+        with library.Templates(WORKED) as read:
+            self.assertEqual(read.names, ("Quote", "Wrap", "Opt", "Legs", "Marks", "Bare", "Clash", "Tail", "Init", "Delta",
+                                          "Common", "Grp", "Uni", "Empty", "Const", "Fixed", "First"))
+            self.assertEqual(read.ids, dict(zip(range(1, 17), (it for it in read.names if it != "Common"))))
+            field = library.Field
+            self.assertEqual(read.fields(1), (field("Seq", "uInt32", 1, False), field("Sym", "ascii", 2, False),
+                                              field("Px", "decimal", 3, False), field("Qty", "uInt32", 4, True)))
+            self.assertEqual(read.fields("Opt")[0], field("Px", "decimal", 1, True))
+            self.assertEqual(read.fields("Legs"), (field("L", "sequence", 1, True, (field("P", "uInt32", 2, False),)),))
+            self.assertEqual(read.fields(11), (field("Hd", "group", 1, True, (field("A", "uInt32", 2, False),)),
+                                               field("B", "uInt32", 3, False)))
+            self.assertEqual(read.fields("Common"), (field("B", "uInt32", 1, False),))
+            self.assertEqual(read.fields(12)[0].kind, "unicode")
+            self.assertEqual(read.fields("Fixed")[1], field("Raw", "byteVector", 2, True))
+            for wanted in (0, 17, "quote", ""):
+                with self.assertRaises(KeyError):
+                    read.fields(wanted)
+        self.assertEqual(read.names[0], "Quote")
+        error = outcome(getattr, library.Templates('{"templates":[]}'), "names")
+        self.assertEqual(error, ())
+        closed = library.Templates(WORKED)
+        closed.close()
+        self.assertIs(outcome(closed.fields, 1).status, library.Status.WRONG_HANDLE)
+
+    def test_fields_of_examples(self):
+        """The fields are those of the text, its references replaced."""
+
+        def fields_of(instructions, numbers):
+            for it in instructions:
+                if it["kind"] == "templateRef":
+                    yield from fields_of(named[it["name"]], numbers)
+                    continue
+                kind = it.get("charset", "ascii") if it["kind"] == "string" else it["kind"]
+                number = next(numbers)
+                inside = tuple(fields_of(it.get("instructions", ()), numbers))
+                yield library.Field(it["name"], kind, number, it.get("presence") == "optional", inside)
+
+        for name in ("worked", "book", "trade", "moex", "cme", "eurex", "b3"):
+            with self.subTest(name=name), library.Templates(EXAMPLES / f"{name}.json") as read:
+                templates = json.loads(text(f"{name}.json"))["templates"]
+                named = {it["name"]: it["instructions"] for it in templates}
+                self.assertEqual(list(read.names), list(named))
+                self.assertEqual(read.ids, {it["id"]: it["name"] for it in templates if "id" in it})
+                for template in templates:
+                    wanted = tuple(fields_of(template["instructions"], itertools.count(1)))
+                    self.assertEqual(read.fields(template["name"]), wanted)
+                    if "id" in template:
+                        self.assertEqual(read.fields(template["id"]), wanted)
 
     def test_threads(self):
         """Threads use one object, and it may be closed meanwhile: a call is done or refused."""
@@ -492,6 +588,108 @@ class Sets(unittest.TestCase):
         for thread in threads:
             thread.join()
         self.assertEqual(wrong, [])
+
+
+class Xml(unittest.TestCase):
+    """Templates in XML stand for what the converter makes of them."""
+
+    def test_examples(self):
+        for name in ("worked", "book", "trade", "moex"):
+            packets = name == "moex"
+            for given in (EXAMPLES / f"{name}.xml", text(f"{name}.xml"), (EXAMPLES / f"{name}.xml").read_bytes(),
+                          "\ufeff" + text(f"{name}.xml")):
+                with self.subTest(name=name, given=type(given)), warnings.catch_warnings():
+                    warnings.simplefilter("ignore", library.XmlWarning)
+                    lines = fastcat.show(given, data(f"{name}.canon"), packets=packets)
+                    self.assertEqual(lines, text(f"{name}.lines"))
+
+    def test_encodings(self):
+        """A text is a text, whatever encoding it declares; bytes have the one that they declare."""
+        templates = ('<?xml version="1.0" encoding="%s"?><templates xmlns="http://www.fixprotocol.org/ns/fast/td/1.1">'
+                     '<template name="T" id="1"><string name="S" charset="unicode"><constant value="\u00e4"/></string></template>'
+                     '</templates>')
+        for encoding in ("iso-8859-1", "utf-8", "utf-16"):
+            for given in (templates % encoding, (templates % encoding).encode(encoding)):
+                with self.subTest(encoding=encoding, given=type(given)):
+                    self.assertEqual(library.show(given, b"\xc0\x81"), '1 T S="\\xc3\\xa4"\n')
+                    self.assertEqual(library.show(given, b"\xc0\x81", json=True),
+                                     '{"template":"T","id":1,"fields":{"S":"\u00e4"}}\n')
+
+    def test_refused(self):
+        error = outcome(library.canon, '<templates>\n<template name="T"><real name="A"/></template></templates>', b"")
+        self.assertIsInstance(error, library.XmlError)
+        self.assertEqual(error.line, 2)
+        self.assertRegex(str(error), "^line 2: <real ")
+        copied = pickle.loads(pickle.dumps(error))
+        self.assertEqual(str(copied), str(error))
+
+    def test_drop(self):
+        templates = '<templates><template name="T" id="1" x="y"><uInt32 name="A"/></template></templates>'
+        self.assertIsInstance(outcome(library.json_of_xml, templates), library.XmlError)
+        for drop in (["x"], "x"):
+            self.assertEqual(json.loads(library.json_of_xml(templates, drop=drop)),
+                             {"templates": [{"name": "T", "id": 1, "instructions": [{"kind": "uInt32", "name": "A"}]}]})
+        with self.assertRaisesRegex(ValueError, "^drop: name is FAST's own"):
+            library.json_of_xml(templates, drop=["name"])
+
+    def test_warning(self):
+        templates = '<templates><template name="Reset" id="1"/></templates>'
+        with self.assertWarnsRegex(library.XmlWarning, "^line 1: "):
+            library.Templates(templates).close()
+
+
+class Package(unittest.TestCase):
+    """The package, as a folder that lies elsewhere."""
+
+    VERSION = re.search(r'#define FASTCAT_VERSION "(.*)"', HEADER)[1]
+    SAY = "import fastcat; print(fastcat.__version__, fastcat._library.library._name)"
+
+    def said(self, folder, **names):
+        """What a program says that finds the package in a folder, by these names of its environment."""
+        environment = {name: value for name, value in os.environ.items() if name not in ("FASTCAT_LIBRARY", "LD_LIBRARY_PATH")}
+        ended = subprocess.run([sys.executable, "-B", "-c", self.SAY], capture_output=True, text=True, cwd=folder,
+                               env=environment | {"PYTHONPATH": str(folder)} | names)
+        return (ended.stdout + ended.stderr).splitlines()[-1]
+
+    def setUp(self):
+        room = tempfile.TemporaryDirectory()
+        self.addCleanup(room.cleanup)
+        self.folder = pathlib.Path(room.name).resolve()
+        shutil.copytree(TOP / "python" / "fastcat", self.folder / "fastcat", ignore=shutil.ignore_patterns("__pycache__"))
+        self.library = (TOP / "lib" / "libfastcat.so").resolve()
+
+    def test_version(self):
+        declared = (TOP / "python" / "pyproject.toml").read_text()
+        self.assertEqual(re.search(r'^version = "(.*)"$', declared, re.M)[1], self.VERSION)
+        self.assertEqual(library._library.CALLED, "libfastcat.so." + self.VERSION.rpartition(".")[0])
+
+    def test_where_the_library_is(self):
+        self.assertRegex(self.said(self.folder), "ImportError: no library at .*; lib/build makes it")
+        self.assertEqual(self.said(self.folder, FASTCAT_LIBRARY=str(self.library)), f"{self.VERSION} {self.library}")
+        self.assertRegex(self.said(self.folder, FASTCAT_LIBRARY="nowhere.so"), "ImportError: no library at .*/nowhere.so; ")
+        # (the loader knows a library by what it calls itself)
+        self.assertEqual(self.said(self.folder, LD_LIBRARY_PATH=str(TOP / "lib")), f"{self.VERSION} {library._library.CALLED}")
+        beside = self.folder / "fastcat" / "libfastcat.so"
+        shutil.copy(self.library, beside)
+        self.assertEqual(self.said(self.folder, LD_LIBRARY_PATH=str(TOP / "lib")), f"{self.VERSION} {beside}")
+
+    def test_another_version(self):
+        module = self.folder / "fastcat" / "_library.py"
+        module.write_text(module.read_text().replace(library._library.CALLED, "libfastcat.so.99.1"))
+        self.assertRegex(self.said(self.folder, FASTCAT_LIBRARY=str(self.library)), "ImportError: the library is of version")
+
+    def test_installed(self):
+        needed = "import importlib.util as it, sys; sys.exit(not all(map(it.find_spec, ('pip', 'setuptools', 'wheel'))))"
+        interpreters = [it for it in (sys.executable, shutil.which("python3", path=os.defpath))
+                        if it and subprocess.run([it, "-c", needed], capture_output=True).returncode == 0]
+        if not interpreters:
+            self.skipTest("no Python has pip, setuptools and wheel")
+        source, target = self.folder / "source", self.folder / "target"
+        shutil.copytree(TOP / "python", source, ignore=shutil.ignore_patterns("__pycache__", "build", "*.egg-info"))
+        subprocess.run([interpreters[0], "-m", "pip", "install", "--quiet", "--no-index", "--no-build-isolation", "--no-deps",
+                        "--target", target, source], check=True, capture_output=True)
+        self.assertTrue((target / "fastcat" / "py.typed").exists())
+        self.assertEqual(self.said(target, FASTCAT_LIBRARY=str(self.library)), f"{self.VERSION} {self.library}")
 
 
 if __name__ == "__main__":

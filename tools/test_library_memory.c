@@ -92,6 +92,29 @@ static void sharing(void) {
   expect(held == before, "the set is freed with its last share");
 }
 
+/* Each allocation refused in turn, the rooms stay as they are until the fields are put. */
+static void fields(void) {
+  static struct fastcat_field rows[64];
+  static uint8_t names[256];
+  struct fastcat_set set = {0};
+  struct fastcat_answer a;
+  struct fastcat_sizes sizes;
+  size_t before = held, one = 0, turns = 0;
+  expect(fastcat_set_new(templates, templates_length, &set, &a) == FASTCAT_DONE, "a set of fields");
+  one = held;
+  for (uint32_t status = FASTCAT_NO_MEMORY; status != FASTCAT_DONE; turns++) {
+    left = turns;
+    status = fastcat_set_fields(&set, rows, 64, names, 256, &sizes);
+    left = SIZE_MAX;
+    expect(held == one && works(&set), "the set stays");
+    expect(status == FASTCAT_DONE ? sizes.templates == 17 && names[0] == 'Q'
+                                  : status == FASTCAT_NO_MEMORY && sizes.fields == 0 && rows[0].length == 0 && names[0] == 0, "no fields");
+  }
+  expect(turns > 5, "allocations for fields are refused");
+  fastcat_set_free(&set);
+  expect(held == before, "all is freed behind fields");
+}
+
 int main(int count, char **words) {
   FILE *file = count == 2 ? fopen(words[1], "rb") : NULL;
   if (!file) {
@@ -102,6 +125,7 @@ int main(int count, char **words) {
   fclose(file);
   making();
   sharing();
+  fields();
   printf("C, memory: %u passed, %u failed\n", passed, failed);
   return failed != 0;
 }

@@ -1,5 +1,5 @@
 #!/usr/bin/env python3
-"""Tests of tools/xml-templates.
+"""Tests of tools/xml-templates, which is python/fastcat/xml_templates.py.
 
 usage: tools/test_xml_templates.py, or python3 -m unittest discover -s tools -p 'test_*.py'
 """
@@ -18,6 +18,7 @@ from unittest import mock
 
 TOP = Path(__file__).resolve().parent.parent
 PROGRAM = TOP / "tools" / "xml-templates"
+MODULE = TOP / "python" / "fastcat" / "xml_templates.py"
 STANDARD = "http://www.fixprotocol.org/ns/fast/td/1.1"
 SAMPLES = "http://www.fixprotocol.org/ns/template-definition"
 MOST_BYTES = 16_777_216
@@ -26,7 +27,7 @@ MOST_BYTES = 16_777_216
 def load():
     """The program as a module."""
     sys.dont_write_bytecode = True
-    loader = importlib.machinery.SourceFileLoader("xml_templates", str(PROGRAM))
+    loader = importlib.machinery.SourceFileLoader("xml_templates", str(MODULE))
     module = importlib.util.module_from_spec(importlib.util.spec_from_loader(loader.name, loader))
     sys.modules[loader.name] = module
     loader.exec_module(module)

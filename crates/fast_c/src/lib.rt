@@ -7,6 +7,7 @@
 #![tactic(auto)]
 
 mod exports;
+mod fields;
 mod set_exports;
 mod sets;
 
@@ -14,7 +15,9 @@ pub use exports::{
     fastcat_canon, fastcat_check, fastcat_show, fastcat_templates, fastcat_version, fastcat_write,
 };
 pub use fast_kept::Handle;
+pub use fast_layout::{Field, Sizes};
 pub use fast_slices::{Answer, Refusal};
+pub use fields::fastcat_set_fields;
 pub use set_exports::{
     fastcat_set_canon, fastcat_set_check, fastcat_set_free, fastcat_set_new, fastcat_set_share,
     fastcat_set_show, fastcat_set_write,
