@@ -6,11 +6,15 @@
 //! done by `fast_slices`.
 #![tactic(auto)]
 
+mod counts;
 mod exports;
 mod fields;
+mod reader_exports;
+mod readers;
 mod set_exports;
 mod sets;
 
+pub use counts::NodeCounts;
 pub use exports::{
     fastcat_canon, fastcat_check, fastcat_show, fastcat_templates, fastcat_version, fastcat_write,
 };
@@ -18,6 +22,10 @@ pub use fast_kept::Handle;
 pub use fast_layout::{Field, Sizes};
 pub use fast_slices::{Answer, Refusal};
 pub use fields::fastcat_set_fields;
+pub use reader_exports::{
+    fastcat_reader_feed, fastcat_reader_finish, fastcat_reader_free, fastcat_reader_new,
+    fastcat_reader_packet, fastcat_reader_reset, fastcat_reader_take,
+};
 pub use set_exports::{
     fastcat_set_canon, fastcat_set_check, fastcat_set_free, fastcat_set_new, fastcat_set_share,
     fastcat_set_show, fastcat_set_write,

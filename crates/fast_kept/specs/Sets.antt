@@ -7,3 +7,4 @@ use Rattle.fast_kept.specs.declared.kept.Kept.{Kept}
 abbrev pub set_of : Option Kept → Option TemplateList
 set_of None = None
 set_of (Some (Kept.Set set)) = Some set
+set_of (Some k) = None

@@ -7,5 +7,5 @@ mod parts;
 mod shared;
 
 pub use handle::Handle;
-pub use kept::{Kept, set_in};
+pub use kept::{Kept, Reader, Writer, set_in};
 pub use shared::SharedSet;

@@ -97,8 +97,8 @@ abbrev pub of_line : ℕ → ℕ → ℕ → ℕ → ℕ → Answer
 of_line line cause template instruction written = record (bare_of 7) { written = written; message = line; cause = cause; template = template; instruction = instruction }
 
 -- what C is answered: 0 done, 1 the stream or a packet is refused, 2 the templates are, 3 the room is too short for so many bytes, 4
--- memory was refused, 5 the mode is unknown, 6 the stream is too long, 7 a line is refused, 8 the handle has
--- nothing, or something else
+-- memory was refused, 5 the mode is unknown, 6 the stream is too long, 7 a line is refused, or a message that comes as nodes, 8 the
+-- handle has nothing, or something else, 9 the nodes are those of no message, 10 a message is too large
 abbrev pub answer_of : Result Counts Refusal → Answer
 answer_of (Ok s) = record (bare_of 0) { messages = s.messages; read = s.read; written = s.written; packets = s.packets }
 answer_of (Err (Refusal.Stream f written)) = of_fault f written
@@ -111,3 +111,5 @@ answer_of (Err Refusal.Memory) = bare_of 4
 answer_of (Err Refusal.Mode) = bare_of 5
 answer_of (Err Refusal.TooLong) = bare_of 6
 answer_of (Err Refusal.Handle) = bare_of 8
+answer_of (Err (Refusal.NoMessage message)) = record (bare_of 9) { message = message }
+answer_of (Err (Refusal.TooLarge message)) = record (bare_of 10) { message = message }

@@ -3,6 +3,7 @@ use Rattle.std.specs.Prelude.{ℕ, ◌-◌, ◌/◌, ◌%◌, nat_eq, if◌then�
 use Rattle.fast_wire.specs.declared.level.Level.{Level}
 use Rattle.fast_wire.specs.declared.level.Level.TheVariants.{Usual, Strict}
 use Rattle.fast_stream.specs.declared.mode.Framing.{Framing}
+use Rattle.fast_stream.specs.declared.mode.Mode.{Mode}
 use Rattle.fast_stream.specs.declared.mode.Framing.TheVariants.{Plain, Blocks}
 use Rattle.fast_lines.specs.declared.form.Form.{Form}
 use Rattle.fast_lines.specs.declared.form.Form.TheVariants.{Text, Json}
@@ -29,3 +30,12 @@ way_by form rest = option_map (λ reading. record { reading = reading; form = fo
 -- and 4 for lines in JSON; none where a word has other bits, or blocks and packets
 abbrev pub way_of : ℕ → Option Way
 way_of word = if nat_eq (word / 4 % 2) 1 then way_by Json (word - 4) else way_by Text word
+
+-- the mode of a stream that a word says alone
+abbrev pub mode_in : Option Reading → Option Mode
+mode_in (Some (Reading.Stream mode)) = Some mode
+mode_in (Some (Reading.Recording level)) = None
+mode_in None = None
+
+abbrev pub stream_mode_of : ℕ → Option Mode
+stream_mode_of word = mode_in (reading_of word)

@@ -55,6 +55,10 @@ pub enum Refusal {
     TooLong,
     /// The handle has nothing, or something else than is asked for.
     Handle,
+    /// What comes as nodes does not begin with a message; its number, counted from 1.
+    NoMessage(u64),
+    /// The message of this number, counted from 1, has more bytes of strings than its reader takes.
+    TooLarge(u64),
 }
 
 /// What a call answers C. Where nothing is said of a number it is 0.
@@ -261,5 +265,13 @@ pub fn answer_of(done: Result<Counts, Refusal>) -> Answer
         Err(Refusal::Mode) => bare(5),
         Err(Refusal::TooLong) => bare(6),
         Err(Refusal::Handle) => bare(8),
+        Err(Refusal::NoMessage(message)) => Answer {
+            message,
+            ..bare(9)
+        },
+        Err(Refusal::TooLarge(message)) => Answer {
+            message,
+            ..bare(10)
+        },
     }
 }

@@ -19,3 +19,4 @@ pub use call::{
 };
 pub use fast_command::VERSION_NUMBER;
 pub use lines::{write, write_over};
+pub use way::stream_mode_of;

@@ -1,7 +1,7 @@
 //! How a call reads and shows, by its word.
 
 ghost use Rattle.std.specs.Prelude.{◌≡◌};
-ghost use Rattle.fast_slices.specs.Ways.{reading_of as reading_of_lem, stream_by, way_of as way_of_lem};
+ghost use Rattle.fast_slices.specs.Ways.{reading_of as reading_of_lem, stream_by, stream_mode_of as stream_mode_of_lem, way_of as way_of_lem};
 
 use fast_lines::Form;
 use fast_stream::{Framing, Mode};
@@ -43,6 +43,16 @@ fn reading_of(word: u32) -> Option<Reading>
         8 => Some(Reading::Recording(Level::Usual)),
         9 => Some(Reading::Recording(Level::Strict)),
         _ => None,
+    }
+}
+
+/// The mode of a stream that a word of C stands for; none where it has a bit that says nothing of one.
+pub fn stream_mode_of(word: u32) -> Option<Mode>
+    ensures { result ≡ stream_mode_of_lem word }
+{
+    match reading_of(word) {
+        Some(Reading::Stream(mode)) => Some(mode),
+        Some(Reading::Recording(_)) | None => None,
     }
 }
 

@@ -1,0 +1,7 @@
+-- What is done with what a handle has.
+use Rattle.std.proofs.Common.{◌≡◌, Option, Some, refl}
+use Rattle.fast_kept.specs.declared.kept.Kept.{Kept}
+use Rattle.fast_c.specs.Reading.{HeldReader, ReaderOf}
+
+pub held_reader : {A : Type 0} (Does : ReaderOf → ReaderOf → A → Type 0) (Stays : Type 0) (old : Option Kept) (r later : ReaderOf) (done : A) → old ≡ Some (Kept.Reader r) → Does r later done → HeldReader Does Stays old (Some (Kept.Reader later)) (Some done)
+held_reader Does Stays old r later done was does = rw was (later, refl, does)

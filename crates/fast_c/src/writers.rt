@@ -1,0 +1,155 @@
+//! What is done with the writer behind a handle.
+
+ghost use Rattle.std.specs.Prelude.{◌≡◌, option_map};
+ghost use Rattle.fast_c.specs.Sets.{WithKept};
+ghost use Rattle.fast_c.specs.Writing.{BeginsAnew, HeldWriter, KeepsWriter, PutsAll, TakesBytes, bytes_told as bytes_told_lem, identifier_at as identifier_at_lem, put_counts as put_counts_lem, put_refused as put_refused_lem, put_told as put_told_lem, status_bytes as status_bytes_lem};
+
+use crate::counts::NodeCounts;
+use fast_dictionary::SlotEntries;
+use fast_encoder::EncodeCause;
+use fast_kept::{Handle, Kept, set_in};
+use fast_slices::{Counts, Refusal, no_counts};
+use fast_tape::TapeNode;
+use fast_untape::{Put, PutFault, TapeWriter};
+use std::alloc::Global;
+
+/// What is behind a handle, while a call has it.
+type Held = Option<Box<Kept>>;
+
+/// Puts a writer of the set that is held behind a handle, in place of what it has.
+pub(crate) fn keep_writer(
+    alloc: Global,
+    held: &Held,
+    writer: &mut Handle,
+) -> Result<Counts, Refusal>
+    ensures { WithKept (KeepsWriter writer.old.value writer.new.value) (writer.new.value ≡ writer.old.value)
+        (option_map (λ b. b.value) held.now) result }
+{
+    let Some(set) = set_in(held) else {
+        return Err(Refusal::Handle);
+    };
+    let Ok(set) = set.lasting(alloc) else {
+        return Err(Refusal::Memory);
+    };
+    let Ok(entries) = SlotEntries::new(alloc, set) else {
+        return Err(Refusal::Memory);
+    };
+    let made = TapeWriter::new(alloc, set, entries);
+    match writer.keep(alloc, Kept::Writer(made)) {
+        Ok(()) => Ok(no_counts()),
+        Err(_) => Err(Refusal::Memory),
+    }
+}
+
+/// Puts the messages that nodes are into the writer that is held; none where there is no writer.
+pub(crate) fn put_held(held: &mut Held, nodes: &[TapeNode], bytes: &[u8]) -> Option<Put>
+    ensures { HeldWriter (PutsAll nodes.now bytes.now) (Unit {0}) (option_map (λ b. b.value) held.old)
+        (option_map (λ b. b.value) held.new) result }
+{
+    match held {
+        Some(kept) => match &mut **kept {
+            Kept::Writer(writer) => Some(writer.put_all(nodes, bytes)),
+            Kept::Set(_) | Kept::Reader(_) => None,
+        },
+        None => None,
+    }
+}
+
+/// Puts the bytes that wait into a room, likewise.
+pub(crate) fn take_bytes_held(held: &mut Held, room: &mut [u8]) -> Option<Option<usize>>
+    ensures { HeldWriter (TakesBytes room.old room.new) (room.new ≡ room.old) (option_map (λ b. b.value) held.old)
+        (option_map (λ b. b.value) held.new) result }
+{
+    match held {
+        Some(kept) => match &mut **kept {
+            Kept::Writer(writer) => Some(writer.take(room)),
+            Kept::Set(_) | Kept::Reader(_) => None,
+        },
+        None => None,
+    }
+}
+
+/// Begins a new stream, likewise.
+pub(crate) fn begin_anew_held(held: &mut Held) -> Option<()>
+    ensures { HeldWriter BeginsAnew (Unit {0}) (option_map (λ b. b.value) held.old)
+        (option_map (λ b. b.value) held.new) result }
+{
+    match held {
+        Some(kept) => match &mut **kept {
+            Kept::Writer(writer) => {
+                writer.reset();
+                Some(())
+            }
+            Kept::Set(_) | Kept::Reader(_) => None,
+        },
+        None => None,
+    }
+}
+
+/// The identifier of the template of a message that begins there.
+fn identifier_at(nodes: &[TapeNode]) -> u32
+    ensures { result ≡ identifier_at_lem nodes.now }
+{
+    match nodes.first() {
+        Some(first) => first.instruction,
+        None => 0,
+    }
+}
+
+/// Why a message is not put, as C is told.
+fn put_refused(number: u64, template: u32, fault: PutFault) -> Refusal
+    ensures { result ≡ put_refused_lem number template fault }
+{
+    match fault {
+        PutFault::NoMessage => Refusal::NoMessage(number),
+        PutFault::Refused(fault) => match fault.cause {
+            EncodeCause::Memory => Refusal::Memory,
+            _ => Refusal::Message(number, template, fault, 0),
+        },
+    }
+}
+
+/// How a call that puts ended.
+pub(crate) fn put_told(nodes: &[TapeNode], done: &Option<Put>) -> Result<Counts, Refusal>
+    requires { (put : PutOf) → done.now ≡ Some put → (put.nodes ≤ length nodes.now) × (put.messages ≤ put.nodes) }
+    ensures { result ≡ put_told_lem nodes.now done.now }
+{
+    match done {
+        Some(put) => match put.fault {
+            None => Ok(Counts {
+                messages: put.messages as u64,
+                ..no_counts()
+            }),
+            Some(fault) => Err(put_refused(
+                put.messages as u64 + 1,
+                identifier_at(&nodes[put.nodes..]),
+                fault,
+            )),
+        },
+        None => Err(Refusal::Handle),
+    }
+}
+
+/// What was put, and what waits.
+pub(crate) fn put_counts(done: &Option<Put>, held: &Held) -> NodeCounts
+    ensures { result ≡ put_counts_lem done.now (option_map (λ b. b.value) held.now) }
+{
+    let none = NodeCounts {
+        used: 0,
+        messages: 0,
+        nodes: 0,
+        bytes: 0,
+    };
+    match (done, held) {
+        (Some(put), Some(kept)) => match &**kept {
+            Kept::Writer(writer) => NodeCounts {
+                used: put.nodes as u64,
+                messages: put.messages as u64,
+                bytes: writer.waiting() as u64,
+                ..none
+            },
+            Kept::Set(_) | Kept::Reader(_) => none,
+        },
+        _ => none,
+    }
+}
