@@ -1,5 +1,5 @@
 -- What calls with the writer behind a handle did, and what C is answered of them.
-use Rattle.std.specs.Prelude.{◌≡◌, ◌≤◌, ◌↔◌, ◌+◌, ◌++◌, [], ◌∷◌, ℕ, List, Option, Some, None, Result, Ok, Err, IfSome, IfNone, IsSome, length, take, drop}
+use Rattle.std.specs.Prelude.{◌≡◌, ◌≤◌, ◌↔◌, ◌+◌, nat_lt, if◌then◌else◌, ◌++◌, [], ◌∷◌, ℕ, List, Option, Some, None, Result, Ok, Err, IfSome, IfNone, IsSome, length, take, drop}
 use Rattle.std.specs.FinMap as finite
 use Rattle.fast_template.specs.TemplateSets.{TemplateList, templates_in}
 use Rattle.fast_dictionary.specs.declared.slots.SlotEntries.{SlotEntries}
@@ -55,7 +55,7 @@ pub record PutsAll (nodes : List TapeNode) (bytes : List ℕ) (old new : WriterO
 
 -- The bytes that wait were put into the room, or it is too short.
 pub record TakesBytes (room room' : List ℕ) (old new : WriterOf) (done : Option ℕ) : Type 0 where
-  pub room : IsSome done ↔ (length old.waiting.items ≤ length room)
+  pub fits : IsSome done ↔ (length old.waiting.items ≤ length room)
   pub count : IfSome done (λ count. count ≡ length old.waiting.items)
   pub bytes : IfSome done (λ count. room' ≡ old.waiting.items ++ drop count room)
   pub taken : IfSome done (λ count. (messages : List Content) (taken : List ℕ) → Wrote old messages taken → Wrote new messages (taken ++ take count room'))
@@ -84,24 +84,36 @@ abbrev pub put_refused : ℕ → ℕ → PutFault → Refusal
 put_refused number template PutFault.NoMessage = Refusal.NoMessage number
 put_refused number template (PutFault.Refused f) = message_told f.cause number template f
 
+-- the number of the message behind so many, as far as a number goes
+abbrev pub next_number : ℕ → ℕ
+next_number n = if nat_lt n 18446744073709551615 then n + 1 else 18446744073709551615
+
 abbrev pub put_answer : List TapeNode → Put → Option PutFault → Done
 put_answer nodes put None = Ok (record { packets = 0; messages = put.messages; read = 0; written = 0 })
-put_answer nodes put (Some f) = Err (put_refused (put.messages + 1) (identifier_at (drop put.nodes nodes)) f)
+put_answer nodes put (Some f) = Err (put_refused (next_number put.messages) (identifier_at (drop put.nodes nodes)) f)
 
 abbrev pub put_told : List TapeNode → Option Put → Done
 put_told nodes (Some put) = put_answer nodes put put.fault
 put_told nodes None = Err Refusal.Handle
 
+-- how many bytes wait in the writer of a handle
+abbrev pub bytes_in : Option Kept → ℕ
+bytes_in (Some (Kept.Writer w)) = length w.waiting.items
+bytes_in kept = 0
+
+abbrev pub counts_by : ℕ → ℕ → ℕ → NodeCounts
+counts_by used messages bytes = record { used = used; messages = messages; nodes = 0; bytes = bytes }
+
 -- what was put: how many nodes were used, the messages that were written of them, and the bytes that wait
 abbrev pub put_counts : Option Put → Option Kept → NodeCounts
-put_counts (Some put) (Some (Kept.Writer w)) = record { used = put.nodes; messages = put.messages; nodes = 0; bytes = length w.waiting.items }
-put_counts done kept = record { used = 0; messages = 0; nodes = 0; bytes = 0 }
+put_counts (Some put) kept = counts_by put.nodes put.messages (bytes_in kept)
+put_counts None kept = counts_by 0 0 0
 
--- the bytes that were taken, or where the room is too short that wait
+-- the bytes that were taken, or that wait where the room is too short
 abbrev pub bytes_told : Option (Option ℕ) → Option Kept → NodeCounts
-bytes_told (Some (Some count)) kept = record { used = 0; messages = 0; nodes = 0; bytes = count }
-bytes_told (Some None) (Some (Kept.Writer w)) = record { used = 0; messages = 0; nodes = 0; bytes = length w.waiting.items }
-bytes_told done kept = record { used = 0; messages = 0; nodes = 0; bytes = 0 }
+bytes_told (Some (Some count)) kept = counts_by 0 0 count
+bytes_told (Some None) kept = counts_by 0 0 (bytes_in kept)
+bytes_told None kept = counts_by 0 0 0
 
 abbrev pub status_bytes : Option (Option ℕ) → ℕ
 status_bytes (Some (Some count)) = 0

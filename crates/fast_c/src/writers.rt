@@ -1,8 +1,8 @@
 //! What is done with the writer behind a handle.
 
-ghost use Rattle.std.specs.Prelude.{◌≡◌, option_map};
+ghost use Rattle.std.specs.Prelude.{◌≡◌, drop, option_map};
 ghost use Rattle.fast_c.specs.Sets.{WithKept};
-ghost use Rattle.fast_c.specs.Writing.{BeginsAnew, HeldWriter, KeepsWriter, PutsAll, TakesBytes, bytes_told as bytes_told_lem, identifier_at as identifier_at_lem, put_counts as put_counts_lem, put_refused as put_refused_lem, put_told as put_told_lem, status_bytes as status_bytes_lem};
+ghost use Rattle.fast_c.specs.Writing.{BeginsAnew, HeldWriter, KeepsWriter, PutsAll, TakesBytes, bytes_in as bytes_in_lem, bytes_told as bytes_told_lem, identifier_at as identifier_at_lem, next_number as next_number_lem, put_counts as put_counts_lem, put_refused as put_refused_lem, put_told as put_told_lem, status_bytes as status_bytes_lem};
 
 use crate::counts::NodeCounts;
 use fast_dictionary::SlotEntries;
@@ -86,13 +86,24 @@ pub(crate) fn begin_anew_held(held: &mut Held) -> Option<()>
     }
 }
 
-/// The identifier of the template of a message that begins there.
-fn identifier_at(nodes: &[TapeNode]) -> u32
-    ensures { result ≡ identifier_at_lem nodes.now }
+/// The identifier of the template of a message that begins at a place; 0 where none does.
+fn identifier_at(nodes: &[TapeNode], at: usize) -> u32
+    ensures { result ≡ identifier_at_lem (drop at nodes.now) }
 {
-    match nodes.first() {
-        Some(first) => first.instruction,
-        None => 0,
+    if at >= nodes.len() {
+        return 0;
+    }
+    nodes[at].instruction
+}
+
+/// The number of the message behind so many, as far as a number goes.
+fn next_number(messages: usize) -> u64
+    ensures { result ≡ next_number_lem messages }
+{
+    if messages < usize::MAX {
+        messages as u64 + 1
+    } else {
+        u64::MAX
     }
 }
 
@@ -111,7 +122,6 @@ fn put_refused(number: u64, template: u32, fault: PutFault) -> Refusal
 
 /// How a call that puts ended.
 pub(crate) fn put_told(nodes: &[TapeNode], done: &Option<Put>) -> Result<Counts, Refusal>
-    requires { (put : PutOf) → done.now ≡ Some put → (put.nodes ≤ length nodes.now) × (put.messages ≤ put.nodes) }
     ensures { result ≡ put_told_lem nodes.now done.now }
 {
     match done {
@@ -121,8 +131,8 @@ pub(crate) fn put_told(nodes: &[TapeNode], done: &Option<Put>) -> Result<Counts,
                 ..no_counts()
             }),
             Some(fault) => Err(put_refused(
-                put.messages as u64 + 1,
-                identifier_at(&nodes[put.nodes..]),
+                next_number(put.messages),
+                identifier_at(nodes, put.nodes),
                 fault,
             )),
         },
@@ -130,26 +140,59 @@ pub(crate) fn put_told(nodes: &[TapeNode], done: &Option<Put>) -> Result<Counts,
     }
 }
 
+/// Counts of nothing but what was used and what waits.
+fn counts(used: usize, messages: usize, bytes: usize) -> NodeCounts
+    ensures { result ≡ record { used = used; messages = messages; nodes = 0; bytes = bytes } }
+{
+    NodeCounts {
+        used: used as u64,
+        messages: messages as u64,
+        nodes: 0,
+        bytes: bytes as u64,
+    }
+}
+
+/// How many bytes wait in the writer that is held; 0 where there is none.
+fn bytes_in(held: &Held) -> usize
+    ensures { result ≡ bytes_in_lem (option_map (λ b. b.value) held.now) }
+{
+    match held {
+        Some(kept) => match &**kept {
+            Kept::Writer(writer) => writer.waiting(),
+            Kept::Set(_) | Kept::Reader(_) => 0,
+        },
+        None => 0,
+    }
+}
+
 /// What was put, and what waits.
 pub(crate) fn put_counts(done: &Option<Put>, held: &Held) -> NodeCounts
     ensures { result ≡ put_counts_lem done.now (option_map (λ b. b.value) held.now) }
 {
-    let none = NodeCounts {
-        used: 0,
-        messages: 0,
-        nodes: 0,
-        bytes: 0,
-    };
-    match (done, held) {
-        (Some(put), Some(kept)) => match &**kept {
-            Kept::Writer(writer) => NodeCounts {
-                used: put.nodes as u64,
-                messages: put.messages as u64,
-                bytes: writer.waiting() as u64,
-                ..none
-            },
-            Kept::Set(_) | Kept::Reader(_) => none,
-        },
-        _ => none,
+    match done {
+        Some(put) => counts(put.nodes, put.messages, bytes_in(held)),
+        None => counts(0, 0, 0),
+    }
+}
+
+/// The bytes that were taken, or that wait where the room is too short.
+pub(crate) fn bytes_told(done: &Option<Option<usize>>, held: &Held) -> NodeCounts
+    ensures { result ≡ bytes_told_lem done.now (option_map (λ b. b.value) held.now) }
+{
+    match done {
+        Some(Some(count)) => counts(0, 0, *count),
+        Some(None) => counts(0, 0, bytes_in(held)),
+        None => counts(0, 0, 0),
+    }
+}
+
+/// The status of a call that takes bytes.
+pub(crate) fn status_bytes(done: &Option<Option<usize>>) -> u32
+    ensures { result ≡ status_bytes_lem done.now }
+{
+    match done {
+        Some(Some(_)) => 0,
+        Some(None) => 3,
+        None => 8,
     }
 }
