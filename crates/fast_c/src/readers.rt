@@ -74,10 +74,7 @@ pub(crate) fn feed_held(held: &mut Held, chunk: &[u8]) -> Option<Result<usize, T
 }
 
 /// Reads a packet, likewise.
-pub(crate) fn read_packet_held(
-    held: &mut Held,
-    packet: &[u8],
-) -> Option<Result<usize, TapeFault>>
+pub(crate) fn read_packet_held(held: &mut Held, packet: &[u8]) -> Option<Result<usize, TapeFault>>
     ensures { HeldReader (ReadsPacket packet.now) (Unit {0}) (option_map (λ b. b.value) held.old)
         (option_map (λ b. b.value) held.new) result }
 {

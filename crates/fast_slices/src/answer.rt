@@ -265,10 +265,7 @@ pub fn answer_of(done: Result<Counts, Refusal>) -> Answer
         Err(Refusal::Mode) => bare(5),
         Err(Refusal::TooLong) => bare(6),
         Err(Refusal::Handle) => bare(8),
-        Err(Refusal::NoMessage(message)) => Answer {
-            message,
-            ..bare(9)
-        },
+        Err(Refusal::NoMessage(message)) => Answer { message, ..bare(9) },
         Err(Refusal::TooLarge(message)) => Answer {
             message,
             ..bare(10)
