@@ -1,5 +1,5 @@
-use Rattle.std.proofs.Common.{None, ◌∙◌, rules, refl}
-use Rattle.fast_tape.proofs.Taking.{tells_none, tells_on}
+use Rattle.std.proofs.Common.{None, ◌∙◌, rules}
+use Rattle.fast_tape.proofs.Taking.{tells_on}
 use Rattle.fast_tape.proofs.fields.tell_fields.Goals as goal
 
 pub fields-preserved : goal.fields-preserved
