@@ -57,7 +57,9 @@ enum fastcat_status {
    * where, and message is the line's number, from 1. written says how many bytes of the lines before are in the room. */
   FASTCAT_LINE_REFUSED = 7,
   /* The set has no templates, or the handle is of something else; nothing was done. */
-  FASTCAT_WRONG_HANDLE = 8
+  FASTCAT_WRONG_HANDLE = 8,
+  /* A message has more bytes of strings than its reader takes: message says which. */
+  FASTCAT_MESSAGE_TOO_LARGE = 10
 };
 
 /* Why a stream, a line or templates are refused; docs/FORMAT.md, "Causes" and "Lines that are written". */
@@ -115,6 +117,7 @@ static inline const char *fastcat_status_name(uint32_t status) {
   case FASTCAT_STREAM_TOO_LONG: return "stream too long";
   case FASTCAT_LINE_REFUSED: return "line refused";
   case FASTCAT_WRONG_HANDLE: return "wrong handle";
+  case FASTCAT_MESSAGE_TOO_LARGE: return "message too large";
   default: return "unknown";
   }
 }
@@ -233,19 +236,21 @@ uint32_t fastcat_set_write(struct fastcat_set *set, uint32_t mode, const uint8_t
 
 /* ---- the fields that the messages of a set have */
 
-/* What a field is: its type, or that it has fields of its own. */
+/* What a field or a node of a message is: its type, or that it has others of its own. Behind each what a node of it says. */
 enum fastcat_kind {
-  FASTCAT_MESSAGE = 0, /* a template */
-  FASTCAT_UINT32 = 2,
-  FASTCAT_UINT64 = 3,
-  FASTCAT_INT32 = 4,
-  FASTCAT_INT64 = 5,
-  FASTCAT_DECIMAL = 6,
-  FASTCAT_ASCII = 7,
-  FASTCAT_UNICODE = 8,
-  FASTCAT_BYTES = 9,
+  FASTCAT_MESSAGE = 0,   /* a template, or a message of the one whose identifier is the instruction */
+  FASTCAT_ABSENT = 1,    /* (of nodes alone) left out */
+  FASTCAT_UINT32 = 2,    /* number */
+  FASTCAT_UINT64 = 3,    /* number */
+  FASTCAT_INT32 = 4,     /* mantissa */
+  FASTCAT_INT64 = 5,     /* mantissa */
+  FASTCAT_DECIMAL = 6,   /* mantissa times ten to the exponent */
+  FASTCAT_ASCII = 7,     /* the length bytes from number on, of the bytes that came with the nodes; no zero ends them */
+  FASTCAT_UNICODE = 8,   /* likewise, UTF-8 */
+  FASTCAT_BYTES = 9,     /* likewise */
   FASTCAT_GROUP = 10,
-  FASTCAT_SEQUENCE = 11
+  FASTCAT_SEQUENCE = 11, /* number: how many elements */
+  FASTCAT_ELEMENT = 12   /* (of nodes alone) */
 };
 
 /* A field, of 32 bytes. */
@@ -274,6 +279,77 @@ uint32_t fastcat_set_fields(struct fastcat_set *set, struct fastcat_field *field
 /* The field behind this one and all that are its own: the next one of its level, if there is one. */
 static inline const struct fastcat_field *fastcat_next_field(const struct fastcat_field *field) {
   return field + 1 + field->length;
+}
+
+/* ---- messages as nodes */
+
+/* A node, of 32 bytes; what its kind says nothing of is 0. A message is nodes, depth first: a MESSAGE, a node for each field of its
+ * template, in order, behind a GROUP its fields, and behind a SEQUENCE an ELEMENT for each element, each with its fields behind it. */
+struct fastcat_node {
+  uint32_t kind;        /* enum fastcat_kind */
+  uint32_t instruction; /* the instruction's number, from 1; of a message the template's identifier */
+  uint64_t number;
+  int64_t mantissa;
+  uint32_t length;      /* of a string its bytes; of a message, group, sequence or element how many nodes behind it are its own */
+  int32_t exponent;
+};
+
+/* Each call that takes these sets every field. */
+struct fastcat_counts {
+  uint64_t used;                   /* how many bytes of a chunk were taken */
+  uint64_t messages, nodes, bytes; /* what waits in a reader after a call, or was taken */
+};
+
+/* Why and where a stream is refused, to 0 where it says nothing. */
+struct fastcat_refusal {
+  uint64_t message, offset;
+  uint32_t status, cause, template_id, instruction;
+};
+
+/* A reader at a place of a stream, by a handle as a set's. */
+struct fastcat_reader {
+  void *at;
+  uint32_t there;
+};
+
+/* A reader at the beginning of a stream, in the mode of FASTCAT_STRICT and FASTCAT_BLOCKS. A message whose strings have more than
+ * most_bytes is not read (0: 64 MiB). */
+uint32_t fastcat_reader_new(struct fastcat_set *set, uint32_t mode, uint64_t most_bytes, struct fastcat_reader *reader);
+
+/* Takes bytes from the front of the next of the stream, however they are cut. The messages that they end wait in the reader. It
+ * stops where 65,536 nodes or 1 MiB of strings wait: take them, and feed the rest, from used on. A refusal comes with the
+ * messages before it, and is kept until the reset: later calls answer it again. */
+uint32_t fastcat_reader_feed(struct fastcat_reader *reader, const uint8_t *chunk, size_t length, struct fastcat_counts *waiting,
+                             struct fastcat_refusal *refusal);
+
+/* The same with a packet, which is a stream of its own, from undefined entries. Where all of it is used, it has also ended. */
+uint32_t fastcat_reader_packet(struct fastcat_reader *reader, const uint8_t *packet, size_t length,
+                               struct fastcat_counts *waiting, struct fastcat_refusal *refusal);
+
+/* Puts the messages that wait, all or none, into the front of the rooms, and forgets them. Rooms of 131,072 nodes, and of 1 MiB
+ * and most_bytes, are always enough. */
+uint32_t fastcat_reader_take(struct fastcat_reader *reader, struct fastcat_node *nodes, size_t nodes_length, uint8_t *bytes,
+                             size_t bytes_length, struct fastcat_counts *taken);
+
+/* The end of the stream: refused as Truncated inside a message or a block. */
+uint32_t fastcat_reader_finish(struct fastcat_reader *reader, struct fastcat_refusal *refusal);
+
+/* The beginning of a new stream, from undefined entries; what waits is forgotten. */
+uint32_t fastcat_reader_reset(struct fastcat_reader *reader);
+
+/* Ends the handle, which is zeros again. */
+void fastcat_reader_free(struct fastcat_reader *reader);
+
+/* The node behind this one and all that are its own: the next field, element or message. */
+static inline const struct fastcat_node *fastcat_next(const struct fastcat_node *node) {
+  return node + 1 + (node->kind == FASTCAT_MESSAGE || node->kind >= FASTCAT_GROUP ? node->length : 0);
+}
+
+/* The field of a message, group or element that stands at a place, from 0. */
+static inline const struct fastcat_node *fastcat_at(const struct fastcat_node *segment, size_t place) {
+  const struct fastcat_node *node = segment + 1;
+  while (place--) node = fastcat_next(node);
+  return node;
 }
 
 #ifdef __cplusplus

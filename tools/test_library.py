@@ -6,6 +6,7 @@ import copy
 import ctypes
 import decimal
 import gc
+import io
 import itertools
 import json
 import os
@@ -14,6 +15,7 @@ import pickle
 import re
 import resource
 import shutil
+import socket
 import subprocess
 import sys
 import tempfile
@@ -360,14 +362,17 @@ class Causes(unittest.TestCase):
                          [(name, 8 * ctypes.sizeof(kind)) for name, kind in fastcat._library.RawAnswer._fields_])
 
     def test_fields(self):
-        """Fields, sizes and kinds are those of fastcat.h."""
-        for name, raw in (("field", fastcat._library.RawField), ("sizes", fastcat._library.RawSizes)):
+        """Fields, sizes, what a reader counts and kinds are those of fastcat.h."""
+        for name, raw in (("field", fastcat._library.RawField), ("sizes", fastcat._library.RawSizes),
+                          ("counts", fastcat._library.RawCounts), ("refusal", fastcat._library.RawRefusal)):
             declared = HEADER.split(f"struct fastcat_{name} {{")[1].split("};")[0]
-            parts = [(one, int(bits)) for bits, names in re.findall(r"uint(\d+)_t ([\w, ]+);", declared) for one in names.split(", ")]
+            parts = [(one.removesuffix("_id"), int(bits)) for bits, names in re.findall(r"uint(\d+)_t ([\w, ]+);", declared)
+                     for one in names.split(", ")]
             self.assertEqual(parts, [(one, 8 * ctypes.sizeof(kind)) for one, kind in raw._fields_])
         kinds = re.findall(r"FASTCAT_(\w+) = (\d+)", HEADER.split("enum fastcat_kind")[1].split("};")[0])
         named = {"bytes": "bytevector"}
-        self.assertEqual({int(number): named.get(name.lower(), name.lower()) for name, number in kinds if name != "MESSAGE"},
+        others = ("MESSAGE", "ABSENT", "ELEMENT")
+        self.assertEqual({int(number): named.get(name.lower(), name.lower()) for name, number in kinds if name not in others},
                          {number: kind.lower() for number, kind in fastcat._templates.KINDS.items()})
 
     def test_names(self):
@@ -588,6 +593,131 @@ class Sets(unittest.TestCase):
         for thread in threads:
             thread.join()
         self.assertEqual(wrong, [])
+
+
+def in_pieces(stream, size):
+    return [stream[at : at + size] for at in range(0, len(stream), size)]
+
+
+def packets_of(recording):
+    """The packets of a recording: of each a size, in groups of seven bits up to a stop bit, and as many bytes."""
+    at = 0
+    while at < len(recording):
+        size = 0
+        while True:
+            size, at = size << 7 | recording[at] & 0x7F, at + 1
+            if recording[at - 1] & 0x80:
+                break
+        yield recording[at : at + size]
+        at += size
+
+
+def as_line(value):
+    """A value of a message as `json.loads` has it."""
+    if isinstance(value, dict):
+        return {name: as_line(inner) for name, inner in value.items()}
+    if isinstance(value, list):
+        return [as_line(inner) for inner in value]
+    return value.hex() if isinstance(value, bytes) else value
+
+
+class Reading(unittest.TestCase):
+    """Messages as data are those of the lines in JSON."""
+
+    def test_pieces(self):
+        for name in ("worked", "book", "trade"):
+            wanted = messages(text(f"{name}.jsonl"))
+            for stream, blocks in ((data(f"{name}.hex"), False), (data(f"{name}.blocks"), True)):
+                for size in (1, 2, 3, 7, 65536):
+                    with self.subTest(name=name, blocks=blocks, size=size):
+                        for given in (stream, in_pieces(stream, size)):
+                            read = list(library.messages(EXAMPLES / f"{name}.json", given, blocks=blocks, chunk=size))
+                            self.assertEqual(as_line(read), wanted)
+
+    def test_written_again(self):
+        for name in ("worked", "book", "trade"):
+            with library.Templates(text(f"{name}.json")) as read:
+                self.assertEqual(library.write(read, library.messages(read, data(f"{name}.hex"))), data(f"{name}.canon"))
+
+    def test_packets(self):
+        read = list(library.messages(EXAMPLES / "moex.json", packets_of(data("moex.packets")), packets=True))
+        self.assertEqual(as_line(read), messages(text("moex.jsonl")))
+        self.assertEqual(library.write(EXAMPLES / "moex.json", read, packets=True), data("moex.canon"))
+
+    def test_sources(self):
+        stream, wanted = data("worked.hex"), messages(text("worked.jsonl"))
+        with tempfile.TemporaryDirectory() as folder:
+            file = pathlib.Path(folder, "stream")
+            file.write_bytes(stream)
+            ours, theirs = socket.socketpair()
+            with ours, open(file, "rb") as opened:
+                theirs.sendall(stream)
+                theirs.close()
+                for given in (file, opened, io.BytesIO(stream), ours, bytearray(stream), memoryview(stream), iter([stream[:3], stream[3:]])):
+                    with self.subTest(given=type(given)):
+                        self.assertEqual(list(library.messages(WORKED, given)), wanted)
+        for given in (5, "f0", None):
+            with self.assertRaisesRegex(TypeError, "wanted"):
+                list(library.messages(WORKED, given))
+
+    def test_values(self):
+        [message] = library.messages(WORKED, ONE)
+        self.assertEqual(message, {"template": "Quote", "id": 1, "fields": {"Seq": 1, "Sym": "AB", "Px": decimal.Decimal("1.00"), "Qty": None}})
+        self.assertEqual(str(message["fields"]["Px"]), "1.00")
+        self.assertEqual(list(message["fields"]), ["Seq", "Sym", "Px", "Qty"])
+        [message] = library.messages(WORKED, ONE, decimals="pair", fields="pairs")
+        self.assertEqual(message["fields"], [("Seq", 1), ("Sym", "AB"), ("Px", (100, -2)), ("Qty", None)])
+        [message] = library.messages(WORKED, bytes.fromhex("e08f00e48301ff"))
+        self.assertEqual(message["fields"]["Raw"], b"\x01\xff")
+
+    def test_a_name_that_stands_twice(self):
+        inside = [{"kind": "uInt32", "name": "A"}, {"kind": "uInt32", "name": "A"}]
+        for instructions in (inside, [{"kind": "group", "name": "A", "instructions": inside}]):
+            given = json.dumps({"templates": [{"name": "T", "id": 5, "instructions": instructions}]})
+            with self.assertRaisesRegex(ValueError, 'the name "A" stands twice in "T"'):
+                library.Reader(given)
+        [message] = library.messages(given, b"\xc0\x85\x86\x87", fields="pairs")
+        self.assertEqual(message["fields"], [("A", [("A", 6), ("A", 7)])])
+
+    def test_faults(self):
+        """The messages before a fault come first, and the error is kept."""
+        with library.Reader(WORKED) as reader:
+            read = reader.feed(ONE + b"\x80\x80\x81" + b"\xc0\xff")
+            self.assertEqual([next(read)["fields"]["Seq"], next(read)["fields"]["Seq"]], [1, 2])
+            for call in (lambda: next(read), lambda: list(reader.feed(ONE)), reader.finish):
+                error = outcome(call)
+                self.assertEqual(str(error), "refused D9 message=3 offset=12 template=0 instruction=0")
+                self.assertEqual(error.answer.messages, 2)
+            reader.reset()
+            self.assertEqual(len(list(reader.feed(ONE + b"\x80"))), 1)
+            self.assertEqual(str(outcome(reader.finish)), "refused Truncated message=2 offset=9 template=1 instruction=3")
+        error = outcome(list, library.messages(WORKED, bytes.fromhex("f08100008141c2fe00e4"), strict=True))
+        self.assertEqual(str(error), "refused R6 message=1 offset=2 template=1 instruction=1")
+
+    def test_in_turn(self):
+        reader = library.Reader(WORKED)
+        first = reader.feed(ONE * 2)
+        next(first)
+        with self.assertRaisesRegex(RuntimeError, "not all taken"):
+            next(reader.feed(ONE))
+        reader.close()
+        reader.close()
+
+    def test_much_in_one_chunk(self):
+        """A chunk that ends 200,000 messages, of a million nodes."""
+        stream = ONE + bytes.fromhex("808081") * 199_999
+        last = None
+        for count, last in enumerate(library.messages(WORKED, stream, chunk=len(stream)), 1):
+            pass
+        self.assertEqual((count, last["fields"]["Seq"]), (200_000, 200_000))
+
+    def test_memory_is_flat(self):
+        pieces = itertools.chain([ONE], itertools.repeat(bytes.fromhex("808081") * 20_000, 20))
+        read = library.messages(WORKED, pieces)
+        next(read)
+        before = resource.getrusage(resource.RUSAGE_SELF).ru_maxrss
+        self.assertEqual(sum(1 for _ in read), 400_000)
+        self.assertLess(resource.getrusage(resource.RUSAGE_SELF).ru_maxrss - before, 20_000)
 
 
 class Xml(unittest.TestCase):

@@ -8,6 +8,7 @@ the repository's lib/, where lib/build puts it; or the one that the loader finds
 
 from ._answers import Answer, Cause, FastcatError, Status
 from ._calls import canon, check, check_templates, show, write
+from ._messages import Reader, messages
 from ._library import library as _loaded
 from ._library import version_of as _version_of
 from ._templates import Field, Templates, XmlError, XmlWarning, json_of_xml
@@ -17,6 +18,7 @@ __all__ = [
     "Cause",
     "FastcatError",
     "Field",
+    "Reader",
     "Status",
     "Templates",
     "XmlError",
@@ -25,6 +27,7 @@ __all__ = [
     "check",
     "check_templates",
     "json_of_xml",
+    "messages",
     "show",
     "write",
 ]

@@ -46,6 +46,26 @@ class RawSizes(ctypes.Structure):
     _fields_ = [(name, ctypes.c_uint64) for name in ("templates", "fields", "names")]
 
 
+class RawReader(ctypes.Structure):
+    """struct fastcat_reader, a handle as that of templates."""
+
+    _fields_ = [("at", ctypes.c_void_p), ("there", ctypes.c_uint32)]
+
+
+class RawCounts(ctypes.Structure):
+    """struct fastcat_counts."""
+
+    _fields_ = [(name, ctypes.c_uint64) for name in ("used", "messages", "nodes", "bytes")]
+
+
+class RawRefusal(ctypes.Structure):
+    """struct fastcat_refusal."""
+
+    _fields_ = [(name, ctypes.c_uint64) for name in ("message", "offset")] + [
+        (name, ctypes.c_uint32) for name in ("status", "cause", "template", "instruction")
+    ]
+
+
 def places() -> list[str]:
     """Where the library may be: what FASTCAT_LIBRARY names, and nothing else; or in this folder, in the repository's lib/, or
     where the loader looks."""
@@ -92,6 +112,18 @@ def load() -> ctypes.CDLL:
         "fastcat_set_free": handle,
         "fastcat_set_fields": handle + room + room + [ctypes.POINTER(RawSizes)],
     }
+    reader = [ctypes.POINTER(RawReader)]
+    counts, refusal = [ctypes.POINTER(RawCounts)], [ctypes.POINTER(RawRefusal)]
+    functions |= {
+        "fastcat_reader_new": handle + [ctypes.c_uint32, ctypes.c_uint64] + reader,
+        # (by an address, so that a chunk is fed on from any place)
+        "fastcat_reader_feed": reader + [ctypes.c_void_p, ctypes.c_size_t] + counts + refusal,
+        "fastcat_reader_packet": reader + [ctypes.c_void_p, ctypes.c_size_t] + counts + refusal,
+        "fastcat_reader_take": reader + room + room + counts,
+        "fastcat_reader_finish": reader + refusal,
+        "fastcat_reader_reset": reader,
+        "fastcat_reader_free": reader,
+    }
     for name, arguments in (
         ("canon", [ctypes.c_uint32] + slice_in + room + answer),
         ("check", [ctypes.c_uint32] + slice_in + answer),
@@ -103,7 +135,7 @@ def load() -> ctypes.CDLL:
     for name, arguments in functions.items():
         function = getattr(library, name)
         function.argtypes = arguments
-        function.restype = None if name == "fastcat_set_free" else ctypes.c_uint32
+        function.restype = None if name.endswith("_free") else ctypes.c_uint32
     return library
 
 
