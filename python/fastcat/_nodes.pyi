@@ -1,0 +1,1 @@
+from ._values import Decoder as Decoder
