@@ -329,17 +329,30 @@ static void free_segment(struct segment *segment) {
   PyMem_Free(segment);
 }
 
+/* A tuple of a name and something else. */
+static int name_and(PyObject *pair, PyObject **name, PyObject **other) {
+  if (PyTuple_Check(pair)) return PyArg_ParseTuple(pair, "UO", name, other) ? 0 : -1;
+  PyErr_SetString(PyExc_TypeError, "a layout has tuples of a name and what is inside");
+  return -1;
+}
+
 /* Of a tuple of pairs: a name, and such a tuple or None. */
 static struct segment *segment_in(PyObject *layout, int is_pairs) {
-  if (!PyTuple_Check(layout)) return PyErr_SetString(PyExc_TypeError, "a layout is a tuple"), NULL;
+  if (!PyTuple_Check(layout)) {
+    PyErr_SetString(PyExc_TypeError, "a layout is a tuple");
+    return NULL;
+  }
   Py_ssize_t count = PyTuple_GET_SIZE(layout);
   struct segment *segment = PyMem_Calloc(1, sizeof *segment + (size_t)count * sizeof *segment->fields);
-  if (!segment) return PyErr_NoMemory(), NULL;
+  if (!segment) {
+    PyErr_NoMemory();
+    return NULL;
+  }
   segment->count = count;
   if (!is_pairs && !(segment->empty = PyDict_New())) goto failed;
   for (Py_ssize_t i = 0; i < count; i++) {
     PyObject *name, *inside;
-    if (!PyArg_ParseTuple(PyTuple_GET_ITEM(layout, i), "UO", &name, &inside)) goto failed;
+    if (name_and(PyTuple_GET_ITEM(layout, i), &name, &inside) < 0) goto failed;
     /* (a name that is one object is found faster in a dict) */
     segment->fields[i].name = Py_NewRef(name);
     PyUnicode_InternInPlace(&segment->fields[i].name);
@@ -362,7 +375,11 @@ static int set(PyObject *dict, const char *name, PyObject *value) {
 static int template_in(struct template *template, PyObject *number, PyObject *told, int is_pairs) {
   PyObject *name, *layout;
   unsigned long of = PyLong_AsUnsignedLong(number);
-  if (PyErr_Occurred() || !PyArg_ParseTuple(told, "UO", &name, &layout)) return -1;
+  if (PyErr_Occurred() || name_and(told, &name, &layout) < 0) return -1;
+  if (of > UINT32_MAX) {
+    PyErr_SetString(PyExc_OverflowError, "an identifier is below 2^32");
+    return -1;
+  }
   template->number = (uint32_t)of;
   if (!(template->message = PyDict_New()) || !(template->packed = PyDict_New())) return -1;
   if (set(template->packed, "packet", Py_None) < 0) return -1;
