@@ -40,21 +40,20 @@ int main(int count, char **words) {
   struct fastcat_set set = {0};
   struct fastcat_answer answer;
   struct fastcat_reader reader = {0};
-  struct fastcat_refusal refusal;
   struct fastcat_counts all = {0}, waiting, taken;
   if (fastcat_set_new(text, text_length, &set, &answer)) return 2;
   long before = greatest();
   if (fastcat_reader_new(&set, 0, 0, &reader)) return 2;
   while (at < length && strcmp(words[3], "read") == 0) {
     size_t chunk = length - at < CHUNK ? length - at : CHUNK;
-    if (fastcat_reader_feed(&reader, stream + at, chunk, &waiting, &refusal)) return 1;
+    if (fastcat_reader_feed(&reader, stream + at, chunk, &waiting, &answer)) return 1;
     if (fastcat_reader_take(&reader, nodes, NODES, bytes, BYTES, &taken)) return 1;
     at += waiting.used;
     all.messages += taken.messages;
     all.nodes += taken.nodes;
     all.bytes += taken.bytes;
   }
-  if (fastcat_reader_finish(&reader, &refusal)) return 1;
+  if (fastcat_reader_finish(&reader, &answer)) return 1;
   printf("%llu %llu %llu %ld\n", (unsigned long long)all.messages, (unsigned long long)all.nodes, (unsigned long long)all.bytes,
          greatest() - before);
   fastcat_reader_free(&reader);

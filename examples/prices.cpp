@@ -132,19 +132,19 @@ class Prices {
   void packet(const uint8_t *packet, size_t length) {
     packets_++;
     fastcat_counts waiting;
-    fastcat_refusal refusal;
-    uint32_t status = fastcat_reader_packet(&reader_, packet, length, &waiting, &refusal);
+    fastcat_answer answer;
+    uint32_t status = fastcat_reader_packet(&reader_, packet, length, &waiting, &answer);
     print(waiting);
     // (more waits than a reader holds: only where a packet has thousands of fields)
     for (size_t at = waiting.used; status == FASTCAT_DONE && at < length; at += waiting.used) {
-      status = fastcat_reader_feed(&reader_, packet + at, length - at, &waiting, &refusal);
+      status = fastcat_reader_feed(&reader_, packet + at, length - at, &waiting, &answer);
       print(waiting);
-      if (status == FASTCAT_DONE && at + waiting.used == length) status = fastcat_reader_finish(&reader_, &refusal);
+      if (status == FASTCAT_DONE && at + waiting.used == length) status = fastcat_reader_finish(&reader_, &answer);
     }
     if (status != FASTCAT_DONE)
       std::fprintf(stderr, "packet %llu: %s %s at message %llu, offset %llu\n", packets_, fastcat_status_name(status),
-                   fastcat_cause_name(refusal.cause), static_cast<unsigned long long>(refusal.message),
-                   static_cast<unsigned long long>(refusal.offset));
+                   fastcat_cause_name(answer.cause), static_cast<unsigned long long>(answer.message),
+                   static_cast<unsigned long long>(answer.offset));
   }
 
  private:

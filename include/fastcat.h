@@ -3,8 +3,9 @@
  * A template text is JSON in UTF-8, lines are likewise, and a stream or a recording of packets is bytes; docs/FORMAT.md tells
  * of them. The templates of a call are a text, which it reads anew, or a set, which is read once (fastcat_set_new).
  *
- * Nothing is kept between calls but sets: threads may call the functions side by side, each with a room, an answer and a set of
- * its own. A pointer whose length is 0 is not looked at. Room, answer, set, templates and stream or lines do not overlap.
+ * Nothing is kept between calls but what handles have, of sets and readers: threads may call the functions side by side, each
+ * with rooms, an answer and handles of its own. A pointer whose length is 0 is not looked at. What a call is given and what it
+ * is lent do not overlap.
  */
 #ifndef FASTCAT_H
 #define FASTCAT_H
@@ -56,9 +57,11 @@ enum fastcat_status {
   /* A line stands for no message, or for one that has no form behind those before: cause, template and instruction say why and
    * where, and message is the line's number, from 1. written says how many bytes of the lines before are in the room. */
   FASTCAT_LINE_REFUSED = 7,
-  /* The set has no templates, or the handle is of something else; nothing was done. */
+  /* The handle has nothing, or something else than the call is for; nothing was done. */
   FASTCAT_WRONG_HANDLE = 8,
-  /* A message has more bytes of strings than its reader takes: message says which. */
+  /* Nodes are not those of a message: message says which, from 1. */
+  FASTCAT_NO_MESSAGE = 9,
+  /* A message has more bytes of strings than its reader takes: message says which, from 1. */
   FASTCAT_MESSAGE_TOO_LARGE = 10
 };
 
@@ -117,6 +120,7 @@ static inline const char *fastcat_status_name(uint32_t status) {
   case FASTCAT_STREAM_TOO_LONG: return "stream too long";
   case FASTCAT_LINE_REFUSED: return "line refused";
   case FASTCAT_WRONG_HANDLE: return "wrong handle";
+  case FASTCAT_NO_MESSAGE: return "no message";
   case FASTCAT_MESSAGE_TOO_LARGE: return "message too large";
   default: return "unknown";
   }
@@ -294,50 +298,47 @@ struct fastcat_node {
   int32_t exponent;
 };
 
-/* Each call that takes these sets every field. */
+/* What waits in a reader after a call, or was taken from it: whole messages. Each call that takes these sets every field. */
 struct fastcat_counts {
-  uint64_t used;                   /* how many bytes of a chunk were taken */
-  uint64_t messages, nodes, bytes; /* what waits in a reader after a call, or was taken */
+  uint64_t used; /* how many bytes of a chunk were taken; 0 where the call was refused */
+  uint64_t messages, nodes, bytes;
 };
 
-/* Why and where a stream is refused, to 0 where it says nothing. */
-struct fastcat_refusal {
-  uint64_t message, offset;
-  uint32_t status, cause, template_id, instruction;
-};
-
-/* A reader at a place of a stream, by a handle as a set's. */
+/* A reader at a place of a stream, by a handle as a set's: zeros before the first call, and again once it was freed. */
 struct fastcat_reader {
   void *at;
   uint32_t there;
 };
 
-/* A reader at the beginning of a stream, in the mode of FASTCAT_STRICT and FASTCAT_BLOCKS. A message whose strings have more than
- * most_bytes is not read (0: 64 MiB). */
+/* Puts a reader at the beginning of a stream behind the handle, in the mode 0, FASTCAT_STRICT, FASTCAT_BLOCKS or both; what the
+ * handle had before is freed. A message whose strings have more than most_bytes is not read (0: 64 MiB). The templates that a
+ * reader was made with stay as long as the process, also when the set and the reader are freed. */
 uint32_t fastcat_reader_new(struct fastcat_set *set, uint32_t mode, uint64_t most_bytes, struct fastcat_reader *reader);
 
 /* Takes bytes from the front of the next of the stream, however they are cut. The messages that they end wait in the reader. It
- * stops where 65,536 nodes or 1 MiB of strings wait: take them, and feed the rest, from used on. A refusal comes with the
- * messages before it, and is kept until the reset: later calls answer it again. */
+ * stops where 65,536 nodes or 1 MiB of strings wait: take them, and feed the rest, from waiting->used on. A refusal comes with
+ * the messages before it, and is kept until the reset: later calls answer it again. FASTCAT_STREAM_TOO_LONG is not kept. */
 uint32_t fastcat_reader_feed(struct fastcat_reader *reader, const uint8_t *chunk, size_t length, struct fastcat_counts *waiting,
-                             struct fastcat_refusal *refusal);
+                             struct fastcat_answer *answer);
 
-/* The same with a packet, which is a stream of its own, from undefined entries. Where all of it is used, it has also ended. */
+/* The same with a packet, which is a stream of its own, from undefined entries; a refusal before is forgotten. Where all of it is
+ * used, it has also ended; else take what waits, feed the rest, and end it by fastcat_reader_finish. */
 uint32_t fastcat_reader_packet(struct fastcat_reader *reader, const uint8_t *packet, size_t length,
-                               struct fastcat_counts *waiting, struct fastcat_refusal *refusal);
+                               struct fastcat_counts *waiting, struct fastcat_answer *answer);
 
-/* Puts the messages that wait, all or none, into the front of the rooms, and forgets them. Rooms of 131,072 nodes, and of 1 MiB
- * and most_bytes, are always enough. */
+/* Puts the messages that wait, all or none, into the front of the rooms, and forgets them; where the rooms are too short, taken
+ * says how much waits. A number that a string begins at is a place in these bytes. Rooms of 131,072 nodes, and of 1 MiB and
+ * most_bytes, are always enough. */
 uint32_t fastcat_reader_take(struct fastcat_reader *reader, struct fastcat_node *nodes, size_t nodes_length, uint8_t *bytes,
                              size_t bytes_length, struct fastcat_counts *taken);
 
-/* The end of the stream: refused as Truncated inside a message or a block. */
-uint32_t fastcat_reader_finish(struct fastcat_reader *reader, struct fastcat_refusal *refusal);
+/* The end of the stream: refused as Truncated inside a message or a block. What waits stays. */
+uint32_t fastcat_reader_finish(struct fastcat_reader *reader, struct fastcat_answer *answer);
 
-/* The beginning of a new stream, from undefined entries; what waits is forgotten. */
+/* The beginning of a new stream, from undefined entries; what waits is forgotten, and a refusal too. */
 uint32_t fastcat_reader_reset(struct fastcat_reader *reader);
 
-/* Ends the handle, which is zeros again. */
+/* Ends the handle, which is zeros again; a second call does nothing. */
 void fastcat_reader_free(struct fastcat_reader *reader);
 
 /* The node behind this one and all that are its own: the next field, element or message. */

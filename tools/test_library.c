@@ -514,7 +514,8 @@ static int is_named(uint32_t number, const char *name) {
 
 static void names(void) {
   static const char *const statuses[] = {"done", "stream refused", "templates refused", "room too short", "no memory",
-                                         "unknown mode", "stream too long", "line refused", "wrong handle"};
+                                         "unknown mode", "stream too long", "line refused", "wrong handle", "no message",
+                                         "message too large"};
   for (uint32_t status = 0; status < sizeof statuses / sizeof *statuses; status++)
     expect(strcmp(fastcat_status_name(status), statuses[status]) == 0, statuses[status]);
   expect(strcmp(fastcat_status_name(sizeof statuses / sizeof *statuses), "unknown") == 0, "a status that is none");

@@ -364,7 +364,7 @@ class Causes(unittest.TestCase):
     def test_fields(self):
         """Fields, sizes, what a reader counts and kinds are those of fastcat.h."""
         for name, raw in (("field", fastcat._library.RawField), ("sizes", fastcat._library.RawSizes),
-                          ("counts", fastcat._library.RawCounts), ("refusal", fastcat._library.RawRefusal)):
+                          ("counts", fastcat._library.RawCounts)):
             declared = HEADER.split(f"struct fastcat_{name} {{")[1].split("};")[0]
             parts = [(one.removesuffix("_id"), int(bits)) for bits, names in re.findall(r"uint(\d+)_t ([\w, ]+);", declared)
                      for one in names.split(", ")]
@@ -643,6 +643,77 @@ class Reading(unittest.TestCase):
         read = list(library.messages(EXAMPLES / "moex.json", packets_of(data("moex.packets")), packets=True))
         self.assertEqual(as_line(read), messages(text("moex.jsonl")))
         self.assertEqual(library.write(EXAMPLES / "moex.json", read, packets=True), data("moex.canon"))
+
+    def test_packets_that_are_refused(self):
+        """A packet is refused by itself: the messages before its fault come first, and the next one is read."""
+        given = [ONE, ONE + b"\xc0\xff", ONE]
+        read = library.messages(WORKED, given, packets=True)
+        self.assertEqual([next(read)["packet"], next(read)["packet"]], [1, 2])
+        error = outcome(next, read)
+        self.assertEqual(str(error), "refused D9 packet=2 message=2 offset=9 template=0 instruction=0")
+        self.assertEqual((error.packet, error.answer.packets, error.answer.messages), (2, 1, 1))
+        with library.Reader(WORKED) as reader:
+            counts = [0, 0, 0]
+            for number, packet in enumerate(given):
+                try:
+                    for message in reader.packet(packet):
+                        self.assertEqual(list(message), ["template", "id", "fields"])
+                        counts[number] += 1
+                except library.FastcatError as error:
+                    self.assertEqual(str(error), "refused D9 message=2 offset=9 template=0 instruction=0")
+            self.assertEqual(counts, [1, 1, 1])
+        self.assertEqual(str(outcome(list, library.messages(WORKED, [ONE[:-1]], packets=True))),
+                         "refused Truncated packet=1 message=1 offset=5 template=1 instruction=3")
+
+    def test_what_is_no_packets(self):
+        with open(EXAMPLES / "moex.packets", "rb") as file:
+            for given in (ONE, bytearray(ONE), "f0", EXAMPLES / "moex.packets", file, io.BytesIO(ONE), 5):
+                with self.subTest(given=type(given)), self.assertRaisesRegex(TypeError, "packets one after the other are wanted"):
+                    list(library.messages(WORKED, given, packets=True))
+        with self.assertRaisesRegex(TypeError, "^packet: bytes are wanted"):
+            list(library.messages(WORKED, ["f0"], packets=True))
+
+    def test_a_message_that_is_too_large(self):
+        self.assertEqual(len(list(library.messages(WORKED, ONE * 2, most_bytes=2))), 2)
+        error = outcome(list, library.messages(WORKED, ONE, most_bytes=1))
+        self.assertEqual((str(error), error.status, error.message), ("message too large", library.Status.MESSAGE_TOO_LARGE, 1))
+
+    def test_closed(self):
+        with library.Templates(WORKED) as read:
+            reader = library.Reader(read)
+        self.assertEqual(len(list(reader.feed(ONE))), 1)
+        reader.close()
+        for call in (lambda: list(reader.feed(ONE)), reader.finish, reader.reset):
+            self.assertIs(outcome(call).status, library.Status.WRONG_HANDLE)
+        self.assertIs(outcome(library.Reader, read).status, library.Status.WRONG_HANDLE)
+
+    def test_threads(self):
+        """Threads with readers of their own, over templates that they share."""
+        stream, wrong = data("book.hex"), []
+        with library.Templates(text("book.json")) as read:
+            wanted = list(library.messages(read, stream))
+
+            def reads():
+                for size in range(1, 40):
+                    if list(library.messages(read, stream, chunk=size)) != wanted:
+                        wrong.append(size)
+
+            threads = [threading.Thread(target=reads) for _ in range(2)]
+            for it in threads:
+                it.start()
+            for it in threads:
+                it.join()
+        self.assertEqual(wrong, [])
+
+    def test_a_string_that_is_repeated(self):
+        """A message of 62,000 bytes that has a string of 60,000 characters 2,000 times has it once."""
+        repeats = {"templates": [{"name": "Repeats", "id": 1, "instructions": [{"kind": "sequence", "name": "Rows", "instructions": [
+            {"kind": "string", "name": "Text", "operator": "copy"}]}]}]}
+        stream = b"\xc0\x81\x0f\xd0" + b"\xc0" + b"x" * 59_999 + b"\xf8" + b"\x80" * 1_999
+        [message] = library.messages(json.dumps(repeats), stream)
+        texts = [row["Text"] for row in message["fields"]["Rows"]]
+        self.assertEqual((len(texts), set(texts)), (2_000, {"x" * 60_000}))
+        self.assertEqual(len(set(map(id, texts))), 1)
 
     def test_sources(self):
         stream, wanted = data("worked.hex"), messages(text("worked.jsonl"))

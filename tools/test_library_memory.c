@@ -1,4 +1,4 @@
-/* Tests of the memory of sets, of which each allocation is counted, and refused in turn: test_library_memory
+/* Tests of the memory of sets and readers, of which each allocation is counted, and refused in turn: test_library_memory
  * examples/worked.json. It is linked with --wrap=malloc,realloc,free. */
 #include "fastcat.h"
 
@@ -115,6 +115,41 @@ static void fields(void) {
   expect(held == before, "all is freed behind fields");
 }
 
+/* Each allocation refused in turn, a reader is made and fed, and works behind a reset. One block lasts of a reader, and the
+ * templates. */
+static void reading(void) {
+  struct fastcat_set set = {0};
+  struct fastcat_answer a;
+  struct fastcat_counts counts;
+  struct fastcat_node nodes[8];
+  uint8_t bytes[8];
+  size_t turns = 0;
+  expect(fastcat_set_new(templates, templates_length, &set, &a) == FASTCAT_DONE, "a set of readers");
+  for (uint32_t status = FASTCAT_NO_MEMORY; status != FASTCAT_DONE; turns++) {
+    struct fastcat_reader reader = {0};
+    size_t before = held;
+    left = turns;
+    status = fastcat_reader_new(&set, 0, 0, &reader);
+    if (status == FASTCAT_DONE) status = fastcat_reader_feed(&reader, stream, sizeof stream, &counts, &a);
+    left = SIZE_MAX;
+    expect(status == FASTCAT_DONE || status == FASTCAT_NO_MEMORY, "a status of a reader");
+    if (reader.at) {
+      expect(status == FASTCAT_DONE || (counts.messages == 0 && a.status == FASTCAT_NO_MEMORY &&
+                                        fastcat_reader_finish(&reader, &a) == FASTCAT_NO_MEMORY), "want of memory is kept");
+      expect(fastcat_reader_reset(&reader) == FASTCAT_DONE &&
+                 fastcat_reader_feed(&reader, stream, sizeof stream, &counts, &a) == FASTCAT_DONE && counts.messages == 1, "a reset");
+      left = 0;
+      expect(fastcat_reader_take(&reader, nodes, 8, bytes, 8, &counts) == FASTCAT_DONE && counts.nodes == 5 && counts.bytes == 2,
+             "what waits is taken without memory");
+      left = SIZE_MAX;
+    }
+    fastcat_reader_free(&reader);
+    expect(held <= before + 1 && works(&set), "one block lasts");
+  }
+  expect(turns > 5, "allocations of a reader are refused");
+  fastcat_set_free(&set);
+}
+
 int main(int count, char **words) {
   FILE *file = count == 2 ? fopen(words[1], "rb") : NULL;
   if (!file) {
@@ -126,6 +161,7 @@ int main(int count, char **words) {
   making();
   sharing();
   fields();
+  reading();
   printf("C, memory: %u passed, %u failed\n", passed, failed);
   return failed != 0;
 }

@@ -1,8 +1,10 @@
-/* Tests of readers as C calls them: test_library_reader NAME.json NAME.hex.., whose streams are read in pieces of several sizes. What
- * is told is held against the fields of the templates, and against what fastcat_set_check counts. */
+/* Tests of readers as C calls them: test_library_reader examples/worked.json examples/worked.hex NAME.json NAME.hex.., whose streams
+ * are read in pieces of several sizes. What is told is held against the fields of the templates, and against what
+ * fastcat_set_check counts. */
 #include "fastcat.h"
 
 #include <ctype.h>
+#include <pthread.h>
 #include <stdio.h>
 #include <stdlib.h>
 #include <string.h>
@@ -127,14 +129,14 @@ static uint64_t take(struct fastcat_reader *reader, const struct fastcat_counts 
 /* Feeds a stream in pieces, and answers how many messages it has. */
 static uint64_t messages_of(struct fastcat_reader *reader, const uint8_t *stream, size_t length, size_t step) {
   struct fastcat_counts waiting;
-  struct fastcat_refusal refusal;
+  struct fastcat_answer answer;
   uint64_t messages = 0;
   for (size_t at = 0; at < length; at += (size_t)waiting.used) {
     size_t piece = length - at < step ? length - at : step;
-    expect(fastcat_reader_feed(reader, stream + at, piece, &waiting, &refusal) == FASTCAT_DONE && refusal.status == 0, "a piece");
+    expect(fastcat_reader_feed(reader, stream + at, piece, &waiting, &answer) == FASTCAT_DONE && answer.status == 0, "a piece");
     messages += take(reader, &waiting);
   }
-  expect(fastcat_reader_finish(reader, &refusal) == FASTCAT_DONE, "the end of a stream");
+  expect(fastcat_reader_finish(reader, &answer) == FASTCAT_DONE, "the end of a stream");
   return messages;
 }
 
@@ -143,48 +145,216 @@ static void streams(struct fastcat_set *set, const uint8_t *stream, size_t lengt
   struct fastcat_answer answer;
   struct fastcat_reader reader = {0};
   struct fastcat_counts waiting;
-  struct fastcat_refusal refusal;
   expect(fastcat_set_check(set, 0, stream, length, &answer) == FASTCAT_DONE, "check");
+  const uint64_t messages = answer.messages;
   expect(fastcat_reader_new(set, 0, 0, &reader) == FASTCAT_DONE && !is_empty(&reader), "a reader");
   for (size_t i = 0; i < sizeof steps / sizeof *steps; i++) {
-    expect(messages_of(&reader, stream, length, steps[i]) == answer.messages, "as many messages as check counts");
+    expect(messages_of(&reader, stream, length, steps[i]) == messages, "as many messages as check counts");
     expect(fastcat_reader_reset(&reader) == FASTCAT_DONE, "a reset");
   }
   /* A packet is a stream of its own, and can come again. */
   for (int i = 0; i < 2; i++)
-    expect(fastcat_reader_packet(&reader, stream, length, &waiting, &refusal) == FASTCAT_DONE && waiting.used == length &&
-               take(&reader, &waiting) == answer.messages, "a packet");
+    expect(fastcat_reader_packet(&reader, stream, length, &waiting, &answer) == FASTCAT_DONE && waiting.used == length &&
+               take(&reader, &waiting) == messages, "a packet");
   /* What is cut is refused at its end, behind the messages before. */
   fastcat_reader_reset(&reader);
-  expect(fastcat_reader_feed(&reader, stream, length - 1, &waiting, &refusal) == FASTCAT_DONE &&
-             take(&reader, &waiting) == answer.messages - 1, "a stream that is cut");
+  expect(fastcat_reader_feed(&reader, stream, length - 1, &waiting, &answer) == FASTCAT_DONE &&
+             take(&reader, &waiting) == messages - 1, "a stream that is cut");
   for (int i = 0; i < 2; i++)
-    expect(fastcat_reader_finish(&reader, &refusal) == FASTCAT_STREAM_REFUSED && refusal.cause == FASTCAT_TRUNCATED &&
-               refusal.message == answer.messages && refusal.status == FASTCAT_STREAM_REFUSED, "its end");
-  expect(fastcat_reader_feed(&reader, stream, length, &waiting, &refusal) == FASTCAT_STREAM_REFUSED &&
-             refusal.cause == FASTCAT_TRUNCATED && waiting.nodes == 0, "behind a fault");
+    expect(fastcat_reader_finish(&reader, &answer) == FASTCAT_STREAM_REFUSED && answer.cause == FASTCAT_TRUNCATED &&
+               answer.message == messages && answer.messages == messages - 1 && answer.status == FASTCAT_STREAM_REFUSED, "its end");
+  expect(fastcat_reader_feed(&reader, stream, length, &waiting, &answer) == FASTCAT_STREAM_REFUSED &&
+             answer.cause == FASTCAT_TRUNCATED && waiting.nodes == 0, "behind a fault");
   fastcat_reader_free(&reader);
   expect(is_empty(&reader), "a reader is freed");
   fastcat_reader_free(&reader);
+}
+
+/* ---- statuses */
+
+/* A quote whose strings have two bytes; the next one, which repeats them; and a message of a template that is none. */
+static const uint8_t quote[] = {0xf0, 0x81, 0x81, 0x41, 0xc2, 0xfe, 0x00, 0xe4}, next_quote[] = {0x80, 0x80, 0x81}, unknown[] = {0xc0, 0xff};
+
+/* A fault is answered behind the messages before it, and again until the reset. */
+static void faults(struct fastcat_set *set) {
+  struct fastcat_reader reader = {0};
+  struct fastcat_counts waiting;
+  struct fastcat_answer answer;
+  uint8_t stream[sizeof quote + sizeof unknown];
+  memcpy(stream, quote, sizeof quote);
+  memcpy(stream + sizeof quote, unknown, sizeof unknown);
+  expect(fastcat_reader_new(set, FASTCAT_STRICT, 0, &reader) == FASTCAT_DONE, "a strict reader");
+  for (uint64_t turn = 0; turn < 2; turn++)
+    expect(fastcat_reader_feed(&reader, stream, sizeof stream, &waiting, &answer) == FASTCAT_STREAM_REFUSED &&
+               answer.cause == FASTCAT_D9 && answer.message == 2 && answer.messages == 1 && answer.offset == 9 &&
+               waiting.messages == 1 && waiting.used == 0, "a fault, and the message before it");
+  expect(take(&reader, &waiting) == 1, "the message before a fault");
+  expect(fastcat_reader_finish(&reader, &answer) == FASTCAT_STREAM_REFUSED && answer.cause == FASTCAT_D9, "a fault is kept");
+  expect(fastcat_reader_reset(&reader) == FASTCAT_DONE, "a reset");
+  expect(fastcat_reader_feed(&reader, quote, sizeof quote, &waiting, &answer) == FASTCAT_DONE && waiting.messages == 1, "behind a reset");
+  /* what waits is forgotten by a reset, and stays by a packet that is refused */
+  fastcat_reader_reset(&reader);
+  expect(fastcat_reader_packet(&reader, quote, sizeof quote, &waiting, &answer) == FASTCAT_DONE && waiting.messages == 1, "a packet");
+  expect(fastcat_reader_packet(&reader, stream, sizeof stream, &waiting, &answer) == FASTCAT_STREAM_REFUSED &&
+             answer.message == 2 && waiting.messages == 2, "a packet that is refused");
+  expect(fastcat_reader_packet(&reader, quote, sizeof quote, &waiting, &answer) == FASTCAT_DONE && waiting.messages == 3 &&
+             take(&reader, &waiting) == 3, "the packet behind it");
+  expect(fastcat_reader_packet(&reader, quote, sizeof quote - 1, &waiting, &answer) == FASTCAT_STREAM_REFUSED &&
+             answer.cause == FASTCAT_TRUNCATED && waiting.messages == 0, "a packet that is cut");
+  fastcat_reader_free(&reader);
+}
+
+/* Two quotes have two bytes of strings each, and a reader of one byte takes none. */
+static void too_large(struct fastcat_set *set) {
+  struct fastcat_reader reader = {0};
+  struct fastcat_counts waiting;
+  struct fastcat_answer answer;
+  expect(fastcat_reader_new(set, 0, 2, &reader) == FASTCAT_DONE &&
+             fastcat_reader_feed(&reader, quote, sizeof quote, &waiting, &answer) == FASTCAT_DONE && waiting.bytes == 2, "two bytes");
+  /* (what the handle had is freed) */
+  expect(fastcat_reader_new(set, 0, 1, &reader) == FASTCAT_DONE, "a reader in the place of another");
+  for (int turn = 0; turn < 2; turn++)
+    expect(fastcat_reader_feed(&reader, quote, sizeof quote, &waiting, &answer) == FASTCAT_MESSAGE_TOO_LARGE &&
+               answer.status == FASTCAT_MESSAGE_TOO_LARGE && answer.message == 1 && answer.cause == FASTCAT_NO_CAUSE &&
+               waiting.messages == 0, "a message that is too large");
+  expect(fastcat_reader_finish(&reader, &answer) == FASTCAT_MESSAGE_TOO_LARGE, "it is kept");
+  fastcat_reader_free(&reader);
+}
+
+/* A chunk that ends 100,000 messages is taken in several turns. */
+static void much(struct fastcat_set *set) {
+  enum { MANY = 100000 };
+  struct fastcat_reader reader = {0};
+  struct fastcat_counts waiting, taken;
+  struct fastcat_answer answer;
+  struct fastcat_node *nodes = malloc((1 << 17) * sizeof *nodes);
+  size_t length = sizeof quote + (MANY - 1) * sizeof next_quote, at = 0;
+  uint8_t *stream = malloc(length), bytes[16];
+  if (!nodes || !stream) exit(2);
+  memcpy(stream, quote, sizeof quote);
+  for (size_t i = sizeof quote; i < length; i++) stream[i] = next_quote[(i - sizeof quote) % sizeof next_quote];
+  expect(fastcat_reader_new(set, 0, 0, &reader) == FASTCAT_DONE, "a reader");
+  uint64_t messages = 0, turns = 0;
+  for (; at < length; turns++) {
+    if (fastcat_reader_feed(&reader, stream + at, length - at, &waiting, &answer) != FASTCAT_DONE || waiting.used == 0) break;
+    expect(waiting.nodes >= 65536 || at + waiting.used == length, "a call stops where 65,536 nodes wait");
+    struct fastcat_counts full;
+    expect(at + waiting.used == length ||
+               (fastcat_reader_feed(&reader, stream + at + waiting.used, length - at - waiting.used, &full, &answer) == FASTCAT_DONE &&
+                full.used == 0 && full.nodes == waiting.nodes), "nothing more is taken of a chunk");
+    at += (size_t)waiting.used;
+    uint8_t *room = malloc(waiting.bytes);
+    expect(fastcat_reader_take(&reader, nodes, 1 << 17, bytes, 0, &taken) == FASTCAT_ROOM_TOO_SHORT && taken.nodes == waiting.nodes &&
+               taken.messages == waiting.messages && taken.bytes == waiting.bytes, "what waits is told of rooms that are too short");
+    expect(room && fastcat_reader_take(&reader, nodes, 1 << 17, room, waiting.bytes, &taken) == FASTCAT_DONE, "it is taken");
+    messages += taken.messages;
+    expect(nodes[1].number == messages - taken.messages + 1, "the first of them");
+    free(room);
+  }
+  expect(at == length && messages == MANY && turns > 3, "all of a chunk");
+  expect(fastcat_reader_finish(&reader, &answer) == FASTCAT_DONE, "its end");
+  fastcat_reader_free(&reader);
+  free(stream);
+  free(nodes);
 }
 
 static void handles(struct fastcat_set *set) {
   struct fastcat_reader none = {0};
   struct fastcat_set nothing = {0};
   struct fastcat_counts counts;
-  struct fastcat_refusal refusal;
+  struct fastcat_answer answer;
   expect(fastcat_reader_new(&nothing, 0, 0, &none) == FASTCAT_WRONG_HANDLE && is_empty(&none), "a reader of no set");
   expect(fastcat_reader_new(set, 4, 0, &none) == FASTCAT_UNKNOWN_MODE && is_empty(&none), "a reader in an unknown mode");
-  expect(fastcat_reader_feed(&none, NULL, 0, &counts, &refusal) == FASTCAT_WRONG_HANDLE, "no reader is fed");
-  expect(fastcat_reader_packet(&none, NULL, 0, &counts, &refusal) == FASTCAT_WRONG_HANDLE, "no reader takes a packet");
+  expect(fastcat_reader_feed(&none, NULL, 0, &counts, &answer) == FASTCAT_WRONG_HANDLE, "no reader is fed");
+  expect(fastcat_reader_packet(&none, NULL, 0, &counts, &answer) == FASTCAT_WRONG_HANDLE, "no reader takes a packet");
   expect(fastcat_reader_take(&none, NULL, 0, NULL, 0, &counts) == FASTCAT_WRONG_HANDLE, "nothing is taken of no reader");
-  expect(fastcat_reader_finish(&none, &refusal) == FASTCAT_WRONG_HANDLE, "no reader is finished");
+  expect(fastcat_reader_finish(&none, &answer) == FASTCAT_WRONG_HANDLE, "no reader is finished");
   expect(fastcat_reader_reset(&none) == FASTCAT_WRONG_HANDLE && is_empty(&none), "no reader is reset");
+}
+
+/* A set is no reader, and a reader no set: both are as they were. */
+static void kinds(struct fastcat_set *set) {
+  struct fastcat_reader reader = {0}, of_set;
+  struct fastcat_set of_reader, other = {0};
+  struct fastcat_sizes none;
+  struct fastcat_counts counts;
+  struct fastcat_answer answer;
+  struct fastcat_node node;
+  uint8_t byte;
+  expect(fastcat_reader_new(set, FASTCAT_BLOCKS, 0, &reader) == FASTCAT_DONE, "a reader of blocks");
+  /* (a handle is moved, and back) */
+  of_set.at = set->at, of_set.there = set->there;
+  of_reader.at = reader.at, of_reader.there = reader.there;
+  expect(fastcat_reader_feed(&of_set, quote, sizeof quote, &counts, &answer) == FASTCAT_WRONG_HANDLE &&
+             answer.status == FASTCAT_WRONG_HANDLE && counts.used == 0 && counts.messages == 0, "a set is fed");
+  expect(fastcat_reader_packet(&of_set, quote, sizeof quote, &counts, &answer) == FASTCAT_WRONG_HANDLE, "a set takes a packet");
+  expect(fastcat_reader_take(&of_set, &node, 1, &byte, 1, &counts) == FASTCAT_WRONG_HANDLE && counts.nodes == 0, "a set is taken from");
+  expect(fastcat_reader_finish(&of_set, &answer) == FASTCAT_WRONG_HANDLE, "a set is finished");
+  expect(fastcat_reader_reset(&of_set) == FASTCAT_WRONG_HANDLE, "a set is reset");
+  set->at = of_set.at, set->there = of_set.there;
+  expect(fastcat_set_check(set, 0, quote, sizeof quote, &answer) == FASTCAT_DONE && answer.messages == 1, "a set as it was");
+  expect(fastcat_set_check(&of_reader, 0, quote, sizeof quote, &answer) == FASTCAT_WRONG_HANDLE, "a reader checks");
+  expect(fastcat_set_share(&of_reader, &other) == FASTCAT_WRONG_HANDLE && other.at == NULL, "a reader is shared");
+  expect(fastcat_set_fields(&of_reader, NULL, 0, NULL, 0, &none) == FASTCAT_WRONG_HANDLE, "a reader has no fields");
+  reader.at = of_reader.at, reader.there = of_reader.there;
+  static const uint8_t block[] = {0x88, 0xf0, 0x81, 0x81, 0x41, 0xc2, 0xfe, 0x00, 0xe4};
+  expect(fastcat_reader_feed(&reader, block, sizeof block, &counts, &answer) == FASTCAT_DONE && take(&reader, &counts) == 1,
+         "a reader as it was");
+  fastcat_reader_free(&reader);
+}
+
+/* ---- threads */
+
+static const uint8_t *shared_stream;
+static size_t shared_length;
+
+/* Reads the stream often with a reader of its own, and answers how many messages it had. */
+static void *in_a_thread(void *given) {
+  static uint64_t none;
+  struct fastcat_set *set = given;
+  struct fastcat_reader reader = {0};
+  struct fastcat_counts waiting, taken;
+  struct fastcat_answer answer;
+  struct fastcat_node *nodes = malloc((1 << 17) * sizeof *nodes);
+  uint8_t *bytes = malloc(1 << 21);
+  uint64_t *messages = calloc(1, sizeof *messages);
+  if (!nodes || !bytes || !messages || fastcat_reader_new(set, 0, 0, &reader) != FASTCAT_DONE) return &none;
+  fastcat_set_free(set);
+  for (int turn = 0; turn < 50; turn++) {
+    for (size_t at = 0; at < shared_length; at += (size_t)waiting.used) {
+      size_t piece = shared_length - at < 5 ? shared_length - at : 5;
+      if (fastcat_reader_feed(&reader, shared_stream + at, piece, &waiting, &answer) != FASTCAT_DONE) break;
+      if (fastcat_reader_take(&reader, nodes, 1 << 17, bytes, 1 << 21, &taken) != FASTCAT_DONE) break;
+      if (messages_in(nodes, &taken) == taken.messages) *messages += taken.messages;
+    }
+    if (fastcat_reader_finish(&reader, &answer) != FASTCAT_DONE) *messages = 0;
+    fastcat_reader_reset(&reader);
+  }
+  fastcat_reader_free(&reader);
+  free(nodes);
+  free(bytes);
+  return messages;
+}
+
+static void threads(struct fastcat_set *set, const uint8_t *stream, size_t length) {
+  struct fastcat_set shares[2] = {{0}, {0}};
+  struct fastcat_answer answer;
+  pthread_t running[2];
+  shared_stream = stream;
+  shared_length = length;
+  expect(fastcat_set_check(set, 0, stream, length, &answer) == FASTCAT_DONE, "check");
+  for (int i = 0; i < 2; i++)
+    expect(fastcat_set_share(set, &shares[i]) == FASTCAT_DONE && pthread_create(&running[i], NULL, in_a_thread, &shares[i]) == 0, "a thread");
+  for (int i = 0; i < 2; i++) {
+    void *messages = NULL;
+    expect(pthread_join(running[i], &messages) == 0 && *(uint64_t *)messages == 50 * answer.messages, "a thread over a share");
+    free(messages);
+  }
 }
 
 int main(int count, char **words) {
   if (count < 3 || count % 2 == 0) {
-    fprintf(stderr, "use: test_library_reader NAME.json NAME.hex..\n");
+    fprintf(stderr, "use: test_library_reader examples/worked.json examples/worked.hex NAME.json NAME.hex..\n");
     return 2;
   }
   for (int i = 1; i < count; i += 2) {
@@ -197,6 +367,14 @@ int main(int count, char **words) {
     expect(fastcat_set_fields(&set, fields, sizeof fields / sizeof *fields, names, sizeof names, &sizes) == FASTCAT_DONE, "fields");
     streams(&set, stream, length);
     handles(&set);
+    threads(&set, stream, length);
+    /* (the worked templates come first) */
+    if (i == 1) {
+      faults(&set);
+      too_large(&set);
+      much(&set);
+      kinds(&set);
+    }
     fastcat_set_free(&set);
     free(templates);
     free(stream);

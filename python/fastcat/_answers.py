@@ -18,6 +18,7 @@ class Status(enum.IntEnum):
     STREAM_TOO_LONG = 6
     LINE_REFUSED = 7
     WRONG_HANDLE = 8
+    NO_MESSAGE = 9
     MESSAGE_TOO_LARGE = 10
 
 

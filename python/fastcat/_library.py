@@ -58,14 +58,6 @@ class RawCounts(ctypes.Structure):
     _fields_ = [(name, ctypes.c_uint64) for name in ("used", "messages", "nodes", "bytes")]
 
 
-class RawRefusal(ctypes.Structure):
-    """struct fastcat_refusal."""
-
-    _fields_ = [(name, ctypes.c_uint64) for name in ("message", "offset")] + [
-        (name, ctypes.c_uint32) for name in ("status", "cause", "template", "instruction")
-    ]
-
-
 def places() -> list[str]:
     """Where the library may be: what FASTCAT_LIBRARY names, and nothing else; or in this folder, in the repository's lib/, or
     where the loader looks."""
@@ -113,14 +105,14 @@ def load() -> ctypes.CDLL:
         "fastcat_set_fields": handle + room + room + [ctypes.POINTER(RawSizes)],
     }
     reader = [ctypes.POINTER(RawReader)]
-    counts, refusal = [ctypes.POINTER(RawCounts)], [ctypes.POINTER(RawRefusal)]
+    counts = [ctypes.POINTER(RawCounts)]
     functions |= {
         "fastcat_reader_new": handle + [ctypes.c_uint32, ctypes.c_uint64] + reader,
         # (by an address, so that a chunk is fed on from any place)
-        "fastcat_reader_feed": reader + [ctypes.c_void_p, ctypes.c_size_t] + counts + refusal,
-        "fastcat_reader_packet": reader + [ctypes.c_void_p, ctypes.c_size_t] + counts + refusal,
+        "fastcat_reader_feed": reader + [ctypes.c_void_p, ctypes.c_size_t] + counts + answer,
+        "fastcat_reader_packet": reader + [ctypes.c_void_p, ctypes.c_size_t] + counts + answer,
         "fastcat_reader_take": reader + room + room + counts,
-        "fastcat_reader_finish": reader + refusal,
+        "fastcat_reader_finish": reader + answer,
         "fastcat_reader_reset": reader,
         "fastcat_reader_free": reader,
     }

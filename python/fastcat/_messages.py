@@ -4,13 +4,14 @@ from __future__ import annotations
 
 import collections.abc
 import ctypes
+import dataclasses
 import os
 import threading
 from typing import Any, Iterable, Iterator, Literal, Union
 
-from ._answers import Answer, Cause, FastcatError, Status
+from ._answers import FastcatError, Status
 from ._calls import mode_of
-from ._library import RawCounts, RawReader, RawRefusal, RawAnswer, answer_of, library
+from ._library import RawAnswer, RawCounts, RawReader, answer_of, library
 from ._templates import Field, Templates, Text, bytes_of
 from ._values import NODE, Layout, exact_decimal
 
@@ -18,7 +19,7 @@ try:
     from ._nodes import Decoder
 except ImportError:
     # (it was not built: there was no compiler)
-    from ._values import Decoder  # type: ignore[assignment]
+    from ._values import Decoder
 
 # What gives the bytes of a stream.
 Source = Union[bytes, bytearray, memoryview, os.PathLike[str], Any, Iterable[Union[bytes, bytearray, memoryview]]]
@@ -89,7 +90,7 @@ class Reader:
             if own:
                 own.close()
         if status != Status.DONE:
-            raise FastcatError(answer_of(RawAnswer(status=status)))
+            raise error_of(RawAnswer(status=status), None)
         self._decoder = Decoder(layouts, decimal, is_pairs)
 
     def feed(self, chunk: bytes | bytearray | memoryview) -> Iterator[dict[str, Any]]:
@@ -111,12 +112,12 @@ class Reader:
         if self._is_open:
             raise RuntimeError("the messages of the last chunk are not all taken")
         self._is_open = True
-        counts, refusal = RawCounts(), RawRefusal()
+        counts, answer = RawCounts(), RawAnswer()
         address, at = ctypes.c_char_p(data), 0
         start = ctypes.cast(address, ctypes.c_void_p).value or 0
         while True:
             with self._lock:
-                status = call(ctypes.byref(self._reader), start + at, len(data) - at, ctypes.byref(counts), ctypes.byref(refusal))
+                status = call(ctypes.byref(self._reader), start + at, len(data) - at, ctypes.byref(counts), ctypes.byref(answer))
                 at += counts.used
                 read = self._take(counts, packet) if counts.messages else ()
             yield from read
@@ -126,9 +127,9 @@ class Reader:
             call = library.fastcat_reader_feed
         self._is_open = False
         if status == Status.DONE and is_packet:
-            status = self._finish(refusal)
+            status = self._finish(answer)
         if status != Status.DONE:
-            raise error_of(status, refusal, packet)
+            raise error_of(answer, packet)
 
     def _take(self, waiting: RawCounts, packet: int | None) -> list[dict[str, Any]]:
         """The messages that wait."""
@@ -141,27 +142,28 @@ class Reader:
             ctypes.byref(self._reader), self._nodes, len(self._nodes) // NODE.size, self._bytes, len(self._bytes), ctypes.byref(taken)
         )
         if status != Status.DONE:
-            raise FastcatError(answer_of(RawAnswer(status=status)))
+            raise error_of(RawAnswer(status=status), None)
         return self._decoder.decode(self._nodes, taken.nodes, self._bytes, taken.bytes, packet)
 
-    def _finish(self, refusal: RawRefusal) -> int:
+    def _finish(self, answer: RawAnswer) -> int:
         with self._lock:
-            return int(library.fastcat_reader_finish(ctypes.byref(self._reader), ctypes.byref(refusal)))
+            return int(library.fastcat_reader_finish(ctypes.byref(self._reader), ctypes.byref(answer)))
 
     def finish(self) -> None:
         """The end of the stream.
 
         Raises `FastcatError` of the cause Truncated inside a message or a block.
         """
-        refusal = RawRefusal()
-        status = self._finish(refusal)
-        if status != Status.DONE:
-            raise error_of(status, refusal, None)
+        answer = RawAnswer()
+        if self._finish(answer) != Status.DONE:
+            raise error_of(answer, None)
 
     def reset(self) -> None:
         """The beginning of a new stream, from undefined entries. What waits is forgotten."""
         with self._lock:
-            library.fastcat_reader_reset(ctypes.byref(self._reader))
+            status = library.fastcat_reader_reset(ctypes.byref(self._reader))
+        if status != Status.DONE:
+            raise error_of(RawAnswer(status=status), None)
         self._is_open = False
 
     def close(self) -> None:
@@ -179,22 +181,11 @@ class Reader:
         self.close()
 
 
-def error_of(status: int, refusal: RawRefusal, packet: int | None) -> FastcatError:
-    return FastcatError(
-        Answer(
-            messages=max(refusal.message - 1, 0),
-            read=0,
-            written=0,
-            message=refusal.message,
-            offset=refusal.offset,
-            status=Status(status),
-            cause=Cause(refusal.cause),
-            template=refusal.template,
-            instruction=refusal.instruction,
-            packets=packet - 1 if packet else 0,
-            packet=packet or 0,
-        )
-    )
+def error_of(raw: RawAnswer, packet: int | None) -> FastcatError:
+    answer = answer_of(raw)
+    if packet is not None:
+        answer = dataclasses.replace(answer, packet=packet, packets=packet - 1)
+    return FastcatError(answer)
 
 
 def chunks_of(stream: Source, size: int) -> Iterator[bytes | bytearray | memoryview]:
