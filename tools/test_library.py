@@ -430,24 +430,19 @@ class Rooms(unittest.TestCase):
 
     def test_no_memory(self):
         """There is memory for the room of 12 MB, and not for as many bytes a second time."""
-        read, write = os.pipe()
-        child = os.fork()
-        if child == 0:
-            stream = ONE + bytes.fromhex("808081") * 4_000_000
-            limit = 20 << 20
-            taken = int(pathlib.Path("/proc/self/statm").read_text().split()[0]) * resource.getpagesize()
-            resource.setrlimit(resource.RLIMIT_AS, (taken + limit, taken + limit))
-            try:
-                library.canon(WORKED, stream)
-            except library.FastcatError as error:
-                os.write(write, str(error).encode())
-            except MemoryError:
-                os.write(write, b"Python's own")
-            os._exit(0)
-        os.close(write)
-        with os.fdopen(read) as said:
-            told = said.read()
-        self.assertEqual((os.waitpid(child, 0)[1], told), (0, "no memory"))
+        # (of a process of its own: this one has memory that it freed)
+        script = (
+            "import fastcat, pathlib, resource, sys\n"
+            "templates, one = sys.argv[1], bytes.fromhex(sys.argv[2])\n"
+            "stream = one + bytes.fromhex('808081') * 4_000_000\n"
+            "taken = int(pathlib.Path('/proc/self/statm').read_text().split()[0]) * resource.getpagesize()\n"
+            "resource.setrlimit(resource.RLIMIT_AS, (taken + (20 << 20), taken + (20 << 20)))\n"
+            "try: fastcat.canon(templates, stream)\n"
+            "except fastcat.FastcatError as error: print(error)\n"
+        )
+        environment = {**os.environ, "PYTHONPATH": str(TOP / "python")}
+        said = subprocess.run([sys.executable, "-B", "-c", script, WORKED, ONE.hex()], env=environment, capture_output=True, text=True)
+        self.assertEqual((said.stdout, said.stderr), ("no memory\n", ""))
 
     def test_threads(self):
         wrong = []
