@@ -742,6 +742,9 @@ class Reading(unittest.TestCase):
             given = json.dumps({"templates": [{"name": "T", "id": 5, "instructions": instructions}]})
             with self.assertRaisesRegex(ValueError, 'the name "A" stands twice in "T"'):
                 library.Reader(given)
+        for named in ({"fields": "list"}, {"decimals": "float"}):
+            with self.assertRaises(ValueError):
+                library.Reader(WORKED, **named)
         [message] = library.messages(given, b"\xc0\x85\x86\x87", fields="pairs")
         self.assertEqual(message["fields"], [("A", [("A", 6), ("A", 7)])])
 
@@ -776,6 +779,17 @@ class Reading(unittest.TestCase):
         for count, last in enumerate(library.messages(WORKED, stream, chunk=len(stream)), 1):
             pass
         self.assertEqual((count, last["fields"]["Seq"]), (200_000, 200_000))
+
+    def test_templates_of_a_text_are_read_once(self):
+        """Hundreds of readers of one text take no more memory than a few."""
+        given = json.loads(WORKED)["templates"]
+        templates = json.dumps({"templates": [{**one, "name": f"{one['name']}{at}", "id": 100 * at + one.get("id", 99)}
+                                              for at in range(20) for one in given if one["name"] not in ("Common", "Grp")]})
+        for turn in range(205):
+            list(library.messages(templates, b""))
+            if turn == 5:
+                before = resource.getrusage(resource.RUSAGE_SELF).ru_maxrss
+        self.assertLess(resource.getrusage(resource.RUSAGE_SELF).ru_maxrss - before, 4_000)
 
     def test_memory_is_flat(self):
         pieces = itertools.chain([ONE], itertools.repeat(bytes.fromhex("808081") * 20_000, 20))

@@ -1,6 +1,7 @@
 """Tests of python/fastcat/_nodes.c, which does in C what _values.py does: test_nodes.py. It is built as setup.py builds it, and again
-with the compiler's sanitizers where it has them; without a compiler or Python's headers nothing is tested."""
+with the compiler's sanitizers where it has them; without a compiler, setuptools or Python's headers nothing is tested."""
 
+import importlib.util
 import os
 import pathlib
 import random
@@ -258,7 +259,8 @@ def build(folder, flags):
 
 
 def is_able():
-    return shutil.which("cc") and pathlib.Path(sysconfig.get_path("include"), "Python.h").exists()
+    has_headers = pathlib.Path(sysconfig.get_path("include"), "Python.h").exists()
+    return shutil.which("cc") and has_headers and importlib.util.find_spec("setuptools")
 
 
 def has_sanitizers(folder):
@@ -269,7 +271,7 @@ def has_sanitizers(folder):
 
 def main():
     if not is_able():
-        print("skipped: no compiler, or no headers of Python")
+        print("skipped: no compiler, no headers of Python, or no setuptools")
         return 0
     failed = 0
     with tempfile.TemporaryDirectory() as folder:

@@ -12,7 +12,7 @@ from typing import Any, Iterable, Iterator, Literal, Union
 from ._answers import FastcatError, Status
 from ._calls import mode_of
 from ._library import RawAnswer, RawCounts, RawReader, answer_of, library
-from ._templates import Field, Templates, Text, bytes_of
+from ._templates import Field, Templates, Text, bytes_of, text_of
 from ._values import NODE, Layout, exact_decimal
 
 try:
@@ -25,6 +25,20 @@ except ImportError:
 Source = Union[bytes, bytearray, memoryview, os.PathLike[str], Any, Iterable[Union[bytes, bytearray, memoryview]]]
 Decimals = Literal["Decimal", "pair"]
 Fields = Literal["dict", "pairs"]
+
+
+# Templates that a reader was made with stay as long as the process (fastcat_reader_new), so those of a text are read once.
+lasting: dict[bytes, Templates] = {}
+lasting_lock = threading.Lock()
+
+
+def lasting_templates(templates: Text) -> Templates:
+    """The templates of a text for readers."""
+    text = text_of(templates)
+    with lasting_lock:
+        if text not in lasting:
+            lasting[text] = Templates(text)
+        return lasting[text]
 
 
 def layout_of(fields: tuple[Field, ...]) -> Layout:
@@ -50,7 +64,8 @@ class Reader:
     a list of dicts. With `fields="pairs"` a list of names and values stands for each dict: templates in which a name stands
     twice are read so only.
 
-    A message whose strings have more than `most_bytes` (0: 64 MiB) is refused.
+    A message whose strings have more than `most_bytes` (0: 64 MiB) is refused. The templates of a reader stay in memory as long
+    as the process.
     """
 
     def __init__(
@@ -67,31 +82,26 @@ class Reader:
         self._lock = threading.Lock()
         self._is_open = False
         self._nodes, self._bytes = ctypes.create_string_buffer(1 << 16), ctypes.create_string_buffer(1 << 12)
-        decimal = {"Decimal": exact_decimal, "pair": None}[decimals]
-        is_pairs = {"dict": False, "pairs": True}[fields]
-        own = None if isinstance(templates, Templates) else Templates(templates)
-        read = own or templates
-        assert isinstance(read, Templates)
+        if decimals not in ("Decimal", "pair") or fields not in ("dict", "pairs"):
+            raise ValueError('decimals are "Decimal" or "pair", and fields "dict" or "pairs"')
+        is_pairs = fields == "pairs"
+        read = templates if isinstance(templates, Templates) else lasting_templates(templates)
+        layouts = {number: (name, layout_of(read.fields(number))) for number, name in read.ids.items()}
+        if not is_pairs:
+            for name, layout in layouts.values():
+                twice = name_that_stands_twice(layout)
+                if twice is not None:
+                    raise ValueError(f'templates: the name "{twice}" stands twice in "{name}"; fields="pairs" keeps both')
+        share = read._share()
         try:
-            layouts = {number: (name, layout_of(read.fields(number))) for number, name in read.ids.items()}
-            if not is_pairs:
-                for name, layout in layouts.values():
-                    twice = name_that_stands_twice(layout)
-                    if twice is not None:
-                        raise ValueError(f'templates: the name "{twice}" stands twice in "{name}"; fields="pairs" keeps both')
-            share = read._share()
-            try:
-                status = library.fastcat_reader_new(
-                    ctypes.byref(share), mode_of(strict, blocks, False), most_bytes, ctypes.byref(self._reader)
-                )
-            finally:
-                library.fastcat_set_free(ctypes.byref(share))
+            status = library.fastcat_reader_new(
+                ctypes.byref(share), mode_of(strict, blocks, False), most_bytes, ctypes.byref(self._reader)
+            )
         finally:
-            if own:
-                own.close()
+            library.fastcat_set_free(ctypes.byref(share))
         if status != Status.DONE:
             raise error_of(RawAnswer(status=status), None)
-        self._decoder = Decoder(layouts, decimal, is_pairs)
+        self._decoder = Decoder(layouts, exact_decimal if decimals == "Decimal" else None, is_pairs)
 
     def feed(self, chunk: bytes | bytearray | memoryview) -> Iterator[dict[str, Any]]:
         """The messages that the next bytes end. They are read as they are taken: take all before the next call.
