@@ -23,7 +23,8 @@ if BUILT:
     import fastcat
     from fastcat import _messages, _nodes, _values
 
-    sys.path.insert(0, str(TOP / "tools"))
+    sys.path[1:1] = [str(TOP / "tools"), str(TOP / "bench")]
+    import speed
     import test_library
 
     IS_SANITIZED = "FASTCAT_SANITIZED" in os.environ
@@ -160,6 +161,20 @@ if BUILT:
                                  "most_bytes": chance.choice((0, 10))}
                         one, other = (self.read_by(it.Decoder, templates, bytes(changed), **named) for it in (_values, _nodes))
                         self.assertEqual(one, other, (name, seed))
+
+        def test_feeds(self):
+            """Of the feeds of bench/speed.py, and the lines of the same messages."""
+            for kind in ("book", "trade"):
+                stream = getattr(speed, kind)(30_000, True)
+                lines = fastcat.show(test_library.text(f"{kind}.json"), stream, json=True)
+                with fastcat.Templates(test_library.text(f"{kind}.json")) as templates:
+                    for it in (_values, _nodes):
+                        own, _messages.Decoder = _messages.Decoder, it.Decoder
+                        try:
+                            read = list(fastcat.messages(templates, stream))
+                        finally:
+                            _messages.Decoder = own
+                        self.assertEqual(test_library.as_line(read), test_library.messages(lines))
 
         def test_packets(self):
             packets = list(test_library.packets_of(test_library.data("moex.packets")))
