@@ -2,6 +2,7 @@
 with the compiler's sanitizers where it has them; without a compiler, setuptools or Python's headers nothing is tested."""
 
 import importlib.util
+import itertools
 import os
 import pathlib
 import random
@@ -241,6 +242,36 @@ if BUILT:
             after, _ = tracemalloc.get_traced_memory()
             tracemalloc.stop()
             self.assertLess(after - before, 5_000)
+
+        @unittest.skipUnless(importlib.util.find_spec("_testcapi"), "this Python cannot refuse memory")
+        def test_want_of_memory(self):
+            """Each allocation refused in turn, there is a decoder and there are messages, or MemoryError."""
+            import _testcapi
+
+            layouts = {1: ("T", (("L", (("a", None), ("G", (("b", None),)))), ("s", None), ("d", None)))}
+            element = [node(_values.ELEMENT), node(_values.UINT64, 2**63), node(_values.GROUP), node(_values.ASCII, 0, 0, 70)]
+            nodes = [node(_values.MESSAGE, instruction=1), node(_values.SEQUENCE, 2), *element, *element, node(_values.BYTES, 0, 0, 20),
+                     node(_values.DECIMAL, 0, 77, 0, -2)]
+            room, data = packed(nodes * 3), b"x" * 70
+            before = sys.getallocatedblocks()
+            for is_pairs in (False, True):
+                for decimal in (_values.exact_decimal, None):
+                    wanted = repr(_nodes.Decoder(layouts, decimal, is_pairs).decode(room, len(nodes) * 3, data, 70, 9999))
+                    refused = 0
+                    for at in itertools.count():
+                        read = None
+                        _testcapi.set_nomemory(at, at + 1)
+                        try:
+                            read = _nodes.Decoder(layouts, decimal, is_pairs).decode(room, len(nodes) * 3, data, 70, 9999)
+                        except MemoryError:
+                            refused += 1
+                        finally:
+                            _testcapi.remove_mem_hooks()
+                        self.assertTrue(read is None or repr(read) == wanted)
+                        if read is not None and at > 300:
+                            break
+                    self.assertGreater(refused, 30)
+            self.assertLess(sys.getallocatedblocks() - before, 100)
 
         def test_threads(self):
             """Threads that read with readers of their own, over templates that they share."""
