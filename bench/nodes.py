@@ -66,7 +66,8 @@ def built(folder):
     program = os.path.join(folder, "nodes")
     subprocess.run(["cc", "-std=c99", "-O2", "-I", f"{speed.TOP}/include", "-o", program, f"{speed.TOP}/bench/nodes.c",
                     f"{speed.TOP}/lib/libfastcat.a", "-lm", "-lpthread"], check=True)
-    subprocess.run([sys.executable, "-W", "ignore", "setup.py", "--quiet", "build", "--build-base", f"{folder}/built", "--build-lib", f"{folder}/package"],
+    build = [sys.executable, "-W", "ignore", "setup.py", "--quiet", "build"]
+    subprocess.run([*build, "--build-base", f"{folder}/built", "--build-lib", f"{folder}/package"],
                    cwd=f"{speed.TOP}/python", check=True)
     if not any(name.startswith("_nodes.") and name.endswith(".so") for name in os.listdir(f"{folder}/package/fastcat")):
         sys.exit("python/fastcat/_nodes.c: no compiler or no headers of Python")

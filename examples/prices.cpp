@@ -89,7 +89,8 @@ class Templates {
       if (f->kind != FASTCAT_SEQUENCE) continue;
       auto price = place(f, "MDEntryPx", FASTCAT_DECIMAL), size = place(f, "MDEntrySize", FASTCAT_DECIMAL);
       if (price && size)
-        return Columns{at, place(of, "Symbol", FASTCAT_ASCII), place(f, "Symbol", FASTCAT_ASCII), place(f, "MDEntryType", FASTCAT_ASCII), *price, *size};
+        return Columns{at, place(of, "Symbol", FASTCAT_ASCII), place(f, "Symbol", FASTCAT_ASCII),
+                       place(f, "MDEntryType", FASTCAT_ASCII), *price, *size};
     }
     return std::nullopt;
   }
@@ -161,7 +162,9 @@ class Prices {
     const fastcat_node *entries = fastcat_at(message, columns.entries), *behind = fastcat_next(entries);
     if (entries->kind == FASTCAT_ABSENT) return;
     for (const fastcat_node *entry = entries + 1; entry < behind; entry = fastcat_next(entry)) {
-      auto text = [&](const fastcat_node *of, std::optional<size_t> place) { return place ? text_of(fastcat_at(of, *place), bytes_) : "-"; };
+      auto text = [&](const fastcat_node *of, std::optional<size_t> place) {
+        return place ? text_of(fastcat_at(of, *place), bytes_) : "-";
+      };
       std::string symbol = columns.symbol ? text(entry, columns.symbol) : text(message, columns.symbol_of_message);
       std::printf("%llu %s %s %s %s\n", packets_, symbol.c_str(), text(entry, columns.type).c_str(), text(entry, columns.price).c_str(),
                   text(entry, columns.size).c_str());

@@ -719,7 +719,8 @@ class Reading(unittest.TestCase):
             with ours, open(file, "rb") as opened:
                 theirs.sendall(stream)
                 theirs.close()
-                for given in (file, opened, io.BytesIO(stream), ours, bytearray(stream), memoryview(stream), iter([stream[:3], stream[3:]])):
+                pieces = iter([stream[:3], stream[3:]])
+                for given in (file, opened, io.BytesIO(stream), ours, bytearray(stream), memoryview(stream), pieces):
                     with self.subTest(given=type(given)):
                         self.assertEqual(list(library.messages(WORKED, given)), wanted)
         for given in (5, "f0", None):
@@ -728,7 +729,8 @@ class Reading(unittest.TestCase):
 
     def test_values(self):
         [message] = library.messages(WORKED, ONE)
-        self.assertEqual(message, {"template": "Quote", "id": 1, "fields": {"Seq": 1, "Sym": "AB", "Px": decimal.Decimal("1.00"), "Qty": None}})
+        fields = {"Seq": 1, "Sym": "AB", "Px": decimal.Decimal("1.00"), "Qty": None}
+        self.assertEqual(message, {"template": "Quote", "id": 1, "fields": fields})
         self.assertEqual(str(message["fields"]["Px"]), "1.00")
         self.assertEqual(list(message["fields"]), ["Seq", "Sym", "Px", "Qty"])
         [message] = library.messages(WORKED, ONE, decimals="pair", fields="pairs")

@@ -50,7 +50,8 @@ if BUILT:
     def node(kind, number=0, mantissa=0, length=0, exponent=0, instruction=0):
         return [kind, instruction, number, mantissa, length, exponent]
 
-    TEXTS = ["", "A", "ES", "NQX4", "0123456789abcdef", "0123456789abcdefg", "y" * 63, "z" * 64, "long" * 500, "é", "\0", "\U0001f600" * 20]
+    TEXTS = ["", "A", "ES", "NQX4", "0123456789abcdef", "0123456789abcdefg", "y" * 63, "z" * 64, "long" * 500, "é", "\0",
+             "\U0001f600" * 20]
 
     def nodes_of(chance, fields, data):
         """Nodes that these fields may have; their strings go behind the bytes, or are some that are there."""
