@@ -3,7 +3,7 @@
  * A template text is JSON in UTF-8, lines are likewise, and a stream or a recording of packets is bytes; docs/FORMAT.md tells
  * of them. The templates of a call are a text, which it reads anew, or a set, which is read once (fastcat_set_new).
  *
- * Nothing is kept between calls but what handles have, of sets and readers: threads may call the functions side by side, each
+ * Nothing is kept between calls but what handles have, of sets, readers and writers: threads may call the functions side by side, each
  * with rooms, an answer and handles of its own. A pointer whose length is 0 is not looked at. What a call is given and what it
  * is lent do not overlap.
  */
@@ -55,11 +55,12 @@ enum fastcat_status {
   /* The stream has 2^40 bytes or more, or the lines have. */
   FASTCAT_STREAM_TOO_LONG = 6,
   /* A line stands for no message, or for one that has no form behind those before: cause, template and instruction say why and
-   * where, and message is the line's number, from 1. written says how many bytes of the lines before are in the room. */
+   * where, and message is the line's number, from 1. written says how many bytes of the lines before are in the room. Likewise
+   * a message that comes as nodes, of which nothing is written. */
   FASTCAT_LINE_REFUSED = 7,
   /* The handle has nothing, or something else than the call is for; nothing was done. */
   FASTCAT_WRONG_HANDLE = 8,
-  /* Nodes are not those of a message: message says which, from 1. */
+  /* Nodes do not begin with a message and as many nodes as it says: message says which, from 1. */
   FASTCAT_NO_MESSAGE = 9,
   /* A message has more bytes of strings than its reader takes: message says which, from 1. */
   FASTCAT_MESSAGE_TOO_LARGE = 10
@@ -298,9 +299,10 @@ struct fastcat_node {
   int32_t exponent;
 };
 
-/* What waits in a reader after a call, or was taken from it: whole messages. Each call that takes these sets every field. */
+/* What waits in a reader or a writer after a call, or was taken from it: whole messages. Each call that takes these sets every
+ * field. */
 struct fastcat_counts {
-  uint64_t used; /* how many bytes of a chunk were taken; 0 where the call was refused */
+  uint64_t used; /* how many bytes of a chunk were taken, 0 where it was refused; of nodes how many were written */
   uint64_t messages, nodes, bytes;
 };
 
@@ -340,6 +342,38 @@ uint32_t fastcat_reader_reset(struct fastcat_reader *reader);
 
 /* Ends the handle, which is zeros again; a second call does nothing. */
 void fastcat_reader_free(struct fastcat_reader *reader);
+
+/* ---- messages of nodes written */
+
+/* A writer at a place of a stream, by a handle as a set's: zeros before the first call, and again once it was freed. */
+struct fastcat_writer {
+  void *at;
+  uint32_t there;
+};
+
+/* Puts a writer at the beginning of a stream behind the handle; what the handle had before is freed. Its templates stay as a
+ * reader's do. */
+uint32_t fastcat_writer_new(struct fastcat_set *set, struct fastcat_writer *writer);
+
+/* Writes the messages that the nodes are, one after the other, until one is refused: waiting->messages of them, of
+ * waiting->used nodes. Their canonical bytes wait in the writer, behind those that waited; waiting->bytes of them are there. Of
+ * nodes the instruction is not looked at but that of a MESSAGE. FASTCAT_NO_MESSAGE: the rest of the nodes does not begin with a
+ * MESSAGE and as many nodes as it says. FASTCAT_LINE_REFUSED: that message has no template (FASTCAT_D9), is not of its shape
+ * (FASTCAT_MISMATCH), or has no form behind those before. In both cases message says which it is of this call, from 1, and
+ * nothing of it was written. */
+uint32_t fastcat_writer_put(struct fastcat_writer *writer, const struct fastcat_node *nodes, size_t nodes_length,
+                            const uint8_t *bytes, size_t bytes_length, struct fastcat_counts *waiting,
+                            struct fastcat_answer *answer);
+
+/* Puts the bytes that wait, all or none, into the front of the room, and forgets them; where the room is too short, taken->bytes
+ * says how many wait. */
+uint32_t fastcat_writer_take(struct fastcat_writer *writer, uint8_t *room, size_t room_length, struct fastcat_counts *taken);
+
+/* The beginning of a new stream, from undefined entries; what waits is forgotten. */
+uint32_t fastcat_writer_reset(struct fastcat_writer *writer);
+
+/* Ends the handle, which is zeros again; a second call does nothing. */
+void fastcat_writer_free(struct fastcat_writer *writer);
 
 /* The node behind this one and all that are its own: the next field, element or message. */
 static inline const struct fastcat_node *fastcat_next(const struct fastcat_node *node) {

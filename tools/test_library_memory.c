@@ -1,4 +1,4 @@
-/* Tests of the memory of sets and readers, of which each allocation is counted, and refused in turn: test_library_memory
+/* Tests of the memory of sets, readers and writers, of which each allocation is counted, and refused in turn: test_library_memory
  * examples/worked.json. It is linked with --wrap=malloc,realloc,free. */
 #include "fastcat.h"
 
@@ -150,6 +150,40 @@ static void reading(void) {
   fastcat_set_free(&set);
 }
 
+/* Each allocation refused in turn, a writer is made and put to; refused, it has nothing of the message, which is put then. */
+static void writing(void) {
+  static const struct fastcat_node wrap[] = {
+      {FASTCAT_MESSAGE, 2, 0, 0, 2, 0}, {FASTCAT_UINT32, 1, 1, 0, 0, 0}, {FASTCAT_UINT32, 2, 5, 0, 0, 0}};
+  struct fastcat_set set = {0};
+  struct fastcat_answer a;
+  struct fastcat_counts counts;
+  uint8_t room[16];
+  size_t turns = 0;
+  expect(fastcat_set_new(templates, templates_length, &set, &a) == FASTCAT_DONE, "a set of writers");
+  for (uint32_t status = FASTCAT_NO_MEMORY; status != FASTCAT_DONE; turns++) {
+    struct fastcat_writer writer = {0};
+    size_t before = held;
+    left = turns;
+    status = fastcat_writer_new(&set, &writer);
+    if (status == FASTCAT_DONE) status = fastcat_writer_put(&writer, wrap, 3, NULL, 0, &counts, &a);
+    left = SIZE_MAX;
+    expect(status == FASTCAT_DONE || status == FASTCAT_NO_MEMORY, "a status of a writer");
+    if (writer.at && status != FASTCAT_DONE)
+      expect(counts.used == 0 && counts.bytes == 0 && fastcat_writer_put(&writer, wrap, 3, NULL, 0, &counts, &a) == FASTCAT_DONE,
+             "a message that is put again");
+    if (writer.at) {
+      left = 0;
+      expect(counts.messages == 1 && fastcat_writer_take(&writer, room, sizeof room, &counts) == FASTCAT_DONE && counts.bytes > 2 &&
+                 room[1] == 0x82, "its bytes are taken without memory");
+      left = SIZE_MAX;
+    }
+    fastcat_writer_free(&writer);
+    expect(held <= before + 1 && works(&set), "one block lasts");
+  }
+  expect(turns > 5, "allocations of a writer are refused");
+  fastcat_set_free(&set);
+}
+
 int main(int count, char **words) {
   FILE *file = count == 2 ? fopen(words[1], "rb") : NULL;
   if (!file) {
@@ -162,6 +196,7 @@ int main(int count, char **words) {
   sharing();
   fields();
   reading();
+  writing();
   printf("C, memory: %u passed, %u failed\n", passed, failed);
   return failed != 0;
 }

@@ -1,6 +1,6 @@
-/* Tests of readers as C calls them: test_library_reader examples/worked.json examples/worked.hex NAME.json NAME.hex.., whose streams
- * are read in pieces of several sizes. What is told is held against the fields of the templates, and against what
- * fastcat_set_check counts. */
+/* Tests of readers and writers as C calls them: test_library_reader examples/worked.json examples/worked.hex NAME.json NAME.hex..,
+ * whose streams are read in pieces of several sizes. What is told is held against the fields of the templates, and against what
+ * fastcat_set_check counts; what is written, against what fastcat_set_canon writes. */
 #include "fastcat.h"
 
 #include <ctype.h>
@@ -173,7 +173,8 @@ static void streams(struct fastcat_set *set, const uint8_t *stream, size_t lengt
 /* ---- statuses */
 
 /* A quote whose strings have two bytes; the next one, which repeats them; and a message of a template that is none. */
-static const uint8_t quote[] = {0xf0, 0x81, 0x81, 0x41, 0xc2, 0xfe, 0x00, 0xe4}, next_quote[] = {0x80, 0x80, 0x81}, unknown[] = {0xc0, 0xff};
+static const uint8_t quote[] = {0xf0, 0x81, 0x81, 0x41, 0xc2, 0xfe, 0x00, 0xe4};
+static const uint8_t next_quote[] = {0x80, 0x80, 0x81}, unknown[] = {0xc0, 0xff};
 
 /* A fault is answered behind the messages before it, and again until the reset. */
 static void faults(struct fastcat_set *set) {
@@ -192,6 +193,11 @@ static void faults(struct fastcat_set *set) {
   expect(fastcat_reader_finish(&reader, &answer) == FASTCAT_STREAM_REFUSED && answer.cause == FASTCAT_D9, "a fault is kept");
   expect(fastcat_reader_reset(&reader) == FASTCAT_DONE, "a reset");
   expect(fastcat_reader_feed(&reader, quote, sizeof quote, &waiting, &answer) == FASTCAT_DONE && waiting.messages == 1, "behind a reset");
+  /* (2^40 bytes more than those before are refused unread, and that is not kept) */
+  expect(fastcat_reader_feed(&reader, quote, (size_t)1 << 40, &waiting, &answer) == FASTCAT_STREAM_TOO_LONG && waiting.messages == 1 &&
+             answer.status == FASTCAT_STREAM_TOO_LONG && answer.message == 0, "a stream that is too long");
+  expect(fastcat_reader_feed(&reader, next_quote, sizeof next_quote, &waiting, &answer) == FASTCAT_DONE && waiting.messages == 2,
+         "behind what is too long");
   /* what waits is forgotten by a reset, and stays by a packet that is refused */
   fastcat_reader_reset(&reader);
   expect(fastcat_reader_packet(&reader, quote, sizeof quote, &waiting, &answer) == FASTCAT_DONE && waiting.messages == 1, "a packet");
@@ -258,6 +264,107 @@ static void much(struct fastcat_set *set) {
   free(nodes);
 }
 
+/* ---- writers */
+
+static uint8_t written[1 << 16], canonical[1 << 16];
+
+/* Reads a stream in pieces, and writes its messages again: their canonical bytes. */
+static void written_again(struct fastcat_set *set, const uint8_t *stream, size_t length, size_t step) {
+  struct fastcat_reader reader = {0};
+  struct fastcat_writer writer = {0};
+  struct fastcat_counts waiting, taken;
+  struct fastcat_answer answer;
+  static struct fastcat_node nodes[1 << 12];
+  static uint8_t bytes[1 << 12];
+  size_t count = 0;
+  expect(fastcat_set_canon(set, 0, stream, length, canonical, sizeof canonical, &answer) == FASTCAT_DONE, "canon");
+  const size_t wanted = (size_t)answer.written;
+  expect(fastcat_reader_new(set, 0, 0, &reader) == FASTCAT_DONE && fastcat_writer_new(set, &writer) == FASTCAT_DONE, "a writer");
+  for (size_t at = 0; at < length; at += (size_t)waiting.used) {
+    size_t piece = length - at < step ? length - at : step;
+    expect(fastcat_reader_feed(&reader, stream + at, piece, &waiting, &answer) == FASTCAT_DONE &&
+               fastcat_reader_take(&reader, nodes, 1 << 12, bytes, 1 << 12, &taken) == FASTCAT_DONE, "a piece to write again");
+    struct fastcat_counts put;
+    expect(fastcat_writer_put(&writer, nodes, (size_t)taken.nodes, bytes, (size_t)taken.bytes, &put, &answer) == FASTCAT_DONE &&
+               put.used == taken.nodes && put.messages == taken.messages && answer.messages == taken.messages, "messages are put");
+    written[count] = 0xaa;
+    if (put.bytes > 0)
+      expect(fastcat_writer_take(&writer, written + count, (size_t)put.bytes - 1, &taken) == FASTCAT_ROOM_TOO_SHORT &&
+                 taken.bytes == put.bytes && written[count] == 0xaa, "a room that is a byte too short");
+    /* (what waits may stay) */
+    if (at % 2 == 0) {
+      expect(fastcat_writer_take(&writer, written + count, (size_t)put.bytes, &taken) == FASTCAT_DONE && taken.bytes == put.bytes, "bytes");
+      count += (size_t)taken.bytes;
+    }
+  }
+  expect(fastcat_writer_take(&writer, written + count, sizeof written - count, &taken) == FASTCAT_DONE, "the last bytes");
+  count += (size_t)taken.bytes;
+  expect(count == wanted && memcmp(written, canonical, wanted) == 0, "the canonical bytes");
+  fastcat_reader_free(&reader);
+  fastcat_writer_free(&writer);
+  expect(writer.at == NULL && writer.there == 0, "a writer is freed");
+  fastcat_writer_free(&writer);
+}
+
+/* A message of Const, whose constant is 7, and one of Wrap, of two numbers; the numbers of fields are not looked at. */
+static const struct fastcat_node constant[] = {{FASTCAT_MESSAGE, 14, 0, 0, 3, 0}, {FASTCAT_UINT32, 0, 7, 0, 0, 0},
+                                               {FASTCAT_ABSENT, 0, 0, 0, 0, 0}, {FASTCAT_UINT32, 0, 3, 0, 0, 0}},
+                                 wrap[] = {{FASTCAT_MESSAGE, 2, 0, 0, 2, 0}, {FASTCAT_UINT32, 0, 1, 0, 0, 0},
+                                           {FASTCAT_UINT32, 9, 5, 0, 0, 0}};
+
+static uint32_t put(struct fastcat_writer *writer, const struct fastcat_node *nodes, size_t length, struct fastcat_counts *counts,
+                    struct fastcat_answer *answer) {
+  return fastcat_writer_put(writer, nodes, length, NULL, 0, counts, answer);
+}
+
+/* A message that is refused leaves nothing behind, and those before it stay. */
+static void refused(struct fastcat_set *set) {
+  struct fastcat_writer writer = {0};
+  struct fastcat_counts counts;
+  struct fastcat_answer answer;
+  struct fastcat_node nodes[7];
+  memcpy(nodes, wrap, sizeof wrap);
+  memcpy(nodes + 3, constant, sizeof constant);
+  expect(fastcat_writer_new(set, &writer) == FASTCAT_DONE && put(&writer, nodes, 7, &counts, &answer) == FASTCAT_DONE &&
+             counts.messages == 2 && counts.used == 7, "two messages");
+  const uint64_t both_bytes = counts.bytes;
+  expect(fastcat_writer_reset(&writer) == FASTCAT_DONE && put(&writer, wrap, 3, &counts, &answer) == FASTCAT_DONE, "a message");
+  const uint64_t one_bytes = counts.bytes;
+  nodes[4].number = 8;
+  fastcat_writer_reset(&writer);
+  expect(put(&writer, nodes, 7, &counts, &answer) == FASTCAT_LINE_REFUSED && answer.cause == FASTCAT_NOT_CONSTANT && answer.message == 2 &&
+             answer.template_id == 14 && answer.instruction == 1 && counts.used == 3 && counts.messages == 1 &&
+             counts.bytes == one_bytes, "a constant that is another");
+  nodes[4].number = 7;
+  expect(put(&writer, nodes + 3, 4, &counts, &answer) == FASTCAT_DONE && counts.bytes == both_bytes, "the message put right");
+  fastcat_writer_reset(&writer);
+  /* lengths that are wrong, a node of another kind, one that is missing, and no message at all */
+  static const struct { size_t node; uint32_t kind, length, cause; } wrong[] = {
+      {0, FASTCAT_MESSAGE, 1, FASTCAT_MISMATCH}, {0, FASTCAT_MESSAGE, 3, FASTCAT_NO_CAUSE}, {0, FASTCAT_ELEMENT, 2, FASTCAT_NO_CAUSE},
+      {1, FASTCAT_INT32, 0, FASTCAT_MISMATCH}, {2, FASTCAT_ABSENT, 0, FASTCAT_MISMATCH}, {1, 99, 0, FASTCAT_MISMATCH}};
+  for (size_t i = 0; i < sizeof wrong / sizeof *wrong; i++) {
+    memcpy(nodes, wrap, sizeof wrap);
+    nodes[wrong[i].node].kind = wrong[i].kind;
+    nodes[wrong[i].node].length = wrong[i].length;
+    uint32_t status = wrong[i].cause == FASTCAT_NO_CAUSE ? FASTCAT_NO_MESSAGE : FASTCAT_LINE_REFUSED;
+    expect(put(&writer, nodes, 3, &counts, &answer) == status && answer.status == status && answer.cause == wrong[i].cause &&
+               answer.message == 1 && counts.used == 0 && counts.bytes == 0, "nodes that are no message of a template");
+  }
+  memcpy(nodes, wrap, sizeof wrap);
+  expect(put(&writer, nodes, 2, &counts, &answer) == FASTCAT_NO_MESSAGE && counts.bytes == 0, "a node is missing");
+  nodes[0].instruction = 99;
+  expect(put(&writer, nodes, 3, &counts, &answer) == FASTCAT_LINE_REFUSED && answer.cause == FASTCAT_D9 && answer.template_id == 99,
+         "no template");
+  expect(put(&writer, nodes, 0, &counts, &answer) == FASTCAT_DONE && counts.messages == 0, "no nodes");
+  /* a string that lies outside its bytes */
+  const struct fastcat_node outside[] = {{FASTCAT_MESSAGE, 10, 0, 0, 1, 0}, {FASTCAT_ASCII, 1, 1, 0, 2, 0}};
+  expect(fastcat_writer_put(&writer, outside, 2, (const uint8_t *)"xy", 2, &counts, &answer) == FASTCAT_LINE_REFUSED &&
+             answer.cause == FASTCAT_MISMATCH && counts.bytes == 0, "a string outside");
+  expect(fastcat_writer_put(&writer, outside, 2, (const uint8_t *)"xyz", 3, &counts, &answer) == FASTCAT_DONE && counts.messages == 1,
+         "a string within");
+  fastcat_writer_free(&writer);
+}
+
 static void handles(struct fastcat_set *set) {
   struct fastcat_reader none = {0};
   struct fastcat_set nothing = {0};
@@ -270,6 +377,12 @@ static void handles(struct fastcat_set *set) {
   expect(fastcat_reader_take(&none, NULL, 0, NULL, 0, &counts) == FASTCAT_WRONG_HANDLE, "nothing is taken of no reader");
   expect(fastcat_reader_finish(&none, &answer) == FASTCAT_WRONG_HANDLE, "no reader is finished");
   expect(fastcat_reader_reset(&none) == FASTCAT_WRONG_HANDLE && is_empty(&none), "no reader is reset");
+  struct fastcat_writer no_writer = {0};
+  uint8_t byte;
+  expect(fastcat_writer_new(&nothing, &no_writer) == FASTCAT_WRONG_HANDLE && no_writer.at == NULL, "a writer of no set");
+  expect(put(&no_writer, wrap, 3, &counts, &answer) == FASTCAT_WRONG_HANDLE && counts.used == 0, "no writer is put to");
+  expect(fastcat_writer_take(&no_writer, &byte, 1, &counts) == FASTCAT_WRONG_HANDLE && counts.bytes == 0, "no writer is taken from");
+  expect(fastcat_writer_reset(&no_writer) == FASTCAT_WRONG_HANDLE && no_writer.at == NULL, "no writer is reset");
 }
 
 /* A set is no reader, and a reader no set: both are as they were. */
@@ -290,6 +403,11 @@ static void kinds(struct fastcat_set *set) {
   expect(fastcat_reader_packet(&of_set, quote, sizeof quote, &counts, &answer) == FASTCAT_WRONG_HANDLE, "a set takes a packet");
   expect(fastcat_reader_take(&of_set, &node, 1, &byte, 1, &counts) == FASTCAT_WRONG_HANDLE && counts.nodes == 0, "a set is taken from");
   expect(fastcat_reader_finish(&of_set, &answer) == FASTCAT_WRONG_HANDLE, "a set is finished");
+  struct fastcat_writer as_writer;
+  as_writer.at = of_reader.at, as_writer.there = of_reader.there;
+  expect(put(&as_writer, wrap, 3, &counts, &answer) == FASTCAT_WRONG_HANDLE && counts.used == 0, "a reader is put to");
+  expect(fastcat_writer_reset(&as_writer) == FASTCAT_WRONG_HANDLE, "a reader is reset as a writer");
+  of_reader.at = as_writer.at, of_reader.there = as_writer.there;
   expect(fastcat_reader_reset(&of_set) == FASTCAT_WRONG_HANDLE, "a set is reset");
   set->at = of_set.at, set->there = of_set.there;
   expect(fastcat_set_check(set, 0, quote, sizeof quote, &answer) == FASTCAT_DONE && answer.messages == 1, "a set as it was");
@@ -344,7 +462,8 @@ static void threads(struct fastcat_set *set, const uint8_t *stream, size_t lengt
   shared_length = length;
   expect(fastcat_set_check(set, 0, stream, length, &answer) == FASTCAT_DONE, "check");
   for (int i = 0; i < 2; i++)
-    expect(fastcat_set_share(set, &shares[i]) == FASTCAT_DONE && pthread_create(&running[i], NULL, in_a_thread, &shares[i]) == 0, "a thread");
+    expect(fastcat_set_share(set, &shares[i]) == FASTCAT_DONE &&
+               pthread_create(&running[i], NULL, in_a_thread, &shares[i]) == 0, "a thread");
   for (int i = 0; i < 2; i++) {
     void *messages = NULL;
     expect(pthread_join(running[i], &messages) == 0 && *(uint64_t *)messages == 50 * answer.messages, "a thread over a share");
@@ -368,17 +487,20 @@ int main(int count, char **words) {
     streams(&set, stream, length);
     handles(&set);
     threads(&set, stream, length);
+    static const size_t steps[] = {1, 2, 7, 1 << 16};
+    for (size_t at = 0; at < sizeof steps / sizeof *steps; at++) written_again(&set, stream, length, steps[at]);
     /* (the worked templates come first) */
     if (i == 1) {
       faults(&set);
       too_large(&set);
       much(&set);
       kinds(&set);
+      refused(&set);
     }
     fastcat_set_free(&set);
     free(templates);
     free(stream);
   }
-  printf("C, readers: %u passed, %u failed\n", passed, failed);
+  printf("C, readers and writers: %u passed, %u failed\n", passed, failed);
   return failed != 0;
 }
