@@ -293,16 +293,17 @@ if BUILT:
                 self.assertEqual(wrong, [])
 
 
-def build(folder, flags):
-    """The package with _nodes.c; none where it cannot be built."""
+def build(folder, flags, **named):
+    """The package, and how its build ended."""
     shutil.copytree(TOP / "python", folder / "source", ignore=shutil.ignore_patterns("__pycache__", "build", "*.egg-info", "*.so"))
-    environment = {**os.environ, "CFLAGS": f"-Wall -Wextra -Werror {flags}", "LDFLAGS": flags}
+    environment = {**os.environ, "CFLAGS": f"-Wall -Wextra -Werror {flags}", "LDFLAGS": flags, **named}
     ran = subprocess.run([sys.executable, "-W", "ignore", "setup.py", "--quiet", "build", "--build-lib", folder / "package"],
                          cwd=folder / "source", env=environment, capture_output=True, text=True)
-    if ran.returncode == 0 and list((folder / "package" / "fastcat").glob("_nodes.*.so")):
-        return folder / "package"
-    print(ran.stderr)
-    return None
+    return folder / "package", ran
+
+
+def has_nodes(package):
+    return any((package / "fastcat").glob("_nodes.*.so"))
 
 
 def is_able():
@@ -325,7 +326,11 @@ def main():
         folder = pathlib.Path(folder)
         for flags in ("", SANITIZERS) if has_sanitizers(folder) else ("",):
             at = folder / ("sanitized" if flags else "plain")
-            package = build(at, flags)
+            package, ran = build(at, flags)
+            if ran.returncode != 0 or not has_nodes(package):
+                print(ran.stderr)
+                failed += 1
+                continue
             environment = {**os.environ, "FASTCAT_BUILT": str(package)}
             environment.setdefault("FASTCAT_LIBRARY", str(TOP / "lib" / "libfastcat.so"))
             if flags:
@@ -334,7 +339,10 @@ def main():
                 environment |= {"LD_PRELOAD": preloaded, "ASAN_OPTIONS": "detect_leaks=0", "PYTHONMALLOC": "malloc",
                                 "FASTCAT_SANITIZED": "1"}
             run = [sys.executable, "-B", __file__, *sys.argv[1:]]
-            failed += package is None or subprocess.run(run, env=environment).returncode != 0
+            failed += subprocess.run(run, env=environment).returncode != 0
+        # (without a compiler there is the package without it)
+        package, ran = build(folder / "without", "", CC="/nonexistent")
+        failed += ran.returncode != 0 or has_nodes(package) or not (package / "fastcat" / "_values.py").exists()
     return failed > 0
 
 
