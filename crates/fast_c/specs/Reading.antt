@@ -126,7 +126,7 @@ waiting_in used kept = record { used = used; messages = 0; nodes = 0; bytes = 0 
 -- what was taken, or where the rooms are too short what waits; and the status
 abbrev pub taken_told : Option (Option Taken) → Option Kept → NodeCounts
 taken_told (Some (Some taken)) kept = counted 0 taken
-taken_told done kept = waiting_in 0 kept
+taken_told other kept = waiting_in 0 kept
 
 abbrev pub status_taken : Option (Option Taken) → ℕ
 status_taken (Some (Some taken)) = 0
