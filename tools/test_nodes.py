@@ -41,6 +41,10 @@ if BUILT:
         def test_memory_is_flat(self):
             super().test_memory_is_flat()
 
+        @unittest.skipIf(IS_SANITIZED, "the sanitizers keep what is freed")
+        def test_templates_of_a_text_are_read_once(self):
+            super().test_templates_of_a_text_are_read_once()
+
     def layout(chance, depth=0):
         """Fields of random names, some of them groups or sequences."""
         many = chance.randint(0, 4)
