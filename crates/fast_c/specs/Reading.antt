@@ -6,7 +6,6 @@ use Rattle.fast_dictionary.specs.declared.slots.SlotEntries.{SlotEntries}
 use Rattle.fast_dictionary.specs.contracts.slots.SlotEntriesEntries.TheImpl.{ghosts}
 use Rattle.fast_stream.specs.Nodes.{Content}
 use Rattle.fast_stream.specs.Modes.{Carries}
-use Rattle.fast_stream.specs.declared.mode.Mode.{Mode}
 use Rattle.fast_stream.specs.declared.fault.Cause.{Cause}
 use Rattle.fast_stream.specs.declared.fault.Fault.{Fault}
 use Rattle.fast_machine.specs.Following.{mode_of}
@@ -22,7 +21,6 @@ use Rattle.fast_kept.specs.declared.kept.Kept.{Kept}
 use Rattle.fast_slices.specs.Answers.{no_counts}
 use Rattle.fast_slices.specs.Calls.{Done}
 use Rattle.fast_slices.specs.Ways.{stream_mode_of}
-use Rattle.fast_slices.specs.declared.answer.Counts.{Counts}
 use Rattle.fast_slices.specs.declared.answer.Refusal.{Refusal}
 use Rattle.fast_c.specs.declared.counts.NodeCounts.{NodeCounts}
 

@@ -1,6 +1,5 @@
 -- What calls with the writer behind a handle did, and what C is answered of them.
-use Rattle.std.specs.Prelude.{◌≡◌, ◌≤◌, ◌↔◌, ◌+◌, nat_lt, if◌then◌else◌, ◌++◌, [], ◌∷◌, ℕ, List, Option, Some, None, Result, Ok, Err, IfSome, IfNone, IsSome, length, take, drop}
-use Rattle.std.specs.FinMap as finite
+use Rattle.std.specs.Prelude.{◌≡◌, ◌≤◌, ◌↔◌, ◌+◌, nat_lt, if◌then◌else◌, ◌++◌, [], ◌∷◌, ℕ, List, Option, Some, None, Ok, Err, IfSome, IfNone, IsSome, length, take, drop}
 use Rattle.fast_template.specs.TemplateSets.{TemplateList, templates_in}
 use Rattle.fast_dictionary.specs.declared.slots.SlotEntries.{SlotEntries}
 use Rattle.fast_dictionary.specs.contracts.slots.SlotEntriesEntries.TheImpl.{ghosts}
@@ -17,7 +16,6 @@ use Rattle.fast_untape.specs.declared.writer.TapeWriter.{TapeWriter}
 use Rattle.fast_kept.specs.declared.kept.Kept.{Kept}
 use Rattle.fast_slices.specs.Answers.{no_counts}
 use Rattle.fast_slices.specs.Calls.{Done}
-use Rattle.fast_slices.specs.declared.answer.Counts.{Counts}
 use Rattle.fast_slices.specs.declared.answer.Refusal.{Refusal}
 use Rattle.fast_c.specs.declared.counts.NodeCounts.{NodeCounts}
 

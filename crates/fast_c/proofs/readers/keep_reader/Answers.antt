@@ -1,4 +1,4 @@
-use Rattle.std.proofs.Common.{◌≡◌, ◌∙◌, Some, sym, ap, refl}
+use Rattle.std.proofs.Common.{◌∙◌, Some, sym, ap, refl}
 use Rattle.fast_c.proofs.readers.keep_reader.Goals as goal
 
 pub returns-in-Ok-keep : goal.returns-in-Ok-keep

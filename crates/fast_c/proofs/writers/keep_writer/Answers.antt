@@ -1,4 +1,4 @@
-use Rattle.std.proofs.Common.{◌≡◌, ◌∙◌, refl}
+use Rattle.std.proofs.Common.{◌∙◌, refl}
 use Rattle.fast_c.proofs.writers.keep_writer.Goals as goal
 
 pub returns-in-Ok-keep : goal.returns-in-Ok-keep
