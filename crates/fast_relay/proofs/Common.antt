@@ -92,7 +92,6 @@ pub use Rattle.fast_field.specs.Values.{IsUnitKind, default_of, integer_of, is_u
 pub use Rattle.fast_field.specs.declared.fault.FieldFault.{FieldFault}
 pub use Rattle.fast_relay.specs.Best.{HasBest}
 pub use Rattle.fast_relay.specs.Judged.{Adds, EndGives, IfFound, JudgedTo, JudgesFrom, Leaves, LeavesWhole, NumberGives, PairGives, PairStandsFrom, StandsAt, StandsFrom, TextGives, UnitsGive, UnitsStandFrom, sent_unsigned, under, zero_byte}
-pub use Rattle.fast_relay.specs.Kept.{TakesKept, TakesText, keeps_value}
 pub use Rattle.fast_relay.specs.Numbers.{KeepsNothing, SpellsWhole, Spelt}
 pub use Rattle.fast_relay.specs.OneByte.{RelaysByte, StandsByte}
 pub use Rattle.fast_relay.specs.Relayed.{Judges, Takes}

@@ -6,8 +6,7 @@ mod PlainTexts
 pub mod DecimalRelaying
 pub mod NullRelaying
 pub mod VectorTexts
-mod TextTaking
-mod KeptTaking
+pub mod TextTaking
 pub mod Giving
 pub mod Standing
 pub mod Needless

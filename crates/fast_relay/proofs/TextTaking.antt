@@ -1,18 +1,8 @@
--- What strings that are read at once into their entry rest on.
+-- What strings that are read at once rest on.
 use Rattle.fast_relay.proofs.Common.{◌≡◌, List, ℕ, ◌-◌, ◌++◌, length, take, refl, sym, subst, ◌∙◌, Ok, Some, Usual, groups, IsPlain, Kind, Operator, Part, Ascii, FieldPart, Entry, Assigned, next, next_of, units_spelled_at, IsUnitKind, KeepsNothing, SpellsWhole, Takes, GivesCut, GivesTail}
 use Rattle.fast_relay.proofs.PlainTexts.{spelled_plain}
 use Rattle.fast_relay.proofs.Taking.{delta_row, leaves, spells_whole, takes, whole_row}
 use Rattle.fast_relay.proofs.TextRelaying.{delta_as, tail_row, text_read, whole_within}
-
-pub text_takes : {i : FieldPart} {old new : Entry} {bytes form rest : List ℕ} → i.kind ≡ Kind.Ascii → i.part ≡ Part.Whole → i.operator ≡ Operator.Copy → IsPlain bytes form rest
-    → new ≡ next_of Operator.Copy old (Some (Ascii (groups form))) → Takes i old new (Ascii (groups form)) bytes rest
-text_takes {i} {old} {new} {bytes} {form} {rest} k whole o h entry =
-    let spells : SpellsWhole i.operator = rw o tt in
-    let units : IsUnitKind i.kind = rw k tt in
-    let last : next i old (Some (Ascii (groups form))) ≡ next_of Operator.Copy old (Some (Ascii (groups form))) = rw o refl in
-    takes i old new (Ascii (groups form)) bytes rest (whole_within i.part (Ascii (groups form)) whole)
-    (whole_row i.operator i old bytes spells ∙ text_read i (Ascii (groups form)) bytes rest units (subst (λ (k : Kind). units_spelled_at Usual k i.presence bytes ≡ Ok (Some (Ascii (groups form)), rest)) (sym k) (spelled_plain i.presence bytes form rest h)))
-    (entry ∙ sym last)
 
 -- one that its entry does not keep
 pub aside_takes : {i : FieldPart} {e : Entry} {bytes form rest : List ℕ} → i.kind ≡ Kind.Ascii → i.part ≡ Part.Whole → KeepsNothing i.operator → IsPlain bytes form rest → Takes i e e (Ascii (groups form)) bytes rest
@@ -22,16 +12,6 @@ aside_takes {i} {e} {bytes} {form} {rest} k whole o h =
     takes i e e v bytes rest (whole_within i.part v whole)
     (whole_row i.operator i e bytes (spells_whole i.operator o) ∙ text_read i v bytes rest units (subst (λ (k : Kind). units_spelled_at Usual k i.presence bytes ≡ Ok (Some v, rest)) (sym k) (spelled_plain i.presence bytes form rest h)))
     (sym (leaves i.operator e v o))
-
-pub cut_takes : {i : FieldPart} {base bytes : List ℕ} {removed : ℕ} {form rest : List ℕ} → i.kind ≡ Kind.Ascii → i.part ≡ Part.Whole → i.operator ≡ Operator.Delta → GivesCut i base bytes removed form rest
-    → Takes i (Assigned (Ascii base)) (Assigned (Ascii (take (length base - removed) base ++ groups form))) (Ascii (take (length base - removed) base ++ groups form)) bytes rest
-cut_takes {i} {base} {bytes} {removed} {form} {rest} k whole o h =
-    let v = Ascii (take (length base - removed) base ++ groups form) in
-    let units : IsUnitKind i.kind = rw k tt in
-    let last : next i (Assigned (Ascii base)) (Some v) ≡ Assigned v = rw o refl in
-    takes i (Assigned (Ascii base)) (Assigned v) v bytes rest (whole_within i.part v whole)
-    (delta_row i.operator i (Assigned (Ascii base)) bytes o ∙ delta_as i.kind i (Assigned (Ascii base)) bytes units ∙ h.read)
-    (sym last)
 
 pub end_takes : {i : FieldPart} {base bytes form rest : List ℕ} → i.part ≡ Part.Whole → i.operator ≡ Operator.Tail → GivesTail i base bytes form rest
     → Takes i (Assigned (Ascii base)) (Assigned (Ascii (take (length base - length form) base ++ groups form))) (Ascii (take (length base - length form) base ++ groups form)) bytes rest

@@ -5,5 +5,4 @@ pub mod Numbers
 pub mod Relayed
 pub mod OneByte
 pub mod Texts
-pub mod Kept
 pub mod Skips

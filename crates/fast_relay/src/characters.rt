@@ -47,7 +47,7 @@ fn find_behind_zero(bytes: &[u8], at: usize) -> Option<(usize, usize)>
 /// Where the ASCII string that is read from `at` on begins and ends, if its bytes there are the shortest form of it,
 /// with NULL and without. A zero group may stand in front of them.
 #[inline(always)]
-pub(crate) fn find_plain(bytes: &[u8], at: usize) -> Option<(usize, usize)>
+pub fn find_plain(bytes: &[u8], at: usize) -> Option<(usize, usize)>
     requires { at ≤ length bytes.now }
     ensures first { IfSome result (λ x. x.0 ≤ at + 1) }
     ensures place { IfSome result (λ x. (at ≤ x.0) × (x.0 < x.1) × (x.1 ≤ length bytes.now)) }

@@ -66,7 +66,7 @@ fn is_shortest(unsigned: bool, bytes: &[u8], at: usize, next: usize) -> bool
 
 /// A number that has 64 bits with a sign, and the place behind it; none where it has more, is NULL or faulty.
 #[inline(always)]
-pub(crate) fn read_number(
+pub fn read_number(
     unsigned: bool,
     presence: Presence,
     bytes: &[u8],
@@ -333,7 +333,7 @@ fn add(kind: Kind, which: Part, entry: &mut Entry, delta: i64) -> bool
 
 /// Whether what is sent of an integer has no sign: a difference has one.
 #[inline(always)]
-pub(crate) fn is_sent_unsigned(kind: Kind, operator: Operator) -> bool
+pub fn is_sent_unsigned(kind: Kind, operator: Operator) -> bool
     ensures { result ≡ sent_unsigned operator kind }
 {
     match operator {
@@ -342,9 +342,15 @@ pub(crate) fn is_sent_unsigned(kind: Kind, operator: Operator) -> bool
     }
 }
 
-/// Judges a constant, which has no bytes.
+/// Judges a constant, which has no bytes, under bit 1.
 #[inline(always)]
-fn judge_constant(which: Part, instr: &FieldPart, entry: &Entry, bytes: &[u8], at: usize) -> Judged
+pub fn judge_constant(
+    which: Part,
+    instr: &FieldPart,
+    entry: &Entry,
+    bytes: &[u8],
+    at: usize,
+) -> Judged
     requires place { at ≤ length bytes.now }
     requires which { which ≡ instr.now.part }
     requires part { IsFieldPart instr.now }
@@ -523,6 +529,35 @@ fn kind_of(which: Part, instr: &FieldPart) -> Kind
     }
 }
 
+/// Judges an integer that was read under bit 1, from one place to another, and makes the entry the one afterwards. Elsewhere:
+/// nothing has changed, and another way tells.
+#[inline(always)]
+pub fn judge_spelt(
+    unsigned: bool,
+    which: Part,
+    kind: Kind,
+    instr: &FieldPart,
+    entry: &mut Entry,
+    number: i64,
+    bytes: &[u8],
+    at: usize,
+    next: usize,
+) -> Judged
+    requires place { at ≤ next }
+    requires within { next ≤ length bytes.now }
+    requires part { which ≡ instr.now.part }
+    requires kind { kind ≡ instr.now.kind }
+    requires sign { unsigned ≡ sent_unsigned instr.now.operator kind }
+    requires spelt { Spelt unsigned instr.now.presence (drop at bytes.now) number (drop next bytes.now) }
+    ensures { IsJudged instr.now entry.old entry.new bytes.now at result }
+{
+    if stands_shortest(unsigned, instr.presence, number, bytes, at, next) {
+        judge_number(kind, which, instr, entry, number, next)
+    } else {
+        judge_behind(unsigned, which, kind, instr, entry, number, bytes, at, next)
+    }
+}
+
 /// Judges an integer.
 #[inline(always)]
 fn judge_integer(
@@ -543,11 +578,7 @@ fn judge_integer(
     let Some((number, next)) = read_number(unsigned, instr.presence, bytes, at) else {
         return Judged::Elsewhere;
     };
-    if stands_shortest(unsigned, instr.presence, number, bytes, at, next) {
-        judge_number(kind, which, instr, entry, number, next)
-    } else {
-        judge_behind(unsigned, which, kind, instr, entry, number, bytes, at, next)
-    }
+    judge_spelt(unsigned, which, kind, instr, entry, number, bytes, at, next)
 }
 
 /// Judges a string, a vector or a decimal, which is no part of another field.

@@ -205,7 +205,7 @@ fn judge_pair(instr: &FieldPart, entry: &mut Entry, exponent: i64, mantissa: i64
 /// Judges a decimal in one piece that is read under bit 1, and makes the entry the one afterwards. It takes no memory.
 /// Elsewhere: nothing has changed, and another way tells.
 #[inline(never)]
-pub(crate) fn judge_decimal(instr: &FieldPart, entry: &mut Entry, bytes: &[u8], at: usize) -> Judged
+pub fn judge_decimal(instr: &FieldPart, entry: &mut Entry, bytes: &[u8], at: usize) -> Judged
     requires place { at ≤ length bytes.now }
     requires part { instr.now.part ≡ part_type.Whole }
     requires kind { instr.now.kind ≡ kind_type.Decimal }

@@ -1,7 +1,7 @@
 //! ASCII strings that are judged as they stand: whether their bytes are the best form of the value, or bit 0 is. The entry
 //! goes on, and nothing is written. What is not served here goes by `judge_other`, or the general way.
 
-ghost use Rattle.std.specs.Prelude.{◌≡◌, ◌≤◌, length, IfNone, IfSome};
+ghost use Rattle.std.specs.Prelude.{◌≡◌, ◌≤◌, ◌<◌, ◌+◌, drop, length, slice_range, IfNone, IfSome};
 ghost use Rattle.fast_value.specs.Scalar.{IsScalar};
 ghost use Rattle.fast_value.specs.declared.kind.Kind.TheVariants as kind_type;
 ghost use Rattle.fast_value.specs.declared.kind.Operator.TheVariants as operator_type;
@@ -9,6 +9,7 @@ ghost use Rattle.fast_value.specs.declared.kind.Part.TheVariants as part_type;
 ghost use Rattle.fast_value.specs.declared.scalar.Scalar.TheVariants.{Ascii};
 ghost use Rattle.fast_dictionary.specs.declared.entry.Entry.TheVariants as entry_type;
 ghost use Rattle.fast_wire.specs.Entity.{IsEntity};
+ghost use Rattle.fast_wire.specs.Plain.{IsPlain};
 ghost use Rattle.fast_field.specs.Within.{HoldsScalar};
 ghost use Rattle.fast_relay.specs.Judged.{EndGives, IsJudged, TextGives};
 ghost use Rattle.fast_relay.specs.Numbers.{KeepsNothing, SpellsWhole};
@@ -44,6 +45,30 @@ fn judge_plain(alloc: Global, instr: &FieldPart, entry: &mut Entry, form: &[u8])
     }
 }
 
+/// Judges a string that is spelled whole and whose shortest form stands from one place to another, be it behind a preamble, and
+/// makes the entry the one afterwards. Elsewhere: nothing has changed, and another way tells.
+#[inline(always)]
+pub fn judge_characters(
+    alloc: Global,
+    instr: &FieldPart,
+    entry: &mut Entry,
+    bytes: &[u8],
+    at: usize,
+    first: usize,
+    next: usize,
+) -> Judged
+    requires first { (at ≤ first) × (first ≤ at + 1) }
+    requires place { (first < next) × (next ≤ length bytes.now) }
+    requires plain { IsPlain (drop at bytes.now) (slice_range bytes.now first next) (drop next bytes.now) }
+    requires part { instr.now.part ≡ part_type.Whole }
+    requires operator { SpellsWhole instr.now.operator }
+    requires kind { instr.now.kind ≡ kind_type.Ascii }
+    ensures { IsJudged instr.now entry.old entry.new bytes.now at result }
+{
+    let bit = judge_plain(alloc, instr, entry, &bytes[first..next]);
+    answer(bit, at, first, next)
+}
+
 /// Judges a string that is spelled whole, be it behind a preamble. (A call of its own, behind the next two, which judge most.)
 #[inline(never)]
 fn judge_string_whole(
@@ -60,10 +85,7 @@ fn judge_string_whole(
     ensures { IsJudged instr.now entry.old entry.new bytes.now at result }
 {
     match find_plain(bytes, at) {
-        Some((first, next)) => {
-            let bit = judge_plain(alloc, instr, entry, &bytes[first..next]);
-            answer(bit, at, first, next)
-        }
+        Some((first, next)) => judge_characters(alloc, instr, entry, bytes, at, first, next),
         None => Judged::Elsewhere,
     }
 }
@@ -200,7 +222,7 @@ fn judge_string_tail(
 /// Judges an ASCII string that is read under bit 1, and makes the entry the one afterwards. Elsewhere: nothing has changed,
 /// and another way tells. (A call of its own, so that the walk over a segment stays short.)
 #[inline(never)]
-pub(crate) fn judge_string(
+pub fn judge_string(
     alloc: Global,
     instr: &FieldPart,
     entry: &mut Entry,

@@ -222,7 +222,7 @@ fn judge_difference(
 /// Judges a Unicode string or byte vector that is read under bit 1, and makes the entry the one afterwards. It takes no
 /// memory but what the entry needs. Elsewhere: nothing has changed, and another way tells.
 #[inline(never)]
-pub(crate) fn judge_vector(
+pub fn judge_vector(
     alloc: Global,
     instr: &FieldPart,
     entry: &mut Entry,

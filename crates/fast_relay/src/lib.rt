@@ -7,9 +7,6 @@
 //! in one byte that no entry keeps. Where nothing has changed the field goes the general way of `fast_field`: `find_field`
 //! and `write_found`.
 //!
-//! For those who make messages or tell them [`take_kept`] reads a value that its entry keeps ([`keeps_value`];
-//! [`take_kept_number`] an integer alone), and [`take_number`] and [`take_aside`] an integer and an ASCII string that it does not keep.
-//!
 //! What a field's forms are is defined in `fast_field`; `specs/Relayed` says what it is to have read one, and what its best
 //! form is, `specs/Judged` to have judged one as it stands, `specs/Best` otherwise.
 #![tactic(auto)]
@@ -30,16 +27,17 @@ mod passed;
 mod plain;
 mod respelled;
 mod short_number;
-mod taken;
-mod taken_text;
 mod utf8;
 mod vectors;
 mod words;
 
 pub use best::{Best, best_of, judge_other};
+pub use characters::find_plain;
 pub use integers::is_unsigned;
-pub use judged::{Judged, judge_field};
+pub use judged::{Judged, is_sent_unsigned, judge_constant, judge_field, judge_spelt, read_number};
+pub use judged_decimal::judge_decimal;
+pub use judged_string::{judge_characters, judge_string};
+pub use judged_vector::judge_vector;
+pub use null::judge_null;
 pub use one_byte::{read_short_length, take_short_number};
 pub use passed::pass_quickly;
-pub use taken::{keeps_value, take_kept, take_kept_number, take_number};
-pub use taken_text::take_aside;

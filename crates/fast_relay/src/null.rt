@@ -1,6 +1,6 @@
 //! NULL in its shortest form, judged as it stands: a field that is sent as absent.
 
-ghost use Rattle.std.specs.Prelude.{◌≡◌, ◌≤◌, ◌<◌, ◌+◌, ◌∷◌, true, length, drop, None, MatchOption};
+ghost use Rattle.std.specs.Prelude.{◌≡◌, ◌≤◌, ◌<◌, ◌+◌, ◌∷◌, false, true, length, drop, None, IfSome, MatchOption};
 ghost use Rattle.fast_field.specs.Bases.{next_of};
 ghost use Rattle.fast_relay.specs.Best.{HasBest};
 
@@ -36,14 +36,10 @@ fn keep_absent(operator: Operator, entry: &mut Entry)
 /// Judges NULL in its shortest form under bit 1, of a field of any type that may be absent, and makes the entry the one
 /// afterwards. None: nothing has changed, and another way tells.
 #[inline(always)]
-pub(crate) fn judge_null(
-    instr: &FieldPart,
-    entry: &mut Entry,
-    bytes: &[u8],
-    at: usize,
-) -> Option<Best>
+pub fn judge_null(instr: &FieldPart, entry: &mut Entry, bytes: &[u8], at: usize) -> Option<Best>
     requires { at ≤ length bytes.now }
-    ensures { MatchOption result (entry.new ≡ entry.old) (λ best. HasBest instr.now entry.old entry.new bytes.now at best) }
+    ensures judged { MatchOption result (entry.new ≡ entry.old) (λ best. HasBest instr.now entry.old entry.new bytes.now at best) }
+    ensures absent { IfSome result (λ best. best.there ≡ false) }
 {
     if instr.presence == Presence::Mandatory || !begins_with_null(bytes, at) {
         return None;

@@ -3,3 +3,6 @@ mod Sending
 mod Decimals
 mod Vectors
 pub mod Telling
+mod Cleared
+pub mod Within
+mod Judging

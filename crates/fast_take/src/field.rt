@@ -11,11 +11,13 @@ ghost use Rattle.fast_take.specs.Takes.{IsFaulted, IsStopped, IsTook};
 
 use crate::decimal::take_decimal;
 use crate::general::{take_generally, take_left_out};
+use crate::judged::{take_judged, take_respelled};
 use crate::number::take_integer;
 use crate::took::{Aside, Took};
 use crate::vector::take_vector;
 use fast_dictionary::Entry;
 use fast_field::FieldFault;
+use fast_relay::{Judged, judge_constant};
 use fast_template::{FieldPart, Kind, Operator};
 use fast_wire::Level;
 use std::alloc::Global;
@@ -55,12 +57,52 @@ fn sends_vector(instr: &FieldPart) -> bool
     }
 }
 
-/// Takes what was sent of a field that begins at `at`, and makes its entry the one afterwards.
+/// Takes what was sent of a field that begins at `at`, whatever it is, and makes its entry the one afterwards.
 ///
 /// # Errors
 ///
 /// The first fault of the field, and the entry is as it was. Memory: a growth was refused, and no more bytes were needed. An
 /// integer asks for none.
+#[inline(never)]
+fn take_any(
+    alloc: Global,
+    instr: &FieldPart,
+    entry: &mut Entry,
+    level: Level,
+    bytes: &[u8],
+    at: usize,
+    aside: &mut Aside,
+) -> Result<Took, FieldFault>
+    requires place { at ≤ length bytes.now }
+    requires part { IsFieldPart instr.now }
+    requires entry { HoldsScalar entry.old }
+    ensures taken { MatchResult result
+        (IsTook level instr.now entry.old entry.new true bytes.now at aside.new)
+        (IsStopped level instr.now entry.old entry.new true bytes.now at) }
+    ensures integer { IsTrue (is_integer instr.now.kind) → SendsNumber instr.now.operator
+        → IfErr result (IsFaulted level instr.now entry.old entry.new true bytes.now at) }
+{
+    if let Some(took) = take_respelled(alloc, instr, entry, level, bytes, at, aside) {
+        return Ok(took);
+    }
+    if sends_number(instr) {
+        return match instr.kind {
+            Kind::Decimal => take_decimal(instr, entry, level, bytes, at, aside),
+            _ => take_integer(instr, entry, level, bytes, at, aside),
+        };
+    }
+    if sends_vector(instr) {
+        return take_vector(alloc, instr, entry, level, bytes, at, aside);
+    }
+    take_generally(alloc, instr, entry, level, bytes, at, aside)
+}
+
+/// Takes what was sent of a field that begins at `at`, and makes its entry the one afterwards.
+///
+/// # Errors
+///
+/// As `take_any`.
+#[inline(always)]
 pub(crate) fn take_sent(
     alloc: Global,
     instr: &FieldPart,
@@ -79,16 +121,14 @@ pub(crate) fn take_sent(
     ensures integer { IsTrue (is_integer instr.now.kind) → SendsNumber instr.now.operator
         → IfErr result (IsFaulted level instr.now entry.old entry.new true bytes.now at) }
 {
-    if sends_number(instr) {
-        return match instr.kind {
-            Kind::Decimal => take_decimal(instr, entry, level, bytes, at, aside),
-            _ => take_integer(instr, entry, level, bytes, at, aside),
-        };
+    if instr.operator == Operator::Constant {
+        if let Judged::Stands(next) = judge_constant(instr.part, instr, entry, bytes, at) {
+            return Ok(Took::Stands(next));
+        }
+    } else if let Some(took) = take_judged(alloc, instr, entry, level, bytes, at, aside) {
+        return Ok(took);
     }
-    if sends_vector(instr) {
-        return take_vector(alloc, instr, entry, level, bytes, at, aside);
-    }
-    take_generally(alloc, instr, entry, level, bytes, at, aside)
+    take_any(alloc, instr, entry, level, bytes, at, aside)
 }
 
 /// Takes a field that begins at `at`, and makes its entry the one afterwards. `bit` is the field's bit in the presence map,
@@ -96,7 +136,8 @@ pub(crate) fn take_sent(
 ///
 /// # Errors
 ///
-/// As `take_sent`.
+/// As `take_any`.
+#[inline(always)]
 pub fn take(
     alloc: Global,
     instr: &FieldPart,

@@ -14,31 +14,34 @@ ghost use Rattle.fast_take.specs.Takes.{IsStopped, IsTook, LiesAside, best_bit, 
 
 use crate::took::{Aside, Took, Unkept};
 use fast_dictionary::Entry;
-use fast_field::{FieldFault, FieldRefusal, find_field, find_units, read_in_place, write_found};
+use fast_field::{
+    FieldFault, FieldRefusal, Passed, find_field, find_units, pass_left_out, read_in_place,
+    write_found,
+};
 use fast_template::{FieldPart, Kind, Operator, Scalar};
 use fast_wire::{Level, Nullable};
 use std::alloc::Global;
 
-/// Takes what bit 0 gives, and makes the entry the one afterwards.
+/// Takes what bit 0 gives in the general way, and makes the entry the one afterwards.
 ///
 /// # Errors
 ///
 /// The first fault of the field, and the entry is as it was. Memory: an initial value was to be copied.
-#[inline(always)]
-pub(crate) fn take_left_out(
+#[inline(never)]
+fn read_left_out(
     alloc: Global,
     instr: &FieldPart,
     entry: &mut Entry,
     level: Level,
     bytes: &[u8],
     at: usize,
-    aside: &mut Aside,
+    aside: &Aside,
 ) -> Result<Took, FieldFault>
     requires place { at ≤ length bytes.now }
     requires bit { IsBitOf instr.now false }
     requires part { IsFieldPart instr.now }
     ensures { MatchResult result
-        (IsTook level instr.now entry.old entry.new false bytes.now at aside.new)
+        (IsTook level instr.now entry.old entry.new false bytes.now at aside.now)
         (IsStopped level instr.now entry.old entry.new false bytes.now at) }
 {
     let (found, _next) = read_in_place(alloc, instr, entry, false, level, bytes, at)?;
@@ -50,9 +53,38 @@ pub(crate) fn take_left_out(
     }
 }
 
+/// Takes what bit 0 gives, most often without a value in between, and makes the entry the one afterwards.
+///
+/// # Errors
+///
+/// As `read_left_out`.
+#[inline(always)]
+pub(crate) fn take_left_out(
+    alloc: Global,
+    instr: &FieldPart,
+    entry: &mut Entry,
+    level: Level,
+    bytes: &[u8],
+    at: usize,
+    aside: &Aside,
+) -> Result<Took, FieldFault>
+    requires place { at ≤ length bytes.now }
+    requires bit { IsBitOf instr.now false }
+    requires part { IsFieldPart instr.now }
+    ensures { MatchResult result
+        (IsTook level instr.now entry.old entry.new false bytes.now at aside.now)
+        (IsStopped level instr.now entry.old entry.new false bytes.now at) }
+{
+    match pass_left_out(instr, entry) {
+        Passed::Present => Ok(Took::Stands(at)),
+        Passed::Absent => Ok(Took::Absent(at)),
+        Passed::Elsewhere => read_left_out(alloc, instr, entry, level, bytes, at, aside),
+    }
+}
+
 /// Whether no entry keeps what bit 1 sends.
 #[inline(always)]
-fn keeps_nothing(operator: Operator) -> bool
+pub(crate) fn keeps_nothing(operator: Operator) -> bool
     ensures keeps { result ≡ true → KeepsNothing operator }
     ensures other { result ≡ false → KeepsNothing operator → ⊥ }
 {

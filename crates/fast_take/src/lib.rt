@@ -2,15 +2,22 @@
 //!
 //! [`take`] reads a field that begins at a place, makes its entry the one afterwards, and says what became of it ([`Took`]):
 //! its best form is what was read, or bit 0, or another one, which stands aside with what no entry keeps ([`Aside`]).
+//! [`Aside::value`] gives the value from where it lies, by way of a [`Room`] where nothing has it as a value.
 //! `specs/Takes` says what it is to have taken a field.
+//!
+//! Most fields are taken at once: what bit 0 gives, by `pass_left_out` of `fast_field`, and what was sent in its best form or nearly
+//! so, as `fast_relay` judges it. Behind them stands a way that takes whatever was sent.
 #![tactic(auto)]
 
 mod decimal;
 mod field;
 mod general;
+mod judged;
 mod number;
 mod took;
+mod value;
 mod vector;
 
 pub use field::take;
 pub use took::{Aside, Took, Unkept};
+pub use value::Room;

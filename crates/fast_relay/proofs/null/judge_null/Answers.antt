@@ -4,8 +4,8 @@ use Rattle.fast_relay.proofs.Ranges.{byte_range, range_none}
 use Rattle.fast_relay.proofs.null.judge_null.Goals as goal
 use Rattle.fast_relay.proofs.null.judge_null.Goals.{then-bit, else-bit}
 
-pub returns : goal.returns
-returns c =
+pub returns-clause-judged : goal.returns-clause-judged
+returns-clause-judged c =
     let i = c.args.instr.now in
     let bytes = c.args.bytes.now in
     let at = c.args.at in
