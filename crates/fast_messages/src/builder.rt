@@ -7,6 +7,7 @@ use fast_dictionary::Entries;
 use fast_field::FieldFault;
 use fast_part::{take_exponent, take_identifier, take_length, take_mantissa, take_part};
 use fast_stream::{Message, Node};
+use fast_take::Aside;
 use fast_template::{FieldPart, Name, Presence, Scalar};
 use fast_walk::Receiver;
 use fast_wire::Level;
@@ -34,6 +35,8 @@ pub struct Builder {
     // of the bodies around
     outer: Vec<Outer>,
     whole: Vec<Message>,
+    // of the field that was taken last
+    aside: Aside,
 }
 
 // A value, or none, as a node.
@@ -66,6 +69,7 @@ impl Builder {
             elements: Vec::new(alloc),
             outer: Vec::new(alloc),
             whole: Vec::new(alloc),
+            aside: Aside::new(alloc),
         }
     }
 
@@ -124,7 +128,8 @@ impl Receiver for Builder {
         bytes: &[u8],
         at: usize,
     ) -> Result<(u32, usize), FieldFault> {
-        let (id, next) = take_identifier(alloc, entries, identifier, bit, level, bytes, at)?;
+        let aside = &mut self.aside;
+        let (id, next) = take_identifier(alloc, entries, identifier, bit, level, bytes, at, aside)?;
         self.template = id;
         self.nodes = Vec::new(alloc);
         self.outer = Vec::new(alloc);
@@ -158,7 +163,8 @@ impl Receiver for Builder {
         bytes: &[u8],
         at: usize,
     ) -> Result<usize, FieldFault> {
-        let (value, next) = take_part(alloc, entries, part, bit, level, bytes, at)?;
+        let aside = &mut self.aside;
+        let (value, next) = take_part(alloc, entries, part, bit, level, bytes, at, aside)?;
         self.nodes
             .push(node_of(value))
             .map_err(|_| FieldFault::Memory)?;
@@ -177,7 +183,8 @@ impl Receiver for Builder {
         bytes: &[u8],
         at: usize,
     ) -> Result<(bool, usize), FieldFault> {
-        match take_exponent(alloc, entries, part, bit, level, bytes, at)? {
+        let aside = &mut self.aside;
+        match take_exponent(alloc, entries, part, bit, level, bytes, at, aside)? {
             (None, next) => {
                 self.nodes
                     .push(Node::Absent)
@@ -201,7 +208,8 @@ impl Receiver for Builder {
         bytes: &[u8],
         at: usize,
     ) -> Result<usize, FieldFault> {
-        let (mantissa, next) = take_mantissa(alloc, entries, part, bit, level, bytes, at)?;
+        let aside = &mut self.aside;
+        let (mantissa, next) = take_mantissa(alloc, entries, part, bit, level, bytes, at, aside)?;
         let exponent = self.exponent;
         self.nodes
             .push(Node::Value(Scalar::Decimal { exponent, mantissa }))
@@ -221,7 +229,8 @@ impl Receiver for Builder {
         bytes: &[u8],
         at: usize,
     ) -> Result<(Option<u32>, usize), FieldFault> {
-        match take_length(alloc, entries, part, bit, level, bytes, at)? {
+        let aside = &mut self.aside;
+        match take_length(alloc, entries, part, bit, level, bytes, at, aside)? {
             (None, next) => {
                 self.nodes
                     .push(Node::Absent)

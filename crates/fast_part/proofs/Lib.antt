@@ -1,2 +1,3 @@
 mod Common
-pub mod TakenKinds
+mod Keys
+pub mod Receiving

@@ -7,4 +7,4 @@
 
 mod part;
 
-pub use part::{take_exponent, take_given, take_identifier, take_length, take_mantissa, take_part};
+pub use part::{take_exponent, take_identifier, take_length, take_mantissa, take_part};

@@ -1,81 +1,27 @@
 //! Taking the value of a part from the bytes.
 
-ghost use Rattle.std.specs.Prelude.{◌≡◌, ◌≢◌, ◌≤◌, ℕ, List, false, true, IfOk, IfNone, IfSome, IsTrue, None, Some, length};
-ghost use Rattle.std.specs.Option.{option_copied};
-ghost use Rattle.fast_wire.specs.declared.level.Level as level_type;
-ghost use Rattle.fast_value.specs.Scalar.{is_of};
+ghost use Rattle.std.specs.Prelude.{◌≡◌, ◌≢◌, ◌≤◌, false, true, IfOk, IsTrue, None, Some, length};
 ghost use Rattle.fast_value.specs.declared.kind.Kind.TheVariants.{Int32, Int64, UInt32};
 ghost use Rattle.fast_value.specs.declared.kind.Part.TheVariants.{Exponent, Length, Mantissa};
 ghost use Rattle.fast_value.specs.declared.kind.Presence.TheVariants.{Mandatory};
 ghost use Rattle.fast_value.specs.declared.scalar.Scalar.TheVariants.{I64, U32};
 ghost use Rattle.fast_template.specs.Resolved.{part_needs_bit};
-ghost use Rattle.fast_field.specs.Found.{value_found};
+ghost use Rattle.fast_field.specs.Parts.{IsBitOf, IsFieldPart};
+ghost use Rattle.fast_field.specs.Within.{HoldsScalar};
+ghost use Rattle.fast_take.specs.Lying.{of_mantissa};
 ghost use Rattle.fast_stream.specs.Streams.{identifier as identifier_part};
-ghost use Rattle.fast_walk.specs.Received.{TookFrom, exponent_of, length_of};
+ghost use Rattle.fast_walk.specs.Received.{exponent_of, length_of};
 ghost use Rattle.fast_part.specs.Taking.{Takes, TakesFrom};
-ghost use Rattle.fast_walk.specs.Told.{IsTold};
+ghost use Rattle.fast_walk.specs.Told.{IsTold, KeepScalars};
 
 use fast_dictionary::{Entries, Entry};
-use fast_field::{FieldFault, Found, pass_found, read_in_place, reads_as_usual};
-use fast_relay::{keeps_value, take_kept_number, take_number};
-use fast_template::{FieldPart, Kind, Operator, Part, Scalar};
+use fast_field::FieldFault;
+use fast_take::{Aside, take};
+use fast_template::{FieldPart, Scalar};
 use fast_wire::Level;
-use std::alloc::{AllocError, Global};
+use std::alloc::Global;
 
-/// Takes what is given without a byte, by bit 0 or by a constant, and answers where the value lies; the entry is the one
-/// afterwards. None: nothing has changed, and the part goes another way.
-#[inline(always)]
-pub fn take_given(part: &FieldPart, entry: &mut Entry, bit: bool) -> Option<Found>
-    ensures taken { IfSome result (λ found. (level : level_type.Level) (bytes : List ℕ)
-        → TookFrom level part.now bit entry.old entry.new (value_found part.now entry.new found)
-        bytes bytes) }
-    ensures entry { IfNone result (entry.new ≡ entry.old) }
-{
-    if bit {
-        match (part.operator, part.part) {
-            (Operator::Constant, Part::Whole) => Some(Found::Initial),
-            _ => None,
-        }
-    } else {
-        pass_found(part, entry)
-    }
-}
-
-/// A value of its own, none of none; a number takes no memory.
-#[inline(always)]
-fn copied(alloc: Global, value: Option<&Scalar>) -> Result<Option<Scalar>, AllocError>
-    ensures { IfOk result (λ copy. copy ≡ option_copied value.entry) }
-{
-    match value {
-        None => Ok(None),
-        Some(Scalar::U32(number)) => Ok(Some(Scalar::U32(*number))),
-        Some(Scalar::I32(number)) => Ok(Some(Scalar::I32(*number))),
-        Some(Scalar::U64(number)) => Ok(Some(Scalar::U64(*number))),
-        Some(Scalar::I64(number)) => Ok(Some(Scalar::I64(*number))),
-        Some(value) => Ok(Some(value.copy(alloc)?)),
-    }
-}
-
-/// Takes a part's value in the general way.
-#[inline(always)]
-fn take_generally(
-    alloc: Global,
-    part: &FieldPart,
-    entry: &mut Entry,
-    bit: bool,
-    level: Level,
-    bytes: &[u8],
-    at: usize,
-) -> Result<(Option<Scalar>, usize), FieldFault>
-    requires { at ≤ length bytes.now }
-    ensures { TakesFrom (λ value. value) level part.now bit bytes.now at entry.old entry.new result }
-{
-    let (found, next) = read_in_place(alloc, part, entry, bit, level, bytes, at)?;
-    let value = found.into_value(alloc, part, entry.view())?;
-    Ok((value, next))
-}
-
-/// Takes a part's value, from the bytes where no bit gives it, an integer at once, and makes its entry the one afterwards.
+/// Takes a part's value, and makes its entry the one afterwards.
 #[inline(always)]
 fn take_value(
     alloc: Global,
@@ -85,25 +31,17 @@ fn take_value(
     level: Level,
     bytes: &[u8],
     at: usize,
+    aside: &mut Aside,
 ) -> Result<(Option<Scalar>, usize), FieldFault>
-    requires { at ≤ length bytes.now }
+    requires place { at ≤ length bytes.now }
+    requires bit { IsBitOf part.now bit }
+    requires part { IsFieldPart part.now }
+    requires entry { HoldsScalar entry.old }
     ensures { TakesFrom (λ value. value) level part.now bit bytes.now at entry.old entry.new result }
 {
-    if let Some(found) = take_given(part, entry, bit) {
-        let value = copied(alloc, found.value(part, entry.view()))?;
-        return Ok((value, at));
-    }
-    if bit && reads_as_usual(level, part, bytes, at) {
-        if keeps_value(part.operator) {
-            if let Some(next) = take_kept_number(part, entry, bytes, at) {
-                let value = copied(alloc, Found::Kept.value(part, entry.view()))?;
-                return Ok((value, next));
-            }
-        } else if let Some((value, next)) = take_number(part, bytes, at) {
-            return Ok((Some(value), next));
-        }
-    }
-    take_generally(alloc, part, entry, bit, level, bytes, at)
+    let took = take(alloc, part, entry, bit, level, bytes, at, aside)?;
+    let value = aside.copied_value(alloc, took, part, entry, bit, bytes)?;
+    Ok((value, took.place()))
 }
 
 /// Takes the value of a part from the bytes at `at`, and makes its entry the one afterwards where it lies; answers
@@ -121,54 +59,90 @@ pub fn take_part<E: Entries>(
     level: Level,
     bytes: &[u8],
     at: usize,
+    aside: &mut Aside,
 ) -> Result<(Option<Scalar>, usize), FieldFault>
     requires place { at ≤ length bytes.now }
+    requires bit { IsBitOf part.now bit }
+    requires part { IsFieldPart part.now }
     requires served { IsTrue (E.serves entries.now part.now.key) }
+    requires kept { KeepScalars (E.contents entries.now) }
     ensures takes { Takes (λ value. value) level part.now bit bytes.now at (E.contents entries.old)
         (E.contents entries.new) result }
     ensures same_keys { E.serves entries.new ≡ E.serves entries.old }
 {
     let entry = entries.entry_mut(&part.key)?;
-    take_value(alloc, part, entry, bit, level, bytes, at)
+    take_value(alloc, part, entry, bit, level, bytes, at, aside)
 }
 
-// The number that a value of this type is.
+/// Takes a number without sign of 32 bits, and makes its entry the one afterwards.
 #[inline(always)]
-fn unsigned_in(value: &Option<Scalar>) -> Option<u32>
-    requires { IfSome value.now (λ v. IsTrue (is_of UInt32 v)) }
-    ensures { value.now ≡ length_of result }
+fn take_count(
+    alloc: Global,
+    part: &FieldPart,
+    entry: &mut Entry,
+    bit: bool,
+    level: Level,
+    bytes: &[u8],
+    at: usize,
+    aside: &mut Aside,
+) -> Result<(Option<u32>, usize), FieldFault>
+    requires place { at ≤ length bytes.now }
+    requires bit { IsBitOf part.now bit }
+    requires part { IsFieldPart part.now }
+    requires kind { part.now.kind ≡ UInt32 }
+    requires entry { HoldsScalar entry.old }
+    ensures taken { TakesFrom length_of level part.now bit bytes.now at entry.old entry.new result }
+    ensures there { part.now.presence ≡ Mandatory → IfOk result (λ x. x.0 ≢ None) }
 {
-    match value {
-        None => None,
-        Some(Scalar::U32(number)) => Some(*number),
-        Some(_) => unreachable!(),
-    }
+    let took = take(alloc, part, entry, bit, level, bytes, at, aside)?;
+    Ok((aside.count_in(took, part, entry, bit), took.place()))
 }
 
-// The exponent that a value of its type is.
+/// The same of an exponent.
 #[inline(always)]
-fn exponent_in(value: &Option<Scalar>) -> Option<i32>
-    requires { IfSome value.now (λ v. IsTrue (is_of Int32 v)) }
-    ensures { value.now ≡ exponent_of result }
+fn take_exponent_of(
+    alloc: Global,
+    part: &FieldPart,
+    entry: &mut Entry,
+    bit: bool,
+    level: Level,
+    bytes: &[u8],
+    at: usize,
+    aside: &mut Aside,
+) -> Result<(Option<i32>, usize), FieldFault>
+    requires place { at ≤ length bytes.now }
+    requires bit { IsBitOf part.now bit }
+    requires part { IsFieldPart part.now }
+    requires kind { part.now.kind ≡ Int32 }
+    requires entry { HoldsScalar entry.old }
+    ensures { TakesFrom exponent_of level part.now bit bytes.now at entry.old entry.new result }
 {
-    match value {
-        None => None,
-        Some(Scalar::I32(exponent)) => Some(*exponent),
-        Some(_) => unreachable!(),
-    }
+    let took = take(alloc, part, entry, bit, level, bytes, at, aside)?;
+    Ok((aside.exponent_in(took, part, entry, bit), took.place()))
 }
 
-// The mantissa that a value of its type is.
+/// The same of a mantissa.
 #[inline(always)]
-fn mantissa_in(value: &Option<Scalar>) -> i64
-    requires kind { IfSome value.now (λ v. IsTrue (is_of Int64 v)) }
-    requires there { value.now ≢ None }
-    ensures { value.now ≡ Some (I64 result) }
+fn take_mantissa_of(
+    alloc: Global,
+    part: &FieldPart,
+    entry: &mut Entry,
+    bit: bool,
+    level: Level,
+    bytes: &[u8],
+    at: usize,
+    aside: &mut Aside,
+) -> Result<(Option<i64>, usize), FieldFault>
+    requires place { at ≤ length bytes.now }
+    requires bit { IsBitOf part.now bit }
+    requires part { IsFieldPart part.now }
+    requires kind { part.now.kind ≡ Int64 }
+    requires entry { HoldsScalar entry.old }
+    ensures taken { TakesFrom of_mantissa level part.now bit bytes.now at entry.old entry.new result }
+    ensures there { part.now.presence ≡ Mandatory → IfOk result (λ x. x.0 ≢ None) }
 {
-    match value {
-        Some(Scalar::I64(mantissa)) => *mantissa,
-        _ => unreachable!(),
-    }
+    let took = take(alloc, part, entry, bit, level, bytes, at, aside)?;
+    Ok((aside.mantissa_in(took, part, entry, bit), took.place()))
 }
 
 /// Takes a template's identifier, which it answers with the place behind it.
@@ -185,19 +159,21 @@ pub fn take_identifier<E: Entries>(
     level: Level,
     bytes: &[u8],
     at: usize,
+    aside: &mut Aside,
 ) -> Result<(u32, usize), FieldFault>
     requires place { at ≤ length bytes.now }
     requires bit { part_needs_bit identifier.now ≡ false → bit ≡ true }
     requires served { IsTrue (E.serves entries.now identifier.now.key) }
     requires told { identifier.now ≡ identifier_part }
+    requires kept { KeepScalars (E.contents entries.now) }
     ensures takes { Takes (λ id. Some (U32 id)) level identifier.now bit bytes.now at (E.contents entries.old)
         (E.contents entries.new) result }
     ensures same_keys { E.serves entries.new ≡ E.serves entries.old }
 {
-    let (value, next) = take_part(alloc, entries, identifier, bit, level, bytes, at)?;
-    match unsigned_in(&value) {
-        Some(id) => Ok((id, next)),
-        None => unreachable!(),
+    let entry = entries.entry_mut(&identifier.key)?;
+    match take_count(alloc, identifier, entry, bit, level, bytes, at, aside)? {
+        (Some(id), next) => Ok((id, next)),
+        (None, _next) => unreachable!(),
     }
 }
 
@@ -215,17 +191,19 @@ pub fn take_length<E: Entries>(
     level: Level,
     bytes: &[u8],
     at: usize,
+    aside: &mut Aside,
 ) -> Result<(Option<u32>, usize), FieldFault>
     requires place { at ≤ length bytes.now }
     requires bit { part_needs_bit part.now ≡ false → bit ≡ true }
     requires served { IsTrue (E.serves entries.now part.now.key) }
     requires told { IsTold Length UInt32 part.now }
+    requires kept { KeepScalars (E.contents entries.now) }
     ensures takes { Takes length_of level part.now bit bytes.now at (E.contents entries.old)
         (E.contents entries.new) result }
     ensures same_keys { E.serves entries.new ≡ E.serves entries.old }
 {
-    let (value, next) = take_part(alloc, entries, part, bit, level, bytes, at)?;
-    Ok((unsigned_in(&value), next))
+    let entry = entries.entry_mut(&part.key)?;
+    take_count(alloc, part, entry, bit, level, bytes, at, aside)
 }
 
 /// Takes the exponent of a decimal in parts, none where that is absent, and the place behind it.
@@ -242,17 +220,19 @@ pub fn take_exponent<E: Entries>(
     level: Level,
     bytes: &[u8],
     at: usize,
+    aside: &mut Aside,
 ) -> Result<(Option<i32>, usize), FieldFault>
     requires place { at ≤ length bytes.now }
     requires bit { part_needs_bit part.now ≡ false → bit ≡ true }
     requires served { IsTrue (E.serves entries.now part.now.key) }
     requires told { IsTold Exponent Int32 part.now }
+    requires kept { KeepScalars (E.contents entries.now) }
     ensures takes { Takes exponent_of level part.now bit bytes.now at (E.contents entries.old)
         (E.contents entries.new) result }
     ensures same_keys { E.serves entries.new ≡ E.serves entries.old }
 {
-    let (value, next) = take_part(alloc, entries, part, bit, level, bytes, at)?;
-    Ok((exponent_in(&value), next))
+    let entry = entries.entry_mut(&part.key)?;
+    take_exponent_of(alloc, part, entry, bit, level, bytes, at, aside)
 }
 
 /// Takes the mantissa of a decimal whose exponent is there, and the place behind it.
@@ -269,16 +249,21 @@ pub fn take_mantissa<E: Entries>(
     level: Level,
     bytes: &[u8],
     at: usize,
+    aside: &mut Aside,
 ) -> Result<(i64, usize), FieldFault>
     requires place { at ≤ length bytes.now }
     requires bit { part_needs_bit part.now ≡ false → bit ≡ true }
     requires served { IsTrue (E.serves entries.now part.now.key) }
     requires told { IsTold Mantissa Int64 part.now }
+    requires kept { KeepScalars (E.contents entries.now) }
     requires mandatory { part.now.presence ≡ Mandatory }
     ensures takes { Takes (λ mantissa. Some (I64 mantissa)) level part.now bit bytes.now at (E.contents entries.old)
         (E.contents entries.new) result }
     ensures same_keys { E.serves entries.new ≡ E.serves entries.old }
 {
-    let (value, next) = take_part(alloc, entries, part, bit, level, bytes, at)?;
-    Ok((mantissa_in(&value), next))
+    let entry = entries.entry_mut(&part.key)?;
+    match take_mantissa_of(alloc, part, entry, bit, level, bytes, at, aside)? {
+        (Some(mantissa), next) => Ok((mantissa, next)),
+        (None, _next) => unreachable!(),
+    }
 }

@@ -11,6 +11,7 @@ use fast_field::FieldFault;
 use fast_gaps::Rest;
 use fast_lines::Signs;
 use fast_part::{take_exponent, take_identifier, take_length, take_mantissa};
+use fast_take::{Aside, Room};
 use fast_template::{FieldPart, Flat, Name, Presence, TemplateSet};
 use fast_told::{Line, tell, tell_fields};
 use fast_walk::{Fields, Output, Receiver};
@@ -29,6 +30,9 @@ pub struct LineWriter<'a, S: Signs> {
     set: &'a TemplateSet,
     // of the message that is open
     line: Line,
+    // of the field that was taken last
+    aside: Aside,
+    room: Room,
     // of the decimal whose mantissa is next
     exponent: i32,
     // of the messages that are finished and not handed on
@@ -56,6 +60,8 @@ impl<'a, S: Signs> LineWriter<'a, S> {
             signs,
             set,
             line: Line::new(alloc),
+            aside: Aside::new(alloc),
+            room: Room::new(alloc),
             exponent: 0,
             out: Vec::new(alloc),
             rest: None,
@@ -140,7 +146,8 @@ impl<S: Signs> Receiver for LineWriter<'_, S> {
         bytes: &[u8],
         at: usize,
     ) -> Result<(u32, usize), FieldFault> {
-        let (id, next) = take_identifier(alloc, entries, identifier, bit, level, bytes, at)?;
+        let aside = &mut self.aside;
+        let (id, next) = take_identifier(alloc, entries, identifier, bit, level, bytes, at, aside)?;
         self.open_line(id)?;
         Ok((id, next))
     }
@@ -170,8 +177,11 @@ impl<S: Signs> Receiver for LineWriter<'_, S> {
         at: usize,
     ) -> Result<usize, FieldFault> {
         let line = &mut self.line;
+        let aside = &mut self.aside;
+        let room = &mut self.room;
         tell(
-            self.signs, alloc, name, presence, entries, part, bit, level, bytes, at, line,
+            self.signs, alloc, name, presence, entries, part, bit, level, bytes, at, line, aside,
+            room,
         )
     }
 
@@ -191,8 +201,11 @@ impl<S: Signs> Receiver for LineWriter<'_, S> {
         match rest.first() {
             Some(Flat::Field { .. }) => {
                 let line = &mut self.line;
+                let aside = &mut self.aside;
+                let room = &mut self.room;
                 tell_fields(
-                    self.signs, alloc, entries, rest, bits, spare, level, bytes, at, line,
+                    self.signs, alloc, entries, rest, bits, spare, level, bytes, at, line, aside,
+                    room,
                 )
             }
             _ => Ok(Fields {
@@ -217,7 +230,8 @@ impl<S: Signs> Receiver for LineWriter<'_, S> {
         bytes: &[u8],
         at: usize,
     ) -> Result<(bool, usize), FieldFault> {
-        match take_exponent(alloc, entries, part, bit, level, bytes, at)? {
+        let aside = &mut self.aside;
+        match take_exponent(alloc, entries, part, bit, level, bytes, at, aside)? {
             (None, next) => {
                 self.line.tell_absent(self.signs, name)?;
                 Ok((false, next))
@@ -241,7 +255,8 @@ impl<S: Signs> Receiver for LineWriter<'_, S> {
         bytes: &[u8],
         at: usize,
     ) -> Result<usize, FieldFault> {
-        let (mantissa, next) = take_mantissa(alloc, entries, part, bit, level, bytes, at)?;
+        let aside = &mut self.aside;
+        let (mantissa, next) = take_mantissa(alloc, entries, part, bit, level, bytes, at, aside)?;
         self.line.push_decimal(mantissa, self.exponent)?;
         Ok(next)
     }
@@ -259,7 +274,8 @@ impl<S: Signs> Receiver for LineWriter<'_, S> {
         bytes: &[u8],
         at: usize,
     ) -> Result<(Option<u32>, usize), FieldFault> {
-        match take_length(alloc, entries, part, bit, level, bytes, at)? {
+        let aside = &mut self.aside;
+        match take_length(alloc, entries, part, bit, level, bytes, at, aside)? {
             (None, next) => {
                 self.line.tell_absent(self.signs, name)?;
                 Ok((None, next))

@@ -12,7 +12,8 @@ use crate::told::tell;
 use fast_dictionary::Entries;
 use fast_field::FieldFault;
 use fast_part::{take_exponent, take_identifier, take_length, take_mantissa};
-use fast_template::{ByteString, FieldPart, Flat, Name, Presence, Scalar};
+use fast_take::{Aside, Room};
+use fast_template::{FieldPart, Flat, Name, Presence};
 use fast_walk::{Fields, Receiver};
 use fast_wire::{Bits, Level};
 use std::alloc::{AllocError, Global};
@@ -36,8 +37,9 @@ pub struct TapeBuilder {
     // of the decimal whose mantissa is next, and the number of its instruction
     exponent: i32,
     instruction: u32,
-    // the last value that is in no entry, kept for its memory
-    aside: Scalar,
+    // of the field that was taken last
+    aside: Aside,
+    room: Room,
 }
 
 impl TapeBuilder {
@@ -46,6 +48,7 @@ impl TapeBuilder {
     /// With no message, of which one may have so many bytes of strings. Takes no memory.
     pub fn new(alloc: Global, most_bytes: u32) -> TapeBuilder
         ensures stands { (set : List Resolved) → ⟦<TapeBuilder as Receiver>⟧.stands result set [] finite.empty }
+        ensures limit { result.«open».most_bytes ≡ most_bytes }
     {
         TapeBuilder {
             whole: Tape::new(alloc),
@@ -53,7 +56,8 @@ impl TapeBuilder {
             open: OpenTape::new(alloc, most_bytes),
             exponent: 0,
             instruction: 0,
-            aside: Scalar::Ascii(ByteString::from_vec(Vec::new(alloc))),
+            aside: Aside::new(alloc),
+            room: Room::new(alloc),
         }
     }
 
@@ -146,7 +150,8 @@ impl Receiver for TapeBuilder {
         bytes: &[u8],
         at: usize,
     ) -> Result<(u32, usize), FieldFault> {
-        let (id, next) = take_identifier(alloc, entries, identifier, bit, level, bytes, at)?;
+        let aside = &mut self.aside;
+        let (id, next) = take_identifier(alloc, entries, identifier, bit, level, bytes, at, aside)?;
         self.open.clear();
         self.open.open(TapeNode::long(MESSAGE, id, 0, 0))?;
         Ok((id, next))
@@ -181,7 +186,10 @@ impl Receiver for TapeBuilder {
     ) -> Result<usize, FieldFault> {
         let tape = &mut self.open;
         let aside = &mut self.aside;
-        tell(alloc, entries, part, bit, level, bytes, at, tape, aside)
+        let room = &mut self.room;
+        tell(
+            alloc, entries, part, bit, level, bytes, at, tape, aside, room,
+        )
     }
 
     #[inline(always)]
@@ -201,8 +209,9 @@ impl Receiver for TapeBuilder {
             Some(Flat::Field { .. }) => {
                 let tape = &mut self.open;
                 let aside = &mut self.aside;
+                let room = &mut self.room;
                 tell_fields(
-                    alloc, entries, rest, bits, spare, level, bytes, at, tape, aside,
+                    alloc, entries, rest, bits, spare, level, bytes, at, tape, aside, room,
                 )
             }
             _ => Ok(Fields {
@@ -227,7 +236,8 @@ impl Receiver for TapeBuilder {
         bytes: &[u8],
         at: usize,
     ) -> Result<(bool, usize), FieldFault> {
-        match take_exponent(alloc, entries, part, bit, level, bytes, at)? {
+        let aside = &mut self.aside;
+        match take_exponent(alloc, entries, part, bit, level, bytes, at, aside)? {
             (None, next) => {
                 self.open.push_absent(part.number)?;
                 Ok((false, next))
@@ -251,7 +261,8 @@ impl Receiver for TapeBuilder {
         bytes: &[u8],
         at: usize,
     ) -> Result<usize, FieldFault> {
-        let (mantissa, next) = take_mantissa(alloc, entries, part, bit, level, bytes, at)?;
+        let aside = &mut self.aside;
+        let (mantissa, next) = take_mantissa(alloc, entries, part, bit, level, bytes, at, aside)?;
         self.open
             .push_decimal(self.instruction, mantissa, self.exponent)?;
         Ok(next)
@@ -270,7 +281,8 @@ impl Receiver for TapeBuilder {
         bytes: &[u8],
         at: usize,
     ) -> Result<(Option<u32>, usize), FieldFault> {
-        match take_length(alloc, entries, part, bit, level, bytes, at)? {
+        let aside = &mut self.aside;
+        match take_length(alloc, entries, part, bit, level, bytes, at, aside)? {
             (None, next) => {
                 self.open.push_absent(part.number)?;
                 Ok((None, next))

@@ -11,7 +11,8 @@ use crate::open::OpenTape;
 use crate::told::tell;
 use fast_dictionary::Entries;
 use fast_field::FieldFault;
-use fast_template::{FieldPart, Flat, Name, Presence, Scalar, part_needs_bit};
+use fast_take::{Aside, Room};
+use fast_template::{FieldPart, Flat, Name, Presence, part_needs_bit};
 use fast_walk::{Fields, first_for, take_for};
 use fast_wire::{Bits, Level};
 use std::alloc::{AllocError, Global};
@@ -30,7 +31,8 @@ fn tell_field<'a, E: Entries>(
     level: Level,
     bytes: &[u8],
     tape: &mut OpenTape,
-    aside: &mut Scalar,
+    aside: &mut Aside,
+    room: &mut Room,
 ) -> Result<bool, AllocError>
     requires place { fields.now.place ≤ length bytes.now }
     requires spare { 0 < fields.now.spare }
@@ -52,7 +54,9 @@ fn tell_field<'a, E: Entries>(
     let needs = part_needs_bit(whole);
     let bit = first_for(bits, needs);
     let at = fields.place;
-    match tell(alloc, entries, whole, bit, level, bytes, at, tape, aside) {
+    match tell(
+        alloc, entries, whole, bit, level, bytes, at, tape, aside, room,
+    ) {
         Err(fault) => match fault {
             FieldFault::Memory => Err(AllocError),
             _ => Ok(false),
@@ -84,7 +88,8 @@ pub fn tell_fields<'a, E: Entries>(
     bytes: &[u8],
     at: usize,
     tape: &mut OpenTape,
-    aside: &mut Scalar,
+    aside: &mut Aside,
+    room: &mut Room,
 ) -> Result<Fields<'a>, AllocError>
     requires place { at ≤ length bytes.now }
     requires served { AreServed (E.serves entries.now) (list_of rest.now) }
@@ -135,6 +140,7 @@ pub fn tell_fields<'a, E: Entries>(
                 bytes,
                 tape,
                 aside,
+                room,
             ) {
                 Err(error) => return Err(error),
                 Ok(false) => return Ok(fields),

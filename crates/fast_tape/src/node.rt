@@ -45,8 +45,8 @@ pub struct TapeNode {
 }
 
 impl TapeNode {
-    ghost use Rattle.std.specs.Prelude.{◌≡◌, IfSome};
-    ghost use Rattle.fast_tape.specs.Tapes.{long_node, signed_node};
+    ghost use Rattle.std.specs.Prelude.{◌≡◌, ◌≤◌, ◌↔◌, ◌+◌, ◌^◌, IfSome, IsNone};
+    ghost use Rattle.fast_tape.specs.Tapes.{ascii_kind, bytes_kind, long_node, signed_node};
     ghost use Rattle.fast_tape.specs.Moved.{moved, with_length};
 
     /// A node of a number and a length.
@@ -90,7 +90,8 @@ impl TapeNode {
     /// The same node where so many bytes stand in front of those of its string; none if that passes a `u64`.
     #[inline(always)]
     pub fn moved(self, by: u64) -> Option<TapeNode>
-        ensures { IfSome result (λ node. node ≡ moved by self) }
+        ensures moved { IfSome result (λ node. node ≡ moved by self) }
+        ensures none { IsNone result ↔ ((ascii_kind ≤ self.kind) × (self.kind ≤ bytes_kind) × (2 ^ 64 ≤ self.number + by)) }
     {
         if self.kind < ASCII || self.kind > BYTES {
             return Some(self);

@@ -69,7 +69,8 @@ fn count_own(nodes: &mut Vec<TapeNode>, start: usize) -> Result<(), AllocError>
 impl OpenTape {
     /// Of no message. A message may have so many bytes of strings. Takes no memory.
     pub fn new(alloc: Global, most_bytes: u32) -> OpenTape
-        ensures { result.tape.bytes.items ≡ [] }
+        ensures bytes { result.tape.bytes.items ≡ [] }
+        ensures limit { result.most_bytes ≡ most_bytes }
     {
         OpenTape {
             tape: Tape::new(alloc),

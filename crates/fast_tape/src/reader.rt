@@ -73,6 +73,7 @@ impl<'a, E: Entries> TapeReader<'a, E> {
         requires { ServesAll (E.serves entries) set.now }
         ensures set { result.machine.traversal.set.now ≡ set.now }
         ensures mode { mode_of result.machine ≡ mode }
+        ensures limit { result.machine.receiver.«open».most_bytes ≡ most_bytes }
         ensures fault { result.machine.fault ≡ None }
         ensures reads { Reads result [] [] [] }
     {
@@ -125,6 +126,8 @@ impl<'a, E: Entries> TapeReader<'a, E> {
         ensures refused { IfErr result (λ f. f ≢ TapeFault.StreamTooLong → fault_kept self.new ≡ Some f) }
         ensures too_long { IfErr result (λ f. f ≡ TapeFault.StreamTooLong → (self.new ≡ self.old)
             × (stream_limit < self.old.machine.fed + length chunk.now)) }
+        ensures long { self.old.machine.fault ≡ None → stream_limit < self.old.machine.fed + length chunk.now
+            → result ≡ Err TapeFault.StreamTooLong }
         ensures within { IfOk result (λ n. n ≤ length chunk.now) }
         ensures stops { IfOk result (λ n. n < length chunk.now → is_full self.new.machine.receiver ≡ true) }
         ensures moves { IfOk result (λ n. is_full self.old.machine.receiver ≡ false → 0 < length chunk.now → 0 < n) }
@@ -190,6 +193,7 @@ impl<'a, E: Entries> TapeReader<'a, E> {
     /// Begins a new stream, as that of the next packet, with all entries undefined; what waits stays. Takes no memory.
     pub fn begin_packet(&mut self)
         ensures fault { self.new.machine.fault ≡ None }
+        ensures fed { self.new.machine.fed ≡ 0 }
         ensures undefined { E.contents self.new.machine.entries ≡ finite.empty }
         ensures reads { (waiting : List Content) → HoldsWaiting self.old waiting → Reads self.new [] [] waiting }
         ensures same { IsSameStream self.old.machine self.new.machine }
@@ -213,6 +217,7 @@ impl<'a, E: Entries> TapeReader<'a, E> {
             → Reads self.new bytes.now messages waiting
             → Carries (mode_of self.new.machine) (templates_in self.new.machine.traversal.set.now) bytes.now messages) }
         ensures refused { IfErr result (λ f. f ≢ TapeFault.StreamTooLong → fault_kept self.new ≡ Some f) }
+        ensures too_long { (result ≡ Err TapeFault.StreamTooLong) ↔ (stream_limit < length bytes.now) }
         ensures within { IfOk result (λ n. n ≤ length bytes.now) }
         ensures stops { IfOk result (λ n. n < length bytes.now → is_full self.new.machine.receiver ≡ true) }
         ensures same { IsSameStream self.old.machine self.new.machine }
@@ -228,6 +233,7 @@ impl<'a, E: Entries> TapeReader<'a, E> {
     /// Begins a new stream, with all entries undefined; what waits is forgotten. Takes no memory.
     pub fn reset(&mut self)
         ensures fault { self.new.machine.fault ≡ None }
+        ensures fed { self.new.machine.fed ≡ 0 }
         ensures undefined { E.contents self.new.machine.entries ≡ finite.empty }
         ensures reads { Reads self.new [] [] [] }
         ensures same { IsSameStream self.old.machine self.new.machine }

@@ -19,7 +19,6 @@ pub use Rattle.fast_dictionary.specs.declared.entry.Entry.{Entry}
 pub use Rattle.fast_field.proofs.FieldsWithin.{values_within}
 pub use Rattle.fast_field.proofs.ReadFields.{bytes_from}
 pub use Rattle.fast_field.proofs.Refused.{characters_there}
-pub use Rattle.fast_field.specs.Found.{assigned_of}
 pub use Rattle.fast_field.specs.Parts.{IsBitOf, IsKindOfPart}
 pub use Rattle.fast_field.specs.Within.{IsOfField}
 pub use Rattle.fast_stream.specs.Bits.{after_bit, bit_for}
@@ -34,7 +33,8 @@ pub use Rattle.fast_walk.specs.Received.{Received, Took, TookFrom, after_exponen
 pub use Rattle.fast_walk.specs.Told.{IsTold, KeepScalars}
 pub use Rattle.fast_walk.specs.Walks.{AreServed}
 pub use Rattle.fast_walk.specs.declared.receiver.Fields.{Fields}
-pub use Rattle.fast_part.proofs.TakenKinds.{took_as_usual}
+pub use Rattle.fast_part.proofs.Receiving.{stopped, taken_as}
+pub use Rattle.fast_take.proofs.Within.{taken_within}
 pub use Rattle.fast_lines.proofs.Written.{appended_more, flat_map_piece, flat_map_rest}
 pub use Rattle.fast_lines.specs.Lines.{absent_text, braced, bracketed, decimal_text, elements_text, field_text, joined, label, labelled, line_if, line_in, lines_in, members_text, node_text, said_text}
 pub use Rattle.fast_lines.specs.Signs.{between, ending, head_text, is_led, label_text, lead, unit_text}

@@ -12,6 +12,7 @@ use crate::told::tell;
 use fast_dictionary::Entries;
 use fast_field::FieldFault;
 use fast_lines::Signs;
+use fast_take::{Aside, Room};
 use fast_template::{FieldPart, Flat, Name, Presence, part_needs_bit};
 use fast_walk::{Fields, first_for, take_for};
 use fast_wire::{Bits, Level};
@@ -32,6 +33,8 @@ fn tell_field<'a, S: Signs, E: Entries>(
     level: Level,
     bytes: &[u8],
     line: &mut Line,
+    aside: &mut Aside,
+    room: &mut Room,
 ) -> Result<bool, AllocError>
     requires place { fields.now.place ≤ length bytes.now }
     requires spare { 0 < fields.now.spare }
@@ -54,7 +57,7 @@ fn tell_field<'a, S: Signs, E: Entries>(
     let bit = first_for(bits, needs);
     let at = fields.place;
     match tell(
-        signs, alloc, name, presence, entries, whole, bit, level, bytes, at, line,
+        signs, alloc, name, presence, entries, whole, bit, level, bytes, at, line, aside, room,
     ) {
         Err(fault) => match fault {
             FieldFault::Memory => Err(AllocError),
@@ -88,6 +91,8 @@ pub fn tell_fields<'a, S: Signs, E: Entries>(
     bytes: &[u8],
     at: usize,
     line: &mut Line,
+    aside: &mut Aside,
+    room: &mut Room,
 ) -> Result<Fields<'a>, AllocError>
     requires place { at ≤ length bytes.now }
     requires served { AreServed (E.serves entries.now) (list_of rest.now) }
@@ -138,6 +143,8 @@ pub fn tell_fields<'a, S: Signs, E: Entries>(
                 level,
                 bytes,
                 line,
+                aside,
+                room,
             ) {
                 Err(error) => return Err(error),
                 Ok(false) => return Ok(fields),

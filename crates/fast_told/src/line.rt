@@ -4,9 +4,8 @@ ghost use Rattle.std.specs.Prelude.{◌≤◌, length};
 
 use fast_gaps::{Gaps, Rest};
 use fast_lines::{Page, Piece, Signs, UNITS, all_stand, lay_scalar, lay_units, push_scalar};
-use fast_template::{ByteString, FieldPart, Name, Scalar};
+use fast_template::{FieldPart, Name, Scalar};
 use std::alloc::{AllocError, Global};
-use std::mem;
 
 /// A line of more bytes than this is long: long names and texts are left out of it as gaps, and told when it is handed on.
 const LONG: usize = 1_048_576;
@@ -22,8 +21,6 @@ pub struct Line {
     long: Vec<u8>,
     // a short piece, while it is laid out; it stays here, so that none is cleared for each
     piece: Piece,
-    // a string that no entry keeps, while it is told
-    pub(crate) aside: Scalar,
     // whether what stands between two is due in front of what is next
     led: bool,
     gaps: Gaps,
@@ -50,7 +47,6 @@ impl Line {
             text: Page::new(alloc),
             long: Vec::new(alloc),
             piece: Piece::new(),
-            aside: Scalar::Ascii(ByteString::from_vec(Vec::new(alloc))),
             led: true,
             gaps: Gaps::new(alloc),
         }
@@ -228,22 +224,6 @@ impl Line {
                 Some(start) => self.append(signs, start),
             },
         }
-    }
-
-    /// The same of the string that stands aside.
-    #[inline(always)]
-    pub(crate) fn tell_aside<S: Signs>(
-        &mut self,
-        signs: S,
-        name: &Name,
-        part: &FieldPart,
-    ) -> Result<(), AllocError>
-        ensures { OnOk result (Says S.form name.now (Some self.old.aside) self.old self.new) }
-    {
-        let value = mem::replace(&mut self.aside, Scalar::U32(0));
-        let told = self.tell(signs, name, part, Some(&value));
-        self.aside = value;
-        told
     }
 
     // The same of any length, one after the other.

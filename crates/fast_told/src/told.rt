@@ -15,18 +15,16 @@ ghost use Rattle.fast_told.specs.Told.{Said, line_now};
 
 use crate::line::Line;
 use fast_dictionary::{Entries, Entry};
-use fast_field::{FieldFault, Found, read_in_place, reads_as_usual};
+use fast_field::FieldFault;
 use fast_lines::Signs;
-use fast_part::take_given;
-use fast_relay::{keeps_value, take_aside, take_kept, take_number};
+use fast_take::{Aside, Room, take};
 use fast_template::{FieldPart, Name, Presence};
 use fast_wire::Level;
 use std::alloc::Global;
 
-// Takes a field's value in the general way, and tells it from where it lies: it is not copied. It is a call, so that the
-// loop over the fields stays small.
-#[inline(never)]
-fn take_generally<S: Signs>(
+// Takes a field's value under a bit that is known here, and tells it from where it lies.
+#[inline(always)]
+fn take_under<S: Signs>(
     signs: S,
     alloc: Global,
     name: &Name,
@@ -37,19 +35,22 @@ fn take_generally<S: Signs>(
     bytes: &[u8],
     at: usize,
     line: &mut Line,
+    aside: &mut Aside,
+    room: &mut Room,
 ) -> Result<usize, FieldFault>
     requires next { CanTake part.now entry.old bytes.now at }
     requires bit { part_needs_bit part.now ≡ false → bit ≡ true }
     ensures { TellsNext S.form level name.now part.now bit bytes.now at result entry.old entry.new line.old line.new }
 {
-    let (found, next) = read_in_place(alloc, part, entry, bit, level, bytes, at)?;
-    line.tell(signs, name, part, found.value(part, entry.view()))?;
-    Ok(next)
+    let took = take(alloc, part, entry, bit, level, bytes, at, aside)?;
+    let value = aside.value(alloc, took, part, entry, bit, bytes, room)?;
+    line.tell(signs, name, part, value)?;
+    Ok(took.place())
 }
 
-// Takes a field's value, from the bytes where none gives it at once, and tells it from where it lies.
+// The same under any bit: what bit 0 gives and what was sent come together nowhere, so that neither is asked which it was.
 #[inline(always)]
-fn take<S: Signs>(
+fn take_and_tell<S: Signs>(
     signs: S,
     alloc: Global,
     name: &Name,
@@ -60,30 +61,22 @@ fn take<S: Signs>(
     bytes: &[u8],
     at: usize,
     line: &mut Line,
+    aside: &mut Aside,
+    room: &mut Room,
 ) -> Result<usize, FieldFault>
     requires next { CanTake part.now entry.old bytes.now at }
     requires bit { part_needs_bit part.now ≡ false → bit ≡ true }
     ensures { TellsNext S.form level name.now part.now bit bytes.now at result entry.old entry.new line.old line.new }
 {
-    if let Some(found) = take_given(part, entry, bit) {
-        line.tell(signs, name, part, found.value(part, entry.view()))?;
-        return Ok(at);
+    if bit {
+        take_under(
+            signs, alloc, name, part, entry, true, level, bytes, at, line, aside, room,
+        )
+    } else {
+        take_under(
+            signs, alloc, name, part, entry, false, level, bytes, at, line, aside, room,
+        )
     }
-    if bit && reads_as_usual(level, part, bytes, at) {
-        if keeps_value(part.operator) {
-            if let Some(next) = take_kept(alloc, part, entry, bytes, at) {
-                line.tell(signs, name, part, Found::Kept.value(part, entry.view()))?;
-                return Ok(next);
-            }
-        } else if let Some((value, next)) = take_number(part, bytes, at) {
-            line.tell(signs, name, part, Some(&value))?;
-            return Ok(next);
-        } else if let Some(next) = take_aside(alloc, part, &mut line.aside, bytes, at) {
-            line.tell_aside(signs, name, part)?;
-            return Ok(next);
-        }
-    }
-    take_generally(signs, alloc, name, part, entry, bit, level, bytes, at, line)
 }
 
 /// Takes a field's value from the bytes, makes its entry the one afterwards, and tells the value.
@@ -104,6 +97,8 @@ pub fn tell<S: Signs, E: Entries>(
     bytes: &[u8],
     at: usize,
     line: &mut Line,
+    aside: &mut Aside,
+    room: &mut Room,
 ) -> Result<usize, FieldFault>
     requires place { at ≤ length bytes.now }
     requires served { IsTrue (E.serves entries.now part.now.key) }
@@ -124,6 +119,8 @@ pub fn tell<S: Signs, E: Entries>(
     ensures same_keys { E.serves entries.new ≡ E.serves entries.old }
 {
     let entry = entries.entry_mut(&part.key)?;
-    let next = take(signs, alloc, name, part, entry, bit, level, bytes, at, line)?;
+    let next = take_and_tell(
+        signs, alloc, name, part, entry, bit, level, bytes, at, line, aside, room,
+    )?;
     Ok(next)
 }

@@ -1,254 +1,183 @@
-//! Rows on fields that are taken at once, and written nowhere.
+//! Rows on fields that are taken: each is as it is read, and its value is told from where it lies.
 
 use crate::fields::{Kept, Shape, Value, is_kept};
 use crate::judged::holds_scalar;
 use crate::same::same;
-use fast_dictionary::Entry;
-use fast_relay::{keeps_value, take_aside, take_kept, take_kept_number, take_number};
-use fast_template::{FieldPart, Kind, Operator, Presence, Scalar};
+use crate::takes::is_taken;
+use crate::ways::is_part;
+use fast_field::{FieldFault, Level};
+use fast_take::{Aside, Room, take};
+use fast_template::{Kind, Operator, Presence};
 use std::alloc::{AllocError, Global};
 use std::process::Abort;
 
-// The bytes behind the first are read to their end, and give this value; none: they are left to the general way.
-struct Taken {
+// The bytes behind the first are taken to their end, and give this value and this entry; none: what is read of them says.
+struct Row {
     of: Shape,
     before: Kept,
     bytes: &'static [u8],
-    value: Option<Value>,
+    gives: Option<(Value, Kept)>,
+}
+
+// What a row says of a field's value and entry.
+fn gives(
+    rt: &impl Abort,
+    alloc: Global,
+    row: &Row,
+    value: Value,
     after: Kept,
-}
-
-// What a call answered, and the entry afterwards.
-#[derive(Drop)]
-struct Answer {
-    taken: Option<(Scalar, usize)>,
-    entry: Entry,
-}
-
-fn take(alloc: Global, row: &Taken) -> Result<Answer, AllocError> {
+    room: &mut Room,
+) -> Result<(), AllocError> {
     let instr = row.of.instr(alloc)?;
     let mut entry = row.before.entry(alloc)?;
+    let mut aside = Aside::new(alloc);
     let at = row.bytes.len().min(1);
-    if !keeps_value(instr.operator) {
-        let taken = take_number(&instr, row.bytes, at);
-        return Ok(Answer { taken, entry });
+    if !holds_scalar(&entry) || !is_part(instr.part, &instr) {
+        same(rt, false, true);
+        return Ok(());
     }
-    let taken = match (take_kept_number(&instr, &mut entry, row.bytes, at), &entry) {
-        (Some(next), Entry::Assigned(value)) => Some((value.copy(alloc)?, next)),
-        _ => None,
+    let took = match take(
+        alloc,
+        &instr,
+        &mut entry,
+        true,
+        Level::Usual,
+        row.bytes,
+        at,
+        &mut aside,
+    ) {
+        Ok(took) => took,
+        Err(FieldFault::Memory) => return Err(AllocError),
+        Err(_) => {
+            same(rt, false, true);
+            return Ok(());
+        }
     };
-    Ok(Answer { taken, entry })
+    same(rt, took.place(), row.bytes.len());
+    let wanted = Some(value.scalar(alloc)?);
+    let told = aside.value(alloc, took, &instr, &entry, true, row.bytes, room)?;
+    same(rt, told, wanted.as_ref());
+    let copy = aside.copied_value(alloc, took, &instr, &entry, true, row.bytes)?;
+    same(rt, copy, wanted);
+    is_kept(rt, alloc, &entry, after)
 }
 
-fn wanted(alloc: Global, row: &Taken) -> Result<Answer, AllocError> {
-    let taken = match row.value {
-        Some(value) => Some((value.scalar(alloc)?, row.bytes.len())),
-        None => None,
-    };
-    let entry = row.after.entry(alloc)?;
-    Ok(Answer { taken, entry })
-}
-
-fn all_taken(rt: &impl Abort, alloc: Global, rows: &[Taken]) -> Result<(), AllocError> {
-    for row in rows {
-        let given = take(alloc, row)?;
-        let answer = wanted(alloc, row)?;
-        same(rt, given.taken, answer.taken);
-        same(rt, given.entry, answer.entry);
-    }
-    Ok(())
-}
-
-// The bytes behind the first are read to their end into the entry; or nothing has changed.
-struct Put {
-    of: Shape,
-    before: Kept,
-    bytes: &'static [u8],
-    taken: bool,
-    after: Kept,
-}
-
-// The place behind a row's bytes where they are taken.
-fn end_of(bytes: &[u8], taken: bool) -> Option<usize> {
-    if taken { Some(bytes.len()) } else { None }
-}
-
-// Want of memory leaves the entry as it was, and ends the test.
-fn is_put(
-    rt: &impl Abort,
-    alloc: Global,
-    instr: &FieldPart,
-    entry: &mut Entry,
-    row: &Put,
-) -> Result<(), AllocError> {
-    let next = if holds_scalar(entry) && keeps_value(instr.operator) {
-        take_kept(alloc, instr, entry, row.bytes, row.bytes.len().min(1))
-    } else {
-        None
-    };
-    if next.is_none() && row.taken {
-        is_kept(rt, alloc, entry, row.before)?;
-        return Err(AllocError);
-    }
-    same(rt, next, end_of(row.bytes, row.taken));
-    is_kept(rt, alloc, entry, row.after)
-}
-
-fn all_put(rt: &impl Abort, alloc: Global, rows: &[Put]) -> Result<(), AllocError> {
+fn all_taken(rt: &impl Abort, alloc: Global, rows: &[Row]) -> Result<(), AllocError> {
+    let mut aside = Aside::new(alloc);
+    let mut room = Room::new(alloc);
     for row in rows {
         let instr = row.of.instr(alloc)?;
-        let mut entry = row.before.entry(alloc)?;
-        is_put(rt, alloc, &instr, &mut entry, row)?;
-    }
-    Ok(())
-}
-
-// The bytes behind the first are read to their end in the place of a value; or nothing has changed.
-struct Aside {
-    of: Shape,
-    before: Value,
-    bytes: &'static [u8],
-    taken: bool,
-    after: Value,
-}
-
-// Ends a test whose value is not a row's.
-fn is_value(
-    rt: &impl Abort,
-    alloc: Global,
-    value: &Scalar,
-    wanted: Value,
-) -> Result<(), AllocError> {
-    let wanted = wanted.scalar(alloc)?;
-    same(rt, value, &wanted);
-    Ok(())
-}
-
-fn is_aside(
-    rt: &impl Abort,
-    alloc: Global,
-    instr: &FieldPart,
-    value: &mut Scalar,
-    row: &Aside,
-) -> Result<(), AllocError> {
-    let next = take_aside(alloc, instr, value, row.bytes, row.bytes.len().min(1));
-    if next.is_none() && row.taken {
-        is_value(rt, alloc, value, row.before)?;
-        return Err(AllocError);
-    }
-    same(rt, next, end_of(row.bytes, row.taken));
-    is_value(rt, alloc, value, row.after)
-}
-
-fn all_aside(rt: &impl Abort, alloc: Global, rows: &[Aside]) -> Result<(), AllocError> {
-    for row in rows {
-        let instr = row.of.instr(alloc)?;
-        let mut value = row.before.scalar(alloc)?;
-        is_aside(rt, alloc, &instr, &mut value, row)?;
+        let entry = row.before.entry(alloc)?;
+        if !is_part(instr.part, &instr) {
+            same(rt, false, true);
+            return Ok(());
+        }
+        let at = row.bytes.len().min(1);
+        is_taken(
+            rt,
+            alloc,
+            &instr,
+            &entry,
+            true,
+            Level::Usual,
+            row.bytes,
+            at,
+            &mut aside,
+        )?;
+        if let Some((value, after)) = row.gives {
+            gives(rt, alloc, row, value, after, &mut room)?;
+        }
     }
     Ok(())
 }
 
 #[test]
 fn numbers_that_are_taken(rt: HostRuntime) -> Result<(), AllocError> {
-    const ROWS: &[Taken] = &[
+    const ROWS: &[Row] = &[
         // numbers are taken
-        Taken {
+        Row {
             of: Shape::Mandatory(Kind::UInt32, Operator::Plain),
             before: Kept::Assigned(Value::U32(7)),
             bytes: &[0xff, 0x39, 0x45, 0xa3],
-            value: Some(Value::U32(942_755)),
-            after: Kept::Assigned(Value::U32(7)),
+            gives: Some((Value::U32(942_755), Kept::Assigned(Value::U32(7)))),
         },
-        Taken {
+        Row {
             of: Shape::Optional(Kind::UInt32, Operator::Copy),
             before: Kept::Undefined,
             bytes: &[0xff, 0x82],
-            value: Some(Value::U32(1)),
-            after: Kept::Assigned(Value::U32(1)),
+            gives: Some((Value::U32(1), Kept::Assigned(Value::U32(1)))),
         },
-        Taken {
+        Row {
             of: Shape::Mandatory(Kind::Int64, Operator::Increment),
             before: Kept::Empty,
             bytes: &[0xff, 0xff],
-            value: Some(Value::I64(-1)),
-            after: Kept::Assigned(Value::I64(-1)),
+            gives: Some((Value::I64(-1), Kept::Assigned(Value::I64(-1)))),
         },
-        Taken {
+        Row {
             of: Shape::Initial(Presence::Mandatory, Operator::Default, 5),
             before: Kept::Undefined,
             bytes: &[0xff, 0x85],
-            value: Some(Value::U32(5)),
-            after: Kept::Undefined,
+            gives: Some((Value::U32(5), Kept::Undefined)),
         },
-        Taken {
+        Row {
             of: Shape::Mandatory(Kind::Int32, Operator::Delta),
             before: Kept::Assigned(Value::I32(5)),
             bytes: &[0xff, 0xfe],
-            value: Some(Value::I32(3)),
-            after: Kept::Assigned(Value::I32(3)),
+            gives: Some((Value::I32(3), Kept::Assigned(Value::I32(3)))),
         },
-        Taken {
+        Row {
             of: Shape::Optional(Kind::UInt64, Operator::Delta),
             before: Kept::Assigned(Value::U64(9)),
             bytes: &[0xff, 0x82],
-            value: Some(Value::U64(10)),
-            after: Kept::Assigned(Value::U64(10)),
+            gives: Some((Value::U64(10), Kept::Assigned(Value::U64(10)))),
         },
-        // what is not taken goes the general way
+        // what is as it is read
         // NULL
-        Taken {
+        Row {
             of: Shape::Optional(Kind::UInt32, Operator::Copy),
             before: Kept::Assigned(Value::U32(7)),
             bytes: &[0xff, 0x80],
-            value: None,
-            after: Kept::Assigned(Value::U32(7)),
+            gives: None,
         },
         // the bytes end
-        Taken {
+        Row {
             of: Shape::Mandatory(Kind::UInt32, Operator::Copy),
             before: Kept::Assigned(Value::U32(7)),
             bytes: &[0xff, 0x01],
-            value: None,
-            after: Kept::Assigned(Value::U32(7)),
+            gives: None,
         },
         // 4,294,967,296 is no uInt32
-        Taken {
+        Row {
             of: Shape::Mandatory(Kind::UInt32, Operator::Plain),
             before: Kept::Undefined,
             bytes: &[0xff, 0x10, 0x00, 0x00, 0x00, 0x80],
-            value: None,
-            after: Kept::Undefined,
+            gives: None,
         },
         // nor is one less than 0
-        Taken {
+        Row {
             of: Shape::Mandatory(Kind::UInt32, Operator::Delta),
             before: Kept::Assigned(Value::U32(0)),
             bytes: &[0xff, 0xff],
-            value: None,
-            after: Kept::Assigned(Value::U32(0)),
+            gives: None,
         },
         // a length of 65,536
-        Taken {
+        Row {
             of: Shape::Length(Operator::Plain),
             before: Kept::Undefined,
             bytes: &[0xff, 0x04, 0x00, 0x80],
-            value: None,
-            after: Kept::Undefined,
+            gives: None,
         },
-        Taken {
+        Row {
             of: Shape::Mandatory(Kind::Ascii, Operator::Plain),
             before: Kept::Undefined,
             bytes: &[0xff, 0xc1],
-            value: None,
-            after: Kept::Undefined,
+            gives: None,
         },
-        Taken {
+        Row {
             of: Shape::Initial(Presence::Mandatory, Operator::Constant, 5),
             before: Kept::Undefined,
             bytes: &[0xff, 0x85],
-            value: None,
-            after: Kept::Undefined,
+            gives: None,
         },
     ];
     all_taken(&rt, rt.alloc(), ROWS)
@@ -256,337 +185,306 @@ fn numbers_that_are_taken(rt: HostRuntime) -> Result<(), AllocError> {
 
 #[test]
 fn decimals_that_are_taken(rt: HostRuntime) -> Result<(), AllocError> {
-    const ROWS: &[Put] = &[
+    const ROWS: &[Row] = &[
         // an exponent and a mantissa, whole
-        Put {
+        Row {
             of: Shape::Mandatory(Kind::Decimal, Operator::Copy),
             before: Kept::Assigned(Value::Decimal(1, 5)),
             bytes: &[0xff, 0xfe, 0x39, 0x45, 0xa3],
-            taken: true,
-            after: Kept::Assigned(Value::Decimal(-2, 942_755)),
+            gives: Some((
+                Value::Decimal(-2, 942_755),
+                Kept::Assigned(Value::Decimal(-2, 942_755)),
+            )),
         },
-        Put {
+        Row {
             of: Shape::Optional(Kind::Decimal, Operator::Copy),
             before: Kept::Assigned(Value::Decimal(1, 5)),
             bytes: &[0xff, 0x83, 0x84],
-            taken: true,
-            after: Kept::Assigned(Value::Decimal(2, 4)),
+            gives: Some((Value::Decimal(2, 4), Kept::Assigned(Value::Decimal(2, 4)))),
         },
         // and what is added to both
-        Put {
+        Row {
             of: Shape::Mandatory(Kind::Decimal, Operator::Delta),
             before: Kept::Assigned(Value::Decimal(-2, 942_755)),
             bytes: &[0xff, 0x80, 0x85],
-            taken: true,
-            after: Kept::Assigned(Value::Decimal(-2, 942_760)),
+            gives: Some((
+                Value::Decimal(-2, 942_760),
+                Kept::Assigned(Value::Decimal(-2, 942_760)),
+            )),
         },
-        Put {
+        Row {
             of: Shape::Optional(Kind::Decimal, Operator::Delta),
             before: Kept::Assigned(Value::Decimal(-2, 942_755)),
             bytes: &[0xff, 0xff, 0xfb],
-            taken: true,
-            after: Kept::Assigned(Value::Decimal(-3, 942_750)),
+            gives: Some((
+                Value::Decimal(-3, 942_750),
+                Kept::Assigned(Value::Decimal(-3, 942_750)),
+            )),
         },
-        // what is not taken goes the general way
+        // what is as it is read
         // NULL
-        Put {
+        Row {
             of: Shape::Optional(Kind::Decimal, Operator::Copy),
             before: Kept::Assigned(Value::Decimal(1, 5)),
             bytes: &[0xff, 0x80],
-            taken: false,
-            after: Kept::Assigned(Value::Decimal(1, 5)),
+            gives: None,
         },
         // the bytes end
-        Put {
+        Row {
             of: Shape::Mandatory(Kind::Decimal, Operator::Copy),
             before: Kept::Assigned(Value::Decimal(1, 5)),
             bytes: &[0xff, 0x82, 0x05],
-            taken: false,
-            after: Kept::Assigned(Value::Decimal(1, 5)),
+            gives: None,
         },
         // an exponent of 64, sent or as a sum
-        Put {
+        Row {
             of: Shape::Mandatory(Kind::Decimal, Operator::Copy),
             before: Kept::Assigned(Value::Decimal(1, 5)),
             bytes: &[0xff, 0x00, 0xc0, 0x85],
-            taken: false,
-            after: Kept::Assigned(Value::Decimal(1, 5)),
+            gives: None,
         },
-        Put {
+        Row {
             of: Shape::Mandatory(Kind::Decimal, Operator::Delta),
             before: Kept::Assigned(Value::Decimal(63, 5)),
             bytes: &[0xff, 0x81, 0x80],
-            taken: false,
-            after: Kept::Assigned(Value::Decimal(63, 5)),
+            gives: None,
         },
         // nothing is kept that is added to
-        Put {
+        Row {
             of: Shape::Mandatory(Kind::Decimal, Operator::Delta),
             before: Kept::Undefined,
             bytes: &[0xff, 0x80, 0x85],
-            taken: false,
-            after: Kept::Undefined,
+            gives: None,
         },
         // an operator that keeps nothing
-        Put {
+        Row {
             of: Shape::Mandatory(Kind::Decimal, Operator::Plain),
             before: Kept::Undefined,
             bytes: &[0xff, 0x82, 0x85],
-            taken: false,
-            after: Kept::Undefined,
+            gives: None,
         },
     ];
-    all_put(&rt, rt.alloc(), ROWS)
+    all_taken(&rt, rt.alloc(), ROWS)
 }
 
 #[test]
 fn numbers_and_strings_that_are_kept(rt: HostRuntime) -> Result<(), AllocError> {
-    const ROWS: &[Put] = &[
+    const ROWS: &[Row] = &[
         // numbers, whole, added to and counted on
-        Put {
+        Row {
             of: Shape::Mandatory(Kind::Int64, Operator::Copy),
             before: Kept::Undefined,
             bytes: &[0xff, 0x82],
-            taken: true,
-            after: Kept::Assigned(Value::I64(2)),
+            gives: Some((Value::I64(2), Kept::Assigned(Value::I64(2)))),
         },
-        Put {
+        Row {
             of: Shape::Optional(Kind::UInt64, Operator::Delta),
             before: Kept::Assigned(Value::U64(9)),
             bytes: &[0xff, 0x82],
-            taken: true,
-            after: Kept::Assigned(Value::U64(10)),
+            gives: Some((Value::U64(10), Kept::Assigned(Value::U64(10)))),
         },
-        Put {
+        Row {
             of: Shape::Mandatory(Kind::UInt32, Operator::Increment),
             before: Kept::Assigned(Value::U32(7)),
             bytes: &[0xff, 0x39, 0x45, 0xa3],
-            taken: true,
-            after: Kept::Assigned(Value::U32(942_755)),
+            gives: Some((Value::U32(942_755), Kept::Assigned(Value::U32(942_755)))),
         },
         // one that bit 0 gives, and one behind a needless group
-        Put {
+        Row {
             of: Shape::Mandatory(Kind::UInt32, Operator::Copy),
             before: Kept::Assigned(Value::U32(7)),
             bytes: &[0xff, 0x87],
-            taken: true,
-            after: Kept::Assigned(Value::U32(7)),
+            gives: Some((Value::U32(7), Kept::Assigned(Value::U32(7)))),
         },
-        Put {
+        Row {
             of: Shape::Mandatory(Kind::UInt32, Operator::Copy),
             before: Kept::Assigned(Value::U32(7)),
             bytes: &[0xff, 0x00, 0x85],
-            taken: true,
-            after: Kept::Assigned(Value::U32(5)),
+            gives: Some((Value::U32(5), Kept::Assigned(Value::U32(5)))),
         },
         // characters
-        Put {
+        Row {
             of: Shape::Mandatory(Kind::Ascii, Operator::Copy),
             before: Kept::Assigned(Value::Ascii(b"AB")),
             bytes: &[0xff, 0xc3],
-            taken: true,
-            after: Kept::Assigned(Value::Ascii(b"C")),
+            gives: Some((Value::Ascii(b"C"), Kept::Assigned(Value::Ascii(b"C")))),
         },
-        Put {
+        Row {
             of: Shape::Mandatory(Kind::Ascii, Operator::Tail),
             before: Kept::Assigned(Value::Ascii(b"AB")),
             bytes: &[0xff, 0xc3],
-            taken: true,
-            after: Kept::Assigned(Value::Ascii(b"AC")),
+            gives: Some((Value::Ascii(b"AC"), Kept::Assigned(Value::Ascii(b"AC")))),
         },
-        // what is not taken goes the general way: NULL, and an operator that keeps nothing
-        Put {
+        // what is as it is read: NULL, and an operator that keeps nothing
+        Row {
             of: Shape::Optional(Kind::UInt32, Operator::Copy),
             before: Kept::Assigned(Value::U32(7)),
             bytes: &[0xff, 0x80],
-            taken: false,
-            after: Kept::Assigned(Value::U32(7)),
+            gives: None,
         },
-        Put {
+        Row {
             of: Shape::Mandatory(Kind::Ascii, Operator::Plain),
             before: Kept::Undefined,
             bytes: &[0xff, 0xc3],
-            taken: false,
-            after: Kept::Undefined,
+            gives: None,
         },
     ];
-    all_put(&rt, rt.alloc(), ROWS)
+    all_taken(&rt, rt.alloc(), ROWS)
 }
 
 #[test]
 fn vectors_that_are_taken(rt: HostRuntime) -> Result<(), AllocError> {
-    const ROWS: &[Put] = &[
+    const ROWS: &[Row] = &[
         // bytes and characters, whole
-        Put {
+        Row {
             of: Shape::Mandatory(Kind::Bytes, Operator::Copy),
             before: Kept::Empty,
             bytes: &[0xff, 0x82, 0x41, 0x42],
-            taken: true,
-            after: Kept::Assigned(Value::Bytes(b"AB")),
+            gives: Some((Value::Bytes(b"AB"), Kept::Assigned(Value::Bytes(b"AB")))),
         },
-        Put {
+        Row {
             of: Shape::Optional(Kind::Unicode, Operator::Copy),
             before: Kept::Assigned(Value::Unicode("AB")),
             bytes: &[0xff, 0x83, 0xc3, 0xbc],
-            taken: true,
-            after: Kept::Assigned(Value::Unicode("ü")),
+            gives: Some((Value::Unicode("ü"), Kept::Assigned(Value::Unicode("ü")))),
         },
         // a new end
-        Put {
+        Row {
             of: Shape::Mandatory(Kind::Unicode, Operator::Tail),
             before: Kept::Assigned(Value::Unicode("AB")),
             bytes: &[0xff, 0x81, 0x43],
-            taken: true,
-            after: Kept::Assigned(Value::Unicode("AC")),
+            gives: Some((Value::Unicode("AC"), Kept::Assigned(Value::Unicode("AC")))),
         },
         // a removal at the end, and a new part
-        Put {
+        Row {
             of: Shape::Mandatory(Kind::Bytes, Operator::Delta),
             before: Kept::Assigned(Value::Bytes(b"AB")),
             bytes: &[0xff, 0x81, 0x82, 0x43, 0x44],
-            taken: true,
-            after: Kept::Assigned(Value::Bytes(b"ACD")),
+            gives: Some((Value::Bytes(b"ACD"), Kept::Assigned(Value::Bytes(b"ACD")))),
         },
-        Put {
+        Row {
             of: Shape::Optional(Kind::Unicode, Operator::Delta),
             before: Kept::Assigned(Value::Unicode("AB")),
             bytes: &[0xff, 0x81, 0x81, 0x43],
-            taken: true,
-            after: Kept::Assigned(Value::Unicode("ABC")),
+            gives: Some((Value::Unicode("ABC"), Kept::Assigned(Value::Unicode("ABC")))),
         },
-        // what is not taken goes the general way
+        // what is as it is read
         // NULL
-        Put {
+        Row {
             of: Shape::Optional(Kind::Bytes, Operator::Copy),
             before: Kept::Assigned(Value::Bytes(b"AB")),
             bytes: &[0xff, 0x80],
-            taken: false,
-            after: Kept::Assigned(Value::Bytes(b"AB")),
+            gives: None,
         },
         // the bytes end
-        Put {
+        Row {
             of: Shape::Mandatory(Kind::Bytes, Operator::Copy),
             before: Kept::Assigned(Value::Bytes(b"AB")),
             bytes: &[0xff, 0x82, 0x43],
-            taken: false,
-            after: Kept::Assigned(Value::Bytes(b"AB")),
+            gives: None,
         },
         // no UTF-8
-        Put {
+        Row {
             of: Shape::Mandatory(Kind::Unicode, Operator::Copy),
             before: Kept::Assigned(Value::Unicode("AB")),
             bytes: &[0xff, 0x81, 0xc3],
-            taken: false,
-            after: Kept::Assigned(Value::Unicode("AB")),
+            gives: None,
         },
         // an end that is longer than what is kept
-        Put {
+        Row {
             of: Shape::Mandatory(Kind::Bytes, Operator::Tail),
             before: Kept::Assigned(Value::Bytes(b"A")),
             bytes: &[0xff, 0x82, 0x42, 0x43],
-            taken: false,
-            after: Kept::Assigned(Value::Bytes(b"A")),
+            gives: None,
         },
         // a removal in front, and one of more than is kept
-        Put {
+        Row {
             of: Shape::Mandatory(Kind::Bytes, Operator::Delta),
             before: Kept::Assigned(Value::Bytes(b"AB")),
             bytes: &[0xff, 0xfe, 0x81, 0x43],
-            taken: false,
-            after: Kept::Assigned(Value::Bytes(b"AB")),
+            gives: None,
         },
-        Put {
+        Row {
             of: Shape::Mandatory(Kind::Bytes, Operator::Delta),
             before: Kept::Assigned(Value::Bytes(b"AB")),
             bytes: &[0xff, 0x83, 0x81, 0x43],
-            taken: false,
-            after: Kept::Assigned(Value::Bytes(b"AB")),
+            gives: None,
         },
         // nothing is kept that has an end
-        Put {
+        Row {
             of: Shape::Mandatory(Kind::Bytes, Operator::Tail),
             before: Kept::Undefined,
             bytes: &[0xff, 0x81, 0x43],
-            taken: false,
-            after: Kept::Undefined,
+            gives: None,
         },
         // an operator that keeps nothing
-        Put {
+        Row {
             of: Shape::Mandatory(Kind::Bytes, Operator::Plain),
             before: Kept::Undefined,
             bytes: &[0xff, 0x81, 0x43],
-            taken: false,
-            after: Kept::Undefined,
+            gives: None,
         },
     ];
-    all_put(&rt, rt.alloc(), ROWS)
+    all_taken(&rt, rt.alloc(), ROWS)
 }
 
 #[test]
 fn strings_that_are_taken_aside(rt: HostRuntime) -> Result<(), AllocError> {
-    const ROWS: &[Aside] = &[
+    const ROWS: &[Row] = &[
         // characters in the place of others, as many or not
-        Aside {
+        Row {
             of: Shape::Mandatory(Kind::Ascii, Operator::Plain),
-            before: Value::Ascii(b"XYZ"),
+            before: Kept::Undefined,
             bytes: &[0xff, 0x41, 0xc2],
-            taken: true,
-            after: Value::Ascii(b"AB"),
+            gives: Some((Value::Ascii(b"AB"), Kept::Undefined)),
         },
-        Aside {
+        Row {
             of: Shape::Optional(Kind::Ascii, Operator::Plain),
-            before: Value::Ascii(b"XY"),
+            before: Kept::Undefined,
             bytes: &[0xff, 0x41, 0xc2],
-            taken: true,
-            after: Value::Ascii(b"AB"),
+            gives: Some((Value::Ascii(b"AB"), Kept::Undefined)),
         },
-        Aside {
+        Row {
             of: Shape::Optional(Kind::Ascii, Operator::Default),
-            before: Value::Ascii(b""),
+            before: Kept::Undefined,
             bytes: &[0xff, 0x41, 0x42, 0xc3],
-            taken: true,
-            after: Value::Ascii(b"ABC"),
+            gives: Some((Value::Ascii(b"ABC"), Kept::Undefined)),
         },
-        // what is not taken goes the general way
+        // what is as it is read
         // NULL
-        Aside {
+        Row {
             of: Shape::Optional(Kind::Ascii, Operator::Plain),
-            before: Value::Ascii(b"XY"),
+            before: Kept::Undefined,
             bytes: &[0xff, 0x80],
-            taken: false,
-            after: Value::Ascii(b"XY"),
+            gives: None,
         },
         // the bytes end
-        Aside {
+        Row {
             of: Shape::Mandatory(Kind::Ascii, Operator::Plain),
-            before: Value::Ascii(b"XY"),
+            before: Kept::Undefined,
             bytes: &[0xff, 0x41, 0x42],
-            taken: false,
-            after: Value::Ascii(b"XY"),
+            gives: None,
         },
         // an operator that keeps it
-        Aside {
+        Row {
             of: Shape::Mandatory(Kind::Ascii, Operator::Copy),
-            before: Value::Ascii(b"XY"),
+            before: Kept::Undefined,
             bytes: &[0xff, 0x41, 0xc2],
-            taken: false,
-            after: Value::Ascii(b"XY"),
+            gives: None,
         },
         // another value, and another type
-        Aside {
+        Row {
             of: Shape::Mandatory(Kind::Ascii, Operator::Plain),
-            before: Value::U32(7),
+            before: Kept::Undefined,
             bytes: &[0xff, 0x41, 0xc2],
-            taken: false,
-            after: Value::U32(7),
+            gives: None,
         },
-        Aside {
+        Row {
             of: Shape::Mandatory(Kind::Bytes, Operator::Plain),
-            before: Value::Ascii(b"XY"),
+            before: Kept::Undefined,
             bytes: &[0xff, 0x81, 0x43],
-            taken: false,
-            after: Value::Ascii(b"XY"),
+            gives: None,
         },
     ];
-    all_aside(&rt, rt.alloc(), ROWS)
+    all_taken(&rt, rt.alloc(), ROWS)
 }

@@ -75,7 +75,7 @@ fn is_told(
 }
 
 // A field is taken as it is read and written. Answers its entry afterwards, and the place behind it where it has a reading.
-fn is_taken(
+pub(crate) fn is_taken(
     rt: &impl Abort,
     alloc: Global,
     instr: &FieldPart,

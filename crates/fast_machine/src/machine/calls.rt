@@ -722,6 +722,7 @@ impl<'a, R: Receiver, E: Entries> Machine<'a, R, E> {
     pub fn reset(&mut self)
         ensures same { IsSameStream self.old self.new }
         ensures fault { self.new.fault ≡ None }
+        ensures fed { self.new.fed ≡ 0 }
         ensures receiver { self.new.receiver ≡ self.old.receiver }
         ensures undefined { E.contents self.new.entries ≡ finite.empty }
         ensures follows { (before : List Content)

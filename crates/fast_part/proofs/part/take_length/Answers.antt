@@ -1,7 +1,12 @@
-use Rattle.fast_part.proofs.Common.{refl}
-use Rattle.fast_part.proofs.TakenKinds.{kind_taken}
+use Rattle.fast_part.proofs.Common.{ap, is_ok, kept_hold, length_of}
+use Rattle.fast_part.proofs.Keys.{under_key}
 use Rattle.fast_part.proofs.part.take_length.Goals as goal
 
-pub unsigned_in-requires : goal.unsigned_in-requires
-unsigned_in-requires g c =
-    kind_taken c.args.bytes.now c.args.at c.in_ok-value.next c.type_inv.bytes c.requires.bit c.requires.told refl c.in_ok-value.ensures.takes.1
+pub take_count-requires-clause-entry : goal.take_count-requires-clause-entry
+take_count-requires-clause-entry g c = rw (c.in_ok-entry.ensures.value) (kept_hold (g.E.Entries.contents c.args.entries.now) c.requires.kept c.args.part.now.key)
+
+pub returns-clause-takes : goal.returns-clause-takes
+returns-clause-takes g c =
+    let d = g.E.Entries.contents c.args.entries.now in
+    under_key length_of c.args.level c.args.part.now c.args.bit c.args.bytes.now c.args.at c.in_ok-entry.entry.now c.take_count.new.entry d (g.E.Entries.contents (c.entry_mut.follows.lender c.take_count.new.entry))
+    c.take_count.result c.in_ok-entry.ensures.value (c.entry_mut.follows.holds c.take_count.new.entry (ap is_ok c.in_ok-entry.was)).0 c.take_count.ensures.taken

@@ -1,15 +1,20 @@
-use Rattle.fast_part.proofs.Common.{drop, arith, ap, ◌∙◌, Entry, value_found}
-use Rattle.fast_part.proofs.TakenKinds.{took_as_usual}
+use Rattle.fast_part.proofs.Common.{err_from_is_err_and}
+use Rattle.fast_part.proofs.Receiving.{stopped, taken_as}
+use Rattle.fast_take.proofs.Within.{taken_within}
 use Rattle.fast_part.proofs.part.take_value.Goals as goal
 
-pub returns-in-Some : goal.returns-in-Some
-returns-in-Some c =
-    let i = c.args.part.now in
-    let rest = drop c.args.at c.args.bytes.now in
-    let value = c.in_ok-value.ensures ∙ c.value.ensures ∙ ap (λ (e : Entry). value_found i e c.in-Some.found) c.view.ensures in
-    ((omega arith, c.requires), rw value (c.in-Some.ensures.taken c.args.level rest))
+pub returns-in_err-took : goal.returns-in_err-took
+returns-in_err-took c =
+    let p = err_from_is_err_and c.from_residual.result c.from_residual.ensures.1 in
+    rw (p.1, p.2)
+    (stopped c.args.level c.args.part.now c.args.entry.now c.take.new.entry c.args.bit c.args.bytes.now c.args.at c.in_err-took.field-0.0 c.in_err-took.ensures.taken)
 
-pub returns-in-Some-take_number : goal.returns-in-Some-take_number
-returns-in-Some-take_number c =
-    let taken = c.in-Some-take_number.ensures in
-    ((taken.0, taken.1), rw (c.if-bit.true, c.in_default.ensures.entry) (took_as_usual (c.reads_as_usual.ensures c.if-reads_as_usual.true) (taken.2 c.args.entry.now)))
+pub copied_value-requires : goal.copied_value-requires
+copied_value-requires c =
+    taken_within c.args.level c.args.part.now c.args.entry.now c.take.new.entry c.args.bit c.args.bytes.now c.args.at c.take.new.aside c.in_ok-took.took
+    c.requires.part c.requires.entry c.in_ok-took.ensures.taken
+
+pub returns : goal.returns
+returns c =
+    taken_as c.args.level c.args.part.now c.args.entry.now c.take.new.entry c.args.bit c.args.bytes.now c.args.at c.take.new.aside c.in_ok-took.took c.in_ok-value.value c.place.result
+    c.in_ok-took.ensures.taken c.in_ok-value.ensures c.place.ensures

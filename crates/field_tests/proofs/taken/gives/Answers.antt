@@ -1,0 +1,13 @@
+use Rattle.std.proofs.Common.{true}
+use Rattle.fast_take.proofs.Within.{taken_within}
+use Rattle.field_tests.proofs.taken.gives.Goals as goal
+
+pub value-requires : goal.value-requires
+value-requires g c =
+    taken_within _ c.in_ok-instr.instr c.in_ok-entry.entry c.take.new.entry true c.args.row.now.bytes.now c.min-at.result c.take.new.aside c.in-Ok.took
+    (c.is_part.ensures.part c.if-not-is_part.false) (c.holds_scalar.ensures c.if-not-holds_scalar.false) c.in-Ok.ensures.taken
+
+pub copied_value-requires : goal.copied_value-requires
+copied_value-requires g c =
+    taken_within _ c.in_ok-instr.instr c.in_ok-entry.entry c.take.new.entry true c.args.row.now.bytes.now c.min-at.result c.take.new.aside c.in-Ok.took
+    (c.is_part.ensures.part c.if-not-is_part.false) (c.holds_scalar.ensures c.if-not-holds_scalar.false) c.in-Ok.ensures.taken
