@@ -313,8 +313,8 @@ struct fastcat_reader {
 };
 
 /* Puts a reader at the beginning of a stream behind the handle, in the mode 0, FASTCAT_STRICT, FASTCAT_BLOCKS or both; what the
- * handle had before is freed. A message whose strings have more than most_bytes is not read (0: 64 MiB). The templates that a
- * reader was made with stay as long as the process, also when the set and the reader are freed. */
+ * handle had before is freed. A message whose strings have more than most_bytes is not read (0: 64 MiB). The reader has a
+ * share of the templates, which are freed with the last handle that has one. */
 uint32_t fastcat_reader_new(struct fastcat_set *set, uint32_t mode, uint64_t most_bytes, struct fastcat_reader *reader);
 
 /* Takes bytes from the front of the next of the stream, however they are cut. The messages that they end wait in the reader. It
@@ -351,8 +351,8 @@ struct fastcat_writer {
   uint32_t there;
 };
 
-/* Puts a writer at the beginning of a stream behind the handle; what the handle had before is freed. Its templates stay as a
- * reader's do. */
+/* Puts a writer at the beginning of a stream behind the handle; what the handle had before is freed. It has a share of the
+ * templates as a reader has. */
 uint32_t fastcat_writer_new(struct fastcat_set *set, struct fastcat_writer *writer);
 
 /* Writes the messages that the nodes are, one after the other, until one is refused: waiting->messages of them, of

@@ -385,6 +385,27 @@ static void handles(struct fastcat_set *set) {
   expect(fastcat_writer_reset(&no_writer) == FASTCAT_WRONG_HANDLE && no_writer.at == NULL, "no writer is reset");
 }
 
+/* A reader and a writer have shares of the templates of their own, in whatever order the handles are freed. */
+static void shares(const uint8_t *text, size_t length) {
+  for (int first = 0; first < 3; first++) {
+    struct fastcat_set set = {0};
+    struct fastcat_reader reader = {0};
+    struct fastcat_writer writer = {0};
+    struct fastcat_counts counts;
+    struct fastcat_answer answer;
+    expect(fastcat_set_new(text, length, &set, &answer) == FASTCAT_DONE && fastcat_reader_new(&set, 0, 0, &reader) == FASTCAT_DONE &&
+               fastcat_writer_new(&set, &writer) == FASTCAT_DONE, "a reader and a writer of a set");
+    if (first == 0) fastcat_set_free(&set);
+    expect(fastcat_reader_feed(&reader, quote, sizeof quote, &counts, &answer) == FASTCAT_DONE && counts.messages == 1, "a reader's share");
+    if (first == 1) fastcat_reader_free(&reader);
+    expect(put(&writer, wrap, 3, &counts, &answer) == FASTCAT_DONE && counts.messages == 1, "a writer's share");
+    if (first == 2) fastcat_writer_free(&writer);
+    fastcat_set_free(&set);
+    fastcat_writer_free(&writer);
+    fastcat_reader_free(&reader);
+  }
+}
+
 /* A set is no reader, and a reader no set: both are as they were. */
 static void kinds(struct fastcat_set *set) {
   struct fastcat_reader reader = {0}, of_set;
@@ -492,6 +513,7 @@ int main(int count, char **words) {
     /* (the worked templates come first) */
     if (i == 1) {
       faults(&set);
+      shares(templates, templates_length);
       too_large(&set);
       much(&set);
       kinds(&set);

@@ -12,7 +12,7 @@ from typing import Any, Iterable, Iterator, Literal, Union
 from ._answers import FastcatError, Status
 from ._calls import mode_of
 from ._library import RawAnswer, RawCounts, RawReader, answer_of, library
-from ._templates import Field, Templates, Text, bytes_of, text_of
+from ._templates import Field, Templates, Text, bytes_of
 from ._values import NODE, Layout, exact_decimal
 
 try:
@@ -25,20 +25,6 @@ except ImportError:
 Source = Union[bytes, bytearray, memoryview, os.PathLike[str], Any, Iterable[Union[bytes, bytearray, memoryview]]]
 Decimals = Literal["Decimal", "pair"]
 Fields = Literal["dict", "pairs"]
-
-
-# Templates that a reader was made with stay as long as the process (fastcat_reader_new), so those of a text are read once.
-lasting: dict[bytes, Templates] = {}
-lasting_lock = threading.Lock()
-
-
-def lasting_templates(templates: Text) -> Templates:
-    """The templates of a text for readers."""
-    text = text_of(templates)
-    with lasting_lock:
-        if text not in lasting:
-            lasting[text] = Templates(text)
-        return lasting[text]
 
 
 def layout_of(fields: tuple[Field, ...]) -> Layout:
@@ -64,8 +50,7 @@ class Reader:
     a list of dicts. With `fields="pairs"` a list of names and values stands for each dict: templates in which a name stands
     twice are read so only.
 
-    A message whose strings have more than `most_bytes` (0: 64 MiB) is refused. The templates of a reader stay in memory as long
-    as the process.
+    A message whose strings have more than `most_bytes` (0: 64 MiB) is refused.
     """
 
     def __init__(
@@ -85,7 +70,7 @@ class Reader:
         if decimals not in ("Decimal", "pair") or fields not in ("dict", "pairs"):
             raise ValueError('decimals are "Decimal" or "pair", and fields "dict" or "pairs"')
         is_pairs = fields == "pairs"
-        read = templates if isinstance(templates, Templates) else lasting_templates(templates)
+        read = templates if isinstance(templates, Templates) else Templates(templates)
         layouts = {number: (name, layout_of(read.fields(number))) for number, name in read.ids.items()}
         if not is_pairs:
             for name, layout in layouts.values():

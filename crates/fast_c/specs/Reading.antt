@@ -18,6 +18,7 @@ use Rattle.fast_tape.specs.declared.fault.TapeFault.{TapeFault}
 use Rattle.fast_tape.specs.declared.node.TapeNode.{TapeNode}
 use Rattle.fast_tape.specs.declared.reader.TapeReader.{TapeReader}
 use Rattle.fast_kept.specs.declared.kept.Kept.{Kept}
+use Rattle.fast_kept.specs.declared.lent.Lent.{Lent}
 use Rattle.fast_slices.specs.Answers.{no_counts}
 use Rattle.fast_slices.specs.Calls.{Done}
 use Rattle.fast_slices.specs.Ways.{stream_mode_of}
@@ -27,10 +28,16 @@ use Rattle.fast_c.specs.declared.counts.NodeCounts.{NodeCounts}
 abbrev pub ReaderOf : Type 0
 ReaderOf = TapeReader (SlotEntries) ghosts
 
+-- This was done with a reader; or there is none, and all stays as it was.
+abbrev pub LentReader : {A : Type 0} → (ReaderOf → ReaderOf → A → Type 0) → Type 0 → Option Lent → Option Lent → Option A → Type 0
+LentReader Does Stays (Some (Lent.Reader r)) new (Some done) = (later : ReaderOf) × (new ≡ Some (Lent.Reader later)) × Does r later done
+LentReader Does Stays (Some (Lent.Reader r)) new None = ⊥
+LentReader Does Stays old new (Some done) = ⊥
+LentReader Does Stays old new None = (new ≡ old) × Stays
+
 -- This was done with the reader of a handle; or it has none, and all stays as it was.
 abbrev pub HeldReader : {A : Type 0} → (ReaderOf → ReaderOf → A → Type 0) → Type 0 → Option Kept → Option Kept → Option A → Type 0
-HeldReader Does Stays (Some (Kept.Reader r)) new (Some done) = (later : ReaderOf) × (new ≡ Some (Kept.Reader later)) × Does r later done
-HeldReader Does Stays (Some (Kept.Reader r)) new None = ⊥
+HeldReader Does Stays (Some (Kept.Lent lent)) new done = (later : Option Lent) × (new ≡ Some (Kept.Lent later)) × LentReader Does Stays lent later done
 HeldReader Does Stays old new (Some done) = ⊥
 HeldReader Does Stays old new None = (new ≡ old) × Stays
 
@@ -38,7 +45,7 @@ HeldReader Does Stays old new None = (new ≡ old) × Stays
 
 -- A reader of a set is behind the handle, at the beginning of a stream; or it stays as it was.
 abbrev pub KeepsReader : ℕ → Option Kept → Option Kept → TemplateList → Done → Type 0
-KeepsReader word old new set (Ok counts) = (counts ≡ no_counts) × ((r : ReaderOf) × (new ≡ Some (Kept.Reader r)) × (r.machine.traversal.set.now ≡ set) × (stream_mode_of word ≡ Some (mode_of r.machine)) × Reads r [] [] [])
+KeepsReader word old new set (Ok counts) = (counts ≡ no_counts) × ((r : ReaderOf) × (new ≡ Some (Kept.Lent (Some (Lent.Reader r)))) × (r.machine.traversal.set.now ≡ set) × (stream_mode_of word ≡ Some (mode_of r.machine)) × Reads r [] [] [])
 KeepsReader word old new set (Err Refusal.Mode) = (stream_mode_of word ≡ None) × (new ≡ old)
 KeepsReader word old new set (Err Refusal.Memory) = new ≡ old
 KeepsReader word old new set (Err r) = ⊥
@@ -116,10 +123,15 @@ used_of None = 0
 abbrev pub counted : ℕ → Taken → NodeCounts
 counted used t = record { used = used; messages = t.messages; nodes = t.nodes; bytes = t.bytes }
 
+-- what waits in a reader; nothing where there is none
+abbrev pub waiting_lent : ℕ → Option Lent → NodeCounts
+waiting_lent used (Some (Lent.Reader r)) = counted used (counts_of r.machine.receiver)
+waiting_lent used lent = record { used = used; messages = 0; nodes = 0; bytes = 0 }
+
 -- what waits in the reader of a handle
 abbrev pub waiting_in : ℕ → Option Kept → NodeCounts
-waiting_in used (Some (Kept.Reader r)) = counted used (counts_of r.machine.receiver)
-waiting_in used kept = record { used = used; messages = 0; nodes = 0; bytes = 0 }
+waiting_in used (Some (Kept.Lent lent)) = waiting_lent used lent
+waiting_in used kept = waiting_lent used None
 
 -- what was taken, or where the rooms are too short what waits; and the status
 abbrev pub taken_told : Option (Option Taken) → Option Kept → NodeCounts

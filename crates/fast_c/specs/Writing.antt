@@ -14,6 +14,7 @@ use Rattle.fast_untape.specs.declared.fault.PutFault.{PutFault}
 use Rattle.fast_untape.specs.declared.writer.Put.{Put}
 use Rattle.fast_untape.specs.declared.writer.TapeWriter.{TapeWriter}
 use Rattle.fast_kept.specs.declared.kept.Kept.{Kept}
+use Rattle.fast_kept.specs.declared.lent.Lent.{Lent}
 use Rattle.fast_slices.specs.Answers.{no_counts}
 use Rattle.fast_slices.specs.Calls.{Done}
 use Rattle.fast_slices.specs.declared.answer.Refusal.{Refusal}
@@ -22,10 +23,16 @@ use Rattle.fast_c.specs.declared.counts.NodeCounts.{NodeCounts}
 abbrev pub WriterOf : Type 0
 WriterOf = TapeWriter SlotEntries ghosts
 
+-- This was done with a writer; or there is none, and all stays as it was.
+abbrev pub LentWriter : {A : Type 0} → (WriterOf → WriterOf → A → Type 0) → Type 0 → Option Lent → Option Lent → Option A → Type 0
+LentWriter Does Stays (Some (Lent.Writer w)) new (Some done) = (later : WriterOf) × (new ≡ Some (Lent.Writer later)) × Does w later done
+LentWriter Does Stays (Some (Lent.Writer w)) new None = ⊥
+LentWriter Does Stays old new (Some done) = ⊥
+LentWriter Does Stays old new None = (new ≡ old) × Stays
+
 -- This was done with the writer of a handle; or it has none, and all stays as it was.
 abbrev pub HeldWriter : {A : Type 0} → (WriterOf → WriterOf → A → Type 0) → Type 0 → Option Kept → Option Kept → Option A → Type 0
-HeldWriter Does Stays (Some (Kept.Writer w)) new (Some done) = (later : WriterOf) × (new ≡ Some (Kept.Writer later)) × Does w later done
-HeldWriter Does Stays (Some (Kept.Writer w)) new None = ⊥
+HeldWriter Does Stays (Some (Kept.Lent lent)) new done = (later : Option Lent) × (new ≡ Some (Kept.Lent later)) × LentWriter Does Stays lent later done
 HeldWriter Does Stays old new (Some done) = ⊥
 HeldWriter Does Stays old new None = (new ≡ old) × Stays
 
@@ -37,7 +44,7 @@ Wrote w messages taken = HasWritten (templates_in w.set.now) messages taken w.wa
 
 -- A writer of a set is behind the handle, at the beginning of a stream; or it stays as it was.
 abbrev pub KeepsWriter : Option Kept → Option Kept → TemplateList → Done → Type 0
-KeepsWriter old new set (Ok counts) = (counts ≡ no_counts) × ((w : WriterOf) × (new ≡ Some (Kept.Writer w)) × (w.set.now ≡ set) × Wrote w [] [])
+KeepsWriter old new set (Ok counts) = (counts ≡ no_counts) × ((w : WriterOf) × (new ≡ Some (Kept.Lent (Some (Lent.Writer w)))) × (w.set.now ≡ set) × Wrote w [] [])
 KeepsWriter old new set (Err Refusal.Memory) = new ≡ old
 KeepsWriter old new set (Err r) = ⊥
 
@@ -94,9 +101,14 @@ abbrev pub put_told : List TapeNode → Option Put → Done
 put_told nodes (Some put) = put_answer nodes put put.fault
 put_told nodes None = Err Refusal.Handle
 
+-- how many bytes wait in a writer; 0 where there is none
+abbrev pub bytes_lent : Option Lent → ℕ
+bytes_lent (Some (Lent.Writer w)) = length w.waiting.items
+bytes_lent lent = 0
+
 -- how many bytes wait in the writer of a handle
 abbrev pub bytes_in : Option Kept → ℕ
-bytes_in (Some (Kept.Writer w)) = length w.waiting.items
+bytes_in (Some (Kept.Lent lent)) = bytes_lent lent
 bytes_in kept = 0
 
 abbrev pub counts_by : ℕ → ℕ → ℕ → NodeCounts

@@ -52,7 +52,7 @@ pub extern "C" fn fastcat_reader_feed(
 {
     let mut held = reader.take(alloc);
     let done = feed_held(&mut held, chunk);
-    *waiting = waiting_in(used_of(&done), &held);
+    *waiting = waiting_in(used_of(&done), &mut held);
     reader.put(alloc, held);
     *answer = answer_of(told(&done));
     answer.status
@@ -73,7 +73,7 @@ pub extern "C" fn fastcat_reader_packet(
 {
     let mut held = reader.take(alloc);
     let done = read_packet_held(&mut held, packet);
-    *waiting = waiting_in(used_of(&done), &held);
+    *waiting = waiting_in(used_of(&done), &mut held);
     reader.put(alloc, held);
     *answer = answer_of(told(&done));
     answer.status
@@ -94,7 +94,7 @@ pub extern "C" fn fastcat_reader_take(
 {
     let mut held = reader.take(alloc);
     let done = take_held(&mut held, nodes, bytes);
-    *taken = taken_told(&done, &held);
+    *taken = taken_told(&done, &mut held);
     reader.put(alloc, held);
     status_taken(&done)
 }

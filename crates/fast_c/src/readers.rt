@@ -1,15 +1,14 @@
 //! What is done with the reader behind a handle.
 
 ghost use Rattle.std.specs.Prelude.{◌≡◌, option_map};
-ghost use Rattle.fast_c.specs.Reading.{Feeds, Finishes, HeldReader, KeepsReader, ReadsPacket, Resets, Takes, counted as counted_lem, refusal_of as refusal_of_lem, status_done as status_done_lem, status_taken as status_taken_lem, taken_told as taken_told_lem, told as told_lem, used_of as used_of_lem, waiting_in as waiting_in_lem};
+ghost use Rattle.fast_c.specs.Reading.{Feeds, Finishes, HeldReader, KeepsReader, LentReader, ReadsPacket, Resets, Takes, counted as counted_lem, refusal_of as refusal_of_lem, status_done as status_done_lem, status_taken as status_taken_lem, taken_told as taken_told_lem, told as told_lem, used_of as used_of_lem, waiting_in as waiting_in_lem, waiting_lent as waiting_lent_lem};
 ghost use Rattle.fast_c.specs.Sets.{WithKept};
 
 use crate::counts::NodeCounts;
-use fast_dictionary::SlotEntries;
-use fast_kept::{Handle, Kept, set_in};
+use fast_kept::{Handle, Kept, Lent, Loan, Wanted, set_in};
 use fast_slices::{Counts, Refusal, no_counts, stream_mode_of};
 use fast_stream::Cause;
-use fast_tape::{Taken, TapeFault, TapeNode, TapeReader};
+use fast_tape::{Taken, TapeFault, TapeNode};
 use std::alloc::Global;
 
 /// What is behind a handle, while a call has it.
@@ -46,16 +45,73 @@ pub(crate) fn keep_reader(
     let Some(mode) = stream_mode_of(word) else {
         return Err(Refusal::Mode);
     };
-    let Ok(set) = set.lasting(alloc) else {
+    let wanted = Wanted::Reader(mode, most_bytes_of(most_bytes));
+    let Ok(share) = set.share() else {
         return Err(Refusal::Memory);
     };
-    let Ok(entries) = SlotEntries::new(alloc, set) else {
+    let Ok(made) = Loan::new(alloc, share, &wanted) else {
         return Err(Refusal::Memory);
     };
-    let made = TapeReader::new(alloc, set, mode, most_bytes_of(most_bytes), entries);
-    match reader.keep(alloc, Kept::Reader(made)) {
+    match reader.keep(alloc, Kept::Lent(made)) {
         Ok(()) => Ok(no_counts()),
         Err(_) => Err(Refusal::Memory),
+    }
+}
+
+/// Feeds bytes to a reader; none where there is none.
+fn feed_lent(lent: &mut Option<Lent<'_>>, chunk: &[u8]) -> Option<Result<usize, TapeFault>>
+    ensures { LentReader (Feeds chunk.now) (Unit {0}) lent.old lent.new result }
+{
+    match lent {
+        Some(Lent::Reader(reader)) => Some(reader.feed(chunk)),
+        Some(Lent::Writer(_)) | None => None,
+    }
+}
+
+/// Reads a packet, likewise.
+fn read_packet_lent(lent: &mut Option<Lent<'_>>, packet: &[u8]) -> Option<Result<usize, TapeFault>>
+    ensures { LentReader (ReadsPacket packet.now) (Unit {0}) lent.old lent.new result }
+{
+    match lent {
+        Some(Lent::Reader(reader)) => Some(reader.packet(packet)),
+        Some(Lent::Writer(_)) | None => None,
+    }
+}
+
+/// Puts what waits into rooms, likewise.
+fn take_lent(
+    lent: &mut Option<Lent<'_>>,
+    nodes: &mut [TapeNode],
+    bytes: &mut [u8],
+) -> Option<Option<Taken>>
+    ensures { LentReader (Takes nodes.old nodes.new bytes.old bytes.new) ((nodes.new ≡ nodes.old) × (bytes.new ≡ bytes.old)) lent.old lent.new result }
+{
+    match lent {
+        Some(Lent::Reader(reader)) => Some(reader.take(nodes, bytes)),
+        Some(Lent::Writer(_)) | None => None,
+    }
+}
+
+/// Ends the stream, likewise.
+fn finish_lent(lent: &mut Option<Lent<'_>>) -> Option<Result<(), TapeFault>>
+    ensures { LentReader Finishes (Unit {0}) lent.old lent.new result }
+{
+    match lent {
+        Some(Lent::Reader(reader)) => Some(reader.finish()),
+        Some(Lent::Writer(_)) | None => None,
+    }
+}
+
+/// Begins a new stream, likewise.
+fn reset_lent(lent: &mut Option<Lent<'_>>) -> Option<()>
+    ensures { LentReader Resets (Unit {0}) lent.old lent.new result }
+{
+    match lent {
+        Some(Lent::Reader(reader)) => {
+            reader.reset();
+            Some(())
+        }
+        Some(Lent::Writer(_)) | None => None,
     }
 }
 
@@ -66,8 +122,8 @@ pub(crate) fn feed_held(held: &mut Held, chunk: &[u8]) -> Option<Result<usize, T
 {
     match held {
         Some(kept) => match &mut **kept {
-            Kept::Reader(reader) => Some(reader.feed(chunk)),
-            Kept::Set(_) | Kept::Writer(_) => None,
+            Kept::Lent(loan) => loan.with(&mut [], &mut [], |lent, _, _| feed_lent(lent, chunk)),
+            Kept::Set(_) => None,
         },
         None => None,
     }
@@ -80,8 +136,12 @@ pub(crate) fn read_packet_held(held: &mut Held, packet: &[u8]) -> Option<Result<
 {
     match held {
         Some(kept) => match &mut **kept {
-            Kept::Reader(reader) => Some(reader.packet(packet)),
-            Kept::Set(_) | Kept::Writer(_) => None,
+            Kept::Lent(loan) => loan.with(
+                &mut [],
+                &mut [],
+                |lent, _, _| read_packet_lent(lent, packet),
+            ),
+            Kept::Set(_) => None,
         },
         None => None,
     }
@@ -98,8 +158,8 @@ pub(crate) fn take_held(
 {
     match held {
         Some(kept) => match &mut **kept {
-            Kept::Reader(reader) => Some(reader.take(nodes, bytes)),
-            Kept::Set(_) | Kept::Writer(_) => None,
+            Kept::Lent(loan) => loan.with(nodes, bytes, take_lent),
+            Kept::Set(_) => None,
         },
         None => None,
     }
@@ -112,8 +172,8 @@ pub(crate) fn finish_held(held: &mut Held) -> Option<Result<(), TapeFault>>
 {
     match held {
         Some(kept) => match &mut **kept {
-            Kept::Reader(reader) => Some(reader.finish()),
-            Kept::Set(_) | Kept::Writer(_) => None,
+            Kept::Lent(loan) => loan.with(&mut [], &mut [], |lent, _, _| finish_lent(lent)),
+            Kept::Set(_) => None,
         },
         None => None,
     }
@@ -126,11 +186,8 @@ pub(crate) fn reset_held(held: &mut Held) -> Option<()>
 {
     match held {
         Some(kept) => match &mut **kept {
-            Kept::Reader(reader) => {
-                reader.reset();
-                Some(())
-            }
-            Kept::Set(_) | Kept::Writer(_) => None,
+            Kept::Lent(loan) => loan.with(&mut [], &mut [], |lent, _, _| reset_lent(lent)),
+            Kept::Set(_) => None,
         },
         None => None,
     }
@@ -194,32 +251,49 @@ fn counted(used: u64, taken: Taken) -> NodeCounts
     }
 }
 
+/// What waits in a reader; nothing where there is none.
+fn waiting_lent(used: u64, lent: &mut Option<Lent<'_>>) -> NodeCounts
+    ensures counts { result ≡ waiting_lent_lem used lent.old }
+    ensures same { lent.new ≡ lent.old }
+{
+    match lent {
+        Some(Lent::Reader(reader)) => counted(used, reader.waiting()),
+        Some(Lent::Writer(_)) | None => counts(used),
+    }
+}
+
+/// Counts of nothing but what was used.
+fn counts(used: u64) -> NodeCounts
+    ensures { result ≡ record { used = used; messages = 0; nodes = 0; bytes = 0 } }
+{
+    NodeCounts {
+        used,
+        messages: 0,
+        nodes: 0,
+        bytes: 0,
+    }
+}
+
 /// What waits in the reader that is held.
-pub(crate) fn waiting_in(used: u64, held: &Held) -> NodeCounts
-    ensures { result ≡ waiting_in_lem used (option_map (λ b. b.value) held.now) }
+pub(crate) fn waiting_in(used: u64, held: &mut Held) -> NodeCounts
+    ensures counts { result ≡ waiting_in_lem used (option_map (λ b. b.value) held.new) }
+    ensures same { option_map (λ b. b.value) held.new ≡ option_map (λ b. b.value) held.old }
 {
     match held {
-        Some(kept) => match &**kept {
-            Kept::Reader(reader) => counted(used, reader.waiting()),
-            Kept::Set(_) | Kept::Writer(_) => NodeCounts {
-                used,
-                messages: 0,
-                nodes: 0,
-                bytes: 0,
-            },
+        Some(kept) => match &mut **kept {
+            Kept::Lent(loan) => {
+                loan.with(&mut [], &mut [], |lent, _, _| waiting_lent(used, lent))
+            }
+            Kept::Set(_) => counts(used),
         },
-        None => NodeCounts {
-            used,
-            messages: 0,
-            nodes: 0,
-            bytes: 0,
-        },
+        None => counts(used),
     }
 }
 
 /// What was taken, or where the rooms are too short what waits.
-pub(crate) fn taken_told(done: &Option<Option<Taken>>, held: &Held) -> NodeCounts
-    ensures { result ≡ taken_told_lem done.now (option_map (λ b. b.value) held.now) }
+pub(crate) fn taken_told(done: &Option<Option<Taken>>, held: &mut Held) -> NodeCounts
+    ensures counts { result ≡ taken_told_lem done.now (option_map (λ b. b.value) held.new) }
+    ensures same { option_map (λ b. b.value) held.new ≡ option_map (λ b. b.value) held.old }
 {
     match done {
         Some(Some(taken)) => counted(0, *taken),

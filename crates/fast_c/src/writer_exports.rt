@@ -48,7 +48,7 @@ pub extern "C" fn fastcat_writer_put(
 {
     let mut held = writer.take(alloc);
     let done = put_held(&mut held, nodes, bytes);
-    *waiting = put_counts(&done, &held);
+    *waiting = put_counts(&done, &mut held);
     writer.put(alloc, held);
     *answer = answer_of(put_told(nodes, &done));
     answer.status
@@ -68,7 +68,7 @@ pub extern "C" fn fastcat_writer_take(
 {
     let mut held = writer.take(alloc);
     let done = take_bytes_held(&mut held, room);
-    *taken = bytes_told(&done, &held);
+    *taken = bytes_told(&done, &mut held);
     writer.put(alloc, held);
     status_bytes(&done)
 }

@@ -2,15 +2,14 @@
 
 ghost use Rattle.std.specs.Prelude.{◌≡◌, drop, option_map};
 ghost use Rattle.fast_c.specs.Sets.{WithKept};
-ghost use Rattle.fast_c.specs.Writing.{BeginsAnew, HeldWriter, KeepsWriter, PutsAll, TakesBytes, bytes_in as bytes_in_lem, bytes_told as bytes_told_lem, identifier_at as identifier_at_lem, next_number as next_number_lem, put_counts as put_counts_lem, put_refused as put_refused_lem, put_told as put_told_lem, status_bytes as status_bytes_lem};
+ghost use Rattle.fast_c.specs.Writing.{BeginsAnew, HeldWriter, KeepsWriter, LentWriter, PutsAll, TakesBytes, bytes_in as bytes_in_lem, bytes_lent as bytes_lent_lem, bytes_told as bytes_told_lem, identifier_at as identifier_at_lem, next_number as next_number_lem, put_counts as put_counts_lem, put_refused as put_refused_lem, put_told as put_told_lem, status_bytes as status_bytes_lem};
 
 use crate::counts::NodeCounts;
-use fast_dictionary::SlotEntries;
 use fast_encoder::EncodeCause;
-use fast_kept::{Handle, Kept, set_in};
+use fast_kept::{Handle, Kept, Lent, Loan, Wanted, set_in};
 use fast_slices::{Counts, Refusal, no_counts};
 use fast_tape::TapeNode;
-use fast_untape::{Put, PutFault, TapeWriter};
+use fast_untape::{Put, PutFault};
 use std::alloc::Global;
 
 /// What is behind a handle, while a call has it.
@@ -28,16 +27,48 @@ pub(crate) fn keep_writer(
     let Some(set) = set_in(held) else {
         return Err(Refusal::Handle);
     };
-    let Ok(set) = set.lasting(alloc) else {
+    let Ok(share) = set.share() else {
         return Err(Refusal::Memory);
     };
-    let Ok(entries) = SlotEntries::new(alloc, set) else {
+    let Ok(made) = Loan::new(alloc, share, &Wanted::Writer) else {
         return Err(Refusal::Memory);
     };
-    let made = TapeWriter::new(alloc, set, entries);
-    match writer.keep(alloc, Kept::Writer(made)) {
+    match writer.keep(alloc, Kept::Lent(made)) {
         Ok(()) => Ok(no_counts()),
         Err(_) => Err(Refusal::Memory),
+    }
+}
+
+/// Puts the messages that nodes are into a writer; none where there is none.
+fn put_lent(lent: &mut Option<Lent<'_>>, nodes: &[TapeNode], bytes: &[u8]) -> Option<Put>
+    ensures { LentWriter (PutsAll nodes.now bytes.now) (Unit {0}) lent.old lent.new result }
+{
+    match lent {
+        Some(Lent::Writer(writer)) => Some(writer.put_all(nodes, bytes)),
+        Some(Lent::Reader(_)) | None => None,
+    }
+}
+
+/// Puts the bytes that wait into a room, likewise.
+fn take_bytes_lent(lent: &mut Option<Lent<'_>>, room: &mut [u8]) -> Option<Option<usize>>
+    ensures { LentWriter (TakesBytes room.old room.new) (room.new ≡ room.old) lent.old lent.new result }
+{
+    match lent {
+        Some(Lent::Writer(writer)) => Some(writer.take(room)),
+        Some(Lent::Reader(_)) | None => None,
+    }
+}
+
+/// Begins a new stream, likewise.
+fn begin_anew_lent(lent: &mut Option<Lent<'_>>) -> Option<()>
+    ensures { LentWriter BeginsAnew (Unit {0}) lent.old lent.new result }
+{
+    match lent {
+        Some(Lent::Writer(writer)) => {
+            writer.reset();
+            Some(())
+        }
+        Some(Lent::Reader(_)) | None => None,
     }
 }
 
@@ -48,8 +79,12 @@ pub(crate) fn put_held(held: &mut Held, nodes: &[TapeNode], bytes: &[u8]) -> Opt
 {
     match held {
         Some(kept) => match &mut **kept {
-            Kept::Writer(writer) => Some(writer.put_all(nodes, bytes)),
-            Kept::Set(_) | Kept::Reader(_) => None,
+            Kept::Lent(loan) => loan.with(
+                &mut [],
+                &mut [],
+                |lent, _, _| put_lent(lent, nodes, bytes),
+            ),
+            Kept::Set(_) => None,
         },
         None => None,
     }
@@ -62,8 +97,12 @@ pub(crate) fn take_bytes_held(held: &mut Held, room: &mut [u8]) -> Option<Option
 {
     match held {
         Some(kept) => match &mut **kept {
-            Kept::Writer(writer) => Some(writer.take(room)),
-            Kept::Set(_) | Kept::Reader(_) => None,
+            Kept::Lent(loan) => loan.with(
+                &mut [],
+                room,
+                |lent, _, room| take_bytes_lent(lent, room),
+            ),
+            Kept::Set(_) => None,
         },
         None => None,
     }
@@ -76,11 +115,8 @@ pub(crate) fn begin_anew_held(held: &mut Held) -> Option<()>
 {
     match held {
         Some(kept) => match &mut **kept {
-            Kept::Writer(writer) => {
-                writer.reset();
-                Some(())
-            }
-            Kept::Set(_) | Kept::Reader(_) => None,
+            Kept::Lent(loan) => loan.with(&mut [], &mut [], |lent, _, _| begin_anew_lent(lent)),
+            Kept::Set(_) => None,
         },
         None => None,
     }
@@ -152,22 +188,35 @@ fn counts(used: usize, messages: usize, bytes: usize) -> NodeCounts
     }
 }
 
+/// How many bytes wait in a writer; 0 where there is none.
+fn bytes_lent(lent: &mut Option<Lent<'_>>) -> usize
+    ensures count { result ≡ bytes_lent_lem lent.old }
+    ensures same { lent.new ≡ lent.old }
+{
+    match lent {
+        Some(Lent::Writer(writer)) => writer.waiting(),
+        Some(Lent::Reader(_)) | None => 0,
+    }
+}
+
 /// How many bytes wait in the writer that is held; 0 where there is none.
-fn bytes_in(held: &Held) -> usize
-    ensures { result ≡ bytes_in_lem (option_map (λ b. b.value) held.now) }
+fn bytes_in(held: &mut Held) -> usize
+    ensures count { result ≡ bytes_in_lem (option_map (λ b. b.value) held.new) }
+    ensures same { option_map (λ b. b.value) held.new ≡ option_map (λ b. b.value) held.old }
 {
     match held {
-        Some(kept) => match &**kept {
-            Kept::Writer(writer) => writer.waiting(),
-            Kept::Set(_) | Kept::Reader(_) => 0,
+        Some(kept) => match &mut **kept {
+            Kept::Lent(loan) => loan.with(&mut [], &mut [], |lent, _, _| bytes_lent(lent)),
+            Kept::Set(_) => 0,
         },
         None => 0,
     }
 }
 
 /// What was put, and what waits.
-pub(crate) fn put_counts(done: &Option<Put>, held: &Held) -> NodeCounts
-    ensures { result ≡ put_counts_lem done.now (option_map (λ b. b.value) held.now) }
+pub(crate) fn put_counts(done: &Option<Put>, held: &mut Held) -> NodeCounts
+    ensures counts { result ≡ put_counts_lem done.now (option_map (λ b. b.value) held.new) }
+    ensures same { option_map (λ b. b.value) held.new ≡ option_map (λ b. b.value) held.old }
 {
     match done {
         Some(put) => counts(put.nodes, put.messages, bytes_in(held)),
@@ -176,8 +225,9 @@ pub(crate) fn put_counts(done: &Option<Put>, held: &Held) -> NodeCounts
 }
 
 /// The bytes that were taken, or that wait where the room is too short.
-pub(crate) fn bytes_told(done: &Option<Option<usize>>, held: &Held) -> NodeCounts
-    ensures { result ≡ bytes_told_lem done.now (option_map (λ b. b.value) held.now) }
+pub(crate) fn bytes_told(done: &Option<Option<usize>>, held: &mut Held) -> NodeCounts
+    ensures counts { result ≡ bytes_told_lem done.now (option_map (λ b. b.value) held.new) }
+    ensures same { option_map (λ b. b.value) held.new ≡ option_map (λ b. b.value) held.old }
 {
     match done {
         Some(Some(count)) => counts(0, 0, *count),

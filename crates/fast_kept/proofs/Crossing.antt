@@ -37,7 +37,10 @@ use Rattle.fast_writer.proofs.segment.Segment.TheSendSync as segment
 use Rattle.fast_nodes.proofs.journal.Journal.TheSendSync as journal
 use Rattle.fast_encoder.specs.contracts.encoder.Encoder as Encoder
 use Rattle.fast_untape.specs.contracts.writer.TapeWriter as TapeWriter
-use Rattle.fast_kept.specs.contracts.kept.Kept as Kept
+use base.Fml.{Lft}
+use Rattle.fast_kept.specs.Lending.{room_row}
+use Rattle.fast_kept.specs.contracts.lent.Lent as Lent
+use Rattle.fast_kept.specs.contracts.shared.SharedSet as Shared
 
 -- what an instruction is made of
 ruleset parts = (name.the_send, name.the_sync, presence.the_send, presence.the_sync, part.the_send, part.the_sync, part.the_field_send, part.the_field_sync)
@@ -90,5 +93,13 @@ encoder_send κ E e entries = search (sendable, crosses, set_sync, parts, journa
 writer_send : (κ : NamedLft) (E : RattleType) (e : EntriesGhosts E.Denot) → IsSend E → IsSend (TapeWriter.the_field κ E e).row
 writer_send κ E e entries = struct_send (shape (TapeWriter.the_type κ E e)) (search (sendable, crosses), (search (sendable, set_sync), (encoder_send κ E e entries, (search (sendable, crosses), tt))))
 
-pub kept_send : IsSend Kept.the_row
-kept_send = search (sendable, crosses, set_send, set_sync, reader_send, writer_send, slots_send) depth 20 fits 20000
+-- ---- what is lent, and what is kept
+
+lent_send : (κ : NamedLft) → IsSend (Lent.the_row κ)
+lent_send κ = search (sendable, crosses, reader_send, writer_send, slots_send) depth 20 fits 20000
+
+pub room_send : (κ : Lft) → IsSend (room_row κ)
+room_send κ = search (sendable, crosses, option.the_send, lent_send) depth 20
+
+pub shared_send : IsSend Shared.the_row
+shared_send = search (sendable, crosses, set_send, set_sync) depth 20

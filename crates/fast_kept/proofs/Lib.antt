@@ -1,2 +1,4 @@
 pub mod Crossing
+pub mod KeptCrossing
+pub mod Leases
 pub mod Values

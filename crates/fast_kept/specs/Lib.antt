@@ -1,2 +1,5 @@
 pub mod Keeping
+pub mod Leasing
+pub mod Lending
+pub mod Returning
 pub mod Sets

@@ -3,23 +3,14 @@
 ghost use Rattle.std.specs.Prelude.{◌≡◌, option_map};
 ghost use Rattle.fast_kept.specs.Sets.{set_of};
 
+use crate::loan::Loan;
 use crate::shared::SharedSet;
-use fast_dictionary::SlotEntries;
-use fast_tape::TapeReader;
-use fast_untape::TapeWriter;
-
-/// Reads messages as nodes, with a set that lasts.
-pub type Reader = TapeReader<'static, SlotEntries<'static>>;
-
-/// Writes messages that come as nodes, with a set that lasts.
-pub type Writer = TapeWriter<'static, SlotEntries<'static>>;
 
 /// What is behind a handle.
 #[derive(Drop)]
 pub enum Kept {
     Set(SharedSet),
-    Reader(TapeReader<'static, SlotEntries<'static>>),
-    Writer(TapeWriter<'static, SlotEntries<'static>>),
+    Lent(Loan),
 }
 
 /// The set that is kept; none where nothing is, or something else.
@@ -29,7 +20,7 @@ pub fn set_in(kept: &Option<Box<Kept>>) -> Option<&SharedSet>
     match kept {
         Some(kept) => match &**kept {
             Kept::Set(set) => Some(set),
-            Kept::Reader(_) | Kept::Writer(_) => None,
+            Kept::Lent(_) => None,
         },
         None => None,
     }

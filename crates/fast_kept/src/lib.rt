@@ -3,9 +3,14 @@
 
 mod handle;
 mod kept;
+mod lease;
+mod lent;
+mod loan;
 mod parts;
 mod shared;
 
 pub use handle::Handle;
-pub use kept::{Kept, Reader, Writer, set_in};
+pub use kept::{Kept, set_in};
+pub use lent::{Lent, Wanted};
+pub use loan::Loan;
 pub use shared::SharedSet;

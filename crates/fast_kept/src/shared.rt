@@ -55,17 +55,4 @@ impl SharedSet {
         let set = self.set.clone()?;
         Ok(SharedSet { set })
     }
-
-    /// The set for as long as the process lasts: a share of it is never given back.
-    ///
-    /// # Errors
-    ///
-    /// Where memory is refused, or there are too many shares already to be counted.
-    pub fn lasting(&self, alloc: Global) -> Result<&'static TemplateSet, AllocError>
-        ensures { IfOk result (λ set. set.now ≡ self.now) }
-    {
-        let share = self.set.clone()?;
-        let share: &'static Arc<TemplateSet> = Box::leak(Box::new(alloc, share)?);
-        Ok(share.as_ref())
-    }
 }

@@ -13,7 +13,7 @@ use Rattle.std_heap.proofs.Global.TheSendSync.{the_field_send as heap_send}
 use Rattle.std_heap.specs.contracts.Global as Heap
 use Rattle.fast_kept.specs.Keeping.{kept_owns}
 use Rattle.fast_kept.specs.contracts.kept.Kept as Kept
-use Rattle.fast_kept.proofs.Crossing.{kept_send}
+use Rattle.fast_kept.proofs.KeptCrossing.{kept_send}
 use Rattle.fast_kept.specs.contracts.handle.Handle.{the_row, the_type}
 
 owned : (a : Heap.the_row.Denot) (p : Ptr) (n : ℕ) (x : Option Kept.the_row.Denot) → Keyless (kept_owns a p n x)
