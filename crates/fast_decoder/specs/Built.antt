@@ -3,8 +3,8 @@ use Rattle.std.specs.Prelude.{◌≡◌, List, [], map}
 use Rattle.std.specs.Global.{Vec}
 use Rattle.fast_stream.specs.declared.message.Message.{Message}
 use Rattle.fast_stream.specs.declared.message.Node.{Node}
-use Rattle.fast_messages.specs.declared.builder.Outer.{Outer}
-use Rattle.fast_messages.specs.declared.builder.Builder.{Builder}
+use Rattle.fast_decoder.specs.declared.builder.Outer.{Outer}
+use Rattle.fast_decoder.specs.declared.builder.Builder.{Builder}
 use Rattle.fast_stream.specs.Nodes.{Item, Items, items_of, item_of, content_of}
 use Rattle.fast_walk.specs.OpenSegments.{Inside, in_group, in_sequence, Waiting, Next, at_instruction, at_mantissa, at_element}
 use Rattle.fast_walk.specs.Received.{Received}

@@ -1,9 +1,9 @@
 use Rattle.std.proofs.Common.{List, [], ◌∷◌, ◌++◌, ap, ◌∙◌}
 use Rattle.std.proofs.lemmas.List.{map_push}
 use Rattle.fast_stream.specs.Nodes.{Item, Items, item_of, sequence_elements, elements_of}
-use Rattle.fast_messages.specs.Built.{elements_built}
+use Rattle.fast_decoder.specs.Built.{elements_built}
 use Rattle.fast_walk.proofs.Views.{item_of-sequence}
-use Rattle.fast_messages.proofs.builder.BuilderReceiver.end_sequence.Goals as goal
+use Rattle.fast_decoder.proofs.builder.BuilderReceiver.end_sequence.Goals as goal
 
 pub returns-clause-has : goal.returns-clause-has
 returns-clause-has c = λ o d s next none has.

@@ -54,7 +54,7 @@ impl Builder {
     ghost use Rattle.std.specs.FinMap as finite;
     ghost use Rattle.fast_template.specs.Resolved.{Resolved};
     ghost use Rattle.fast_stream.specs.Nodes.{Content};
-    ghost use Rattle.fast_messages.specs.Built.{with_whole};
+    ghost use Rattle.fast_decoder.specs.Built.{with_whole};
 
     /// With no message. Takes no memory.
     pub fn new(alloc: Global) -> Builder
@@ -108,7 +108,7 @@ impl Builder {
 
 impl Receiver for Builder {
     ghost use Rattle.fast_stream.specs.Nodes.{content_of};
-    ghost use Rattle.fast_messages.specs.Built.{IsBuilt};
+    ghost use Rattle.fast_decoder.specs.Built.{IsBuilt};
 
     ghost has = { λ b o d. IsBuilt b o };
 
