@@ -30,7 +30,7 @@ impl Line {
     ghost use Rattle.std.specs.Option.{option_copied};
     ghost use Rattle.fast_gaps.specs.Filled.{left_of};
     ghost use Rattle.fast_show.specs.Told.{Appends, PutsIn, Says, line_now, written_of};
-    ghost use Rattle.fast_lines.specs.Lines.{decimal_text, scalar_text};
+    ghost use Rattle.fast_lines.specs.Lines.{decimal_text, said_text, scalar_text};
     ghost use Rattle.std.specs.List.{flat_map};
     ghost use Rattle.fast_lines.specs.Signs.{ending, head_text, is_led, label_text, lead, quoted, unit_text};
     ghost use Rattle.fast_lines.specs.declared.form.Form.{Form};
@@ -78,6 +78,7 @@ impl Line {
     }
 
     /// Begins a line with what stands in front of the fields of a message of a template.
+    #[tactic(auto, using(fast_gaps::proofs::Filled::filled_behind))]
     #[inline(always)]
     pub(crate) fn begin<S: Signs>(
         &mut self,
@@ -170,13 +171,53 @@ impl Line {
         }
     }
 
+    // Appends a short label, behind what stands between two where it is due, if there is room; answers whether it did.
+    #[tactic(auto, using(fast_gaps::proofs::Filled::filled_behind))]
+    #[inline(always)]
+    fn put_label<S: Signs>(&mut self, signs: S, name: &Name) -> bool
+        ensures done { result ≡ true → PutsIn S.form (lead S.form self.old.led ++ label_text S.form name.now) true self.old self.new }
+        ensures left { result ≡ false → line_now S.form self.new ≡ line_now S.form self.old }
+    {
+        if !self.text.put_label(signs, self.led, name.as_str()) {
+            return false;
+        }
+        self.led = true;
+        true
+    }
+
+    // The same with a short value, or what stands for none.
+    #[tactic(auto, using(fast_gaps::proofs::Filled::filled_behind))]
+    #[inline(always)]
+    fn put_field<S: Signs>(&mut self, signs: S, name: &Name, value: Option<&Scalar>) -> bool
+        ensures done { result ≡ true → PutsIn S.form ((lead S.form self.old.led ++ label_text S.form name.now)
+            ++ said_text S.form (option_copied value.entry)) true self.old self.new }
+        ensures left { result ≡ false → line_now S.form self.new ≡ line_now S.form self.old }
+    {
+        if !self.text.put_field(signs, self.led, name.as_str(), value) {
+            return false;
+        }
+        self.led = true;
+        true
+    }
+
+    // Appends a string of few bytes without its quotes.
+    #[tactic(auto, using(fast_gaps::proofs::Filled::filled_behind))]
+    #[inline(always)]
+    fn put_few<S: Signs>(&mut self, signs: S, text: &[u8]) -> Result<(), AllocError>
+        requires { length text.now ≤ 10 }
+        ensures text { OnOk result (Appends S.form self.old (flat_map (unit_text S.form) text.now) self.new) }
+        ensures led { self.new.led ≡ self.old.led }
+    {
+        self.text.put_units(signs, text)?;
+        Ok(())
+    }
+
     /// Appends what stands in front of a value, behind what stands between two where it is due.
     #[inline(always)]
     pub(crate) fn label<S: Signs>(&mut self, signs: S, name: &Name) -> Result<(), AllocError>
         ensures { OnOk result (PutsIn S.form (lead S.form self.old.led ++ label_text S.form name.now) true self.old self.new) }
     {
-        if self.text.put_label(signs, self.led, name.as_str()) {
-            self.led = true;
+        if self.put_label(signs, name) {
             return Ok(());
         }
         self.label_long(signs, name)
@@ -209,8 +250,7 @@ impl Line {
     ) -> Result<(), AllocError>
         ensures { OnOk result (Says S.form name.now (option_copied value.entry) self.old self.new) }
     {
-        if self.text.put_field(signs, self.led, name.as_str(), value) {
-            self.led = true;
+        if self.put_field(signs, name, value) {
             return Ok(());
         }
         self.tell_long(signs, name, part, value)
@@ -292,10 +332,10 @@ impl Line {
     {
         let mut at = 0;
         while text.len() - at >= UNITS {
-            self.text.put_units(signs, &text[at..at + UNITS])?;
+            self.put_few(signs, &text[at..at + UNITS])?;
             at += UNITS;
         }
-        self.text.put_units(signs, &text[at..])?;
+        self.put_few(signs, &text[at..])?;
         Ok(())
     }
 
@@ -309,6 +349,7 @@ impl Line {
     }
 
     /// Appends a decimal, behind its label.
+    #[tactic(auto, using(fast_gaps::proofs::Filled::filled_behind))]
     #[inline(always)]
     pub(crate) fn push_decimal(&mut self, mantissa: i64, exponent: i32) -> Result<(), AllocError>
         ensures text { OnOk result ((form : Form) → Appends form self.old (decimal_text mantissa exponent) self.new) }

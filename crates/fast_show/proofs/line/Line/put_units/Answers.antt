@@ -5,13 +5,13 @@ pub loop-at-preserved : goal.loop-at-preserved
 loop-at-preserved g c =
     let form = g.S.Escape.form in (
       omega (arith, c.loop-at-test.true, c.loop-at.invariant.0),
-      c.put_piece.ensures.led ∙ c.loop-at.invariant.1,
+      c.put_few.ensures.led ∙ c.loop-at.invariant.1,
       rw (flat_map_piece (unit_text form) c.args.text.now c.loop-at.at 10 c.loop-at.invariant.0)
-          (appended_more _ _ _ _ _ c.loop-at.invariant.2 (rw (c.lay_units-start.ensures.laid) at (c.in_ok-put_piece.ensures.text form))),
+          (appended_more _ _ _ _ _ c.loop-at.invariant.2 c.in_ok-put_few.ensures.text),
     )
 
 pub returns-clause-text : goal.returns-clause-text
 returns-clause-text g c =
     let form = g.S.Escape.form in
     rw (flat_map_rest (unit_text form) c.args.text.now c.loop-at.at)
-    (appended_more _ _ _ _ _ c.loop-at.invariant.2 (rw (c.lay_units-start-2.ensures.laid) at (c.in_ok-put_piece-2.ensures.text form)))
+    (appended_more _ _ _ _ _ c.loop-at.invariant.2 c.in_ok-put_few-2.ensures.text)
