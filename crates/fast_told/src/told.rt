@@ -4,6 +4,7 @@ ghost use Rattle.std.specs.Prelude.{◌≡◌, ◌≢◌, ◌≤◌, true, false
 ghost use Rattle.fast_value.specs.declared.scalar.Scalar.{Scalar as ScalarOf};
 ghost use Rattle.fast_dictionary.specs.Dictionary.{entry_at};
 ghost use Rattle.fast_field.specs.FieldReading.{field_at};
+ghost use Rattle.fast_field.specs.Parts.{IsBitOf};
 ghost use Rattle.fast_stream.specs.Nodes.{single};
 ghost use Rattle.fast_walk.specs.Received.{Took};
 ghost use Rattle.fast_walk.specs.Told.{IsTold, KeepScalars};
@@ -17,20 +18,19 @@ use crate::line::Line;
 use fast_dictionary::{Entries, Entry};
 use fast_field::FieldFault;
 use fast_lines::Signs;
-use fast_take::{Aside, Room, take};
-use fast_template::{FieldPart, Name, Presence};
+use fast_take::{Aside, Room, take_left_out, take_sent};
+use fast_template::{FieldPart, Name, Part, Presence};
 use fast_wire::Level;
 use std::alloc::Global;
 
-// Takes a field's value under a bit that is known here, and tells it from where it lies.
+// Takes what was sent of a field, and tells its value from where it lies.
 #[inline(always)]
-fn take_under<S: Signs>(
+fn tell_sent<S: Signs>(
     signs: S,
     alloc: Global,
     name: &Name,
     part: &FieldPart,
     entry: &mut Entry,
-    bit: bool,
     level: Level,
     bytes: &[u8],
     at: usize,
@@ -39,11 +39,35 @@ fn take_under<S: Signs>(
     room: &mut Room,
 ) -> Result<usize, FieldFault>
     requires next { CanTake part.now entry.old bytes.now at }
-    requires bit { part_needs_bit part.now ≡ false → bit ≡ true }
-    ensures { TellsNext S.form level name.now part.now bit bytes.now at result entry.old entry.new line.old line.new }
+    ensures { TellsNext S.form level name.now part.now true bytes.now at result entry.old entry.new line.old line.new }
 {
-    let took = take(alloc, part, entry, bit, level, bytes, at, aside)?;
-    let value = aside.value(alloc, took, part, entry, bit, bytes, room)?;
+    let took = take_sent(alloc, part, entry, level, bytes, at, aside)?;
+    let value = aside.value(alloc, took, part, entry, true, bytes, room)?;
+    line.tell(signs, name, part, value)?;
+    Ok(took.place())
+}
+
+// Takes what bit 0 gives a field, and tells its value from where it lies.
+#[inline(always)]
+fn tell_left_out<S: Signs>(
+    signs: S,
+    alloc: Global,
+    name: &Name,
+    part: &FieldPart,
+    entry: &mut Entry,
+    level: Level,
+    bytes: &[u8],
+    at: usize,
+    line: &mut Line,
+    aside: &Aside,
+) -> Result<usize, FieldFault>
+    requires next { CanTake part.now entry.old bytes.now at }
+    requires bit { IsBitOf part.now false }
+    requires whole { part.now.part ≡ Whole }
+    ensures { TellsNext S.form level name.now part.now false bytes.now at result entry.old entry.new line.old line.new }
+{
+    let took = take_left_out(Part::Whole, alloc, part, entry, level, bytes, at, aside)?;
+    let value = aside.value_left_out(took, part, entry);
     line.tell(signs, name, part, value)?;
     Ok(took.place())
 }
@@ -65,16 +89,17 @@ fn take_and_tell<S: Signs>(
     room: &mut Room,
 ) -> Result<usize, FieldFault>
     requires next { CanTake part.now entry.old bytes.now at }
-    requires bit { part_needs_bit part.now ≡ false → bit ≡ true }
+    requires bit { IsBitOf part.now bit }
+    requires whole { part.now.part ≡ Whole }
     ensures { TellsNext S.form level name.now part.now bit bytes.now at result entry.old entry.new line.old line.new }
 {
     if bit {
-        take_under(
-            signs, alloc, name, part, entry, true, level, bytes, at, line, aside, room,
+        tell_sent(
+            signs, alloc, name, part, entry, level, bytes, at, line, aside, room,
         )
     } else {
-        take_under(
-            signs, alloc, name, part, entry, false, level, bytes, at, line, aside, room,
+        tell_left_out(
+            signs, alloc, name, part, entry, level, bytes, at, line, aside,
         )
     }
 }
