@@ -1,6 +1,6 @@
 //! What tests make fields of.
 
-ghost use Rattle.std.specs.Prelude.{◌≡◌, ◌×◌, true};
+ghost use Rattle.std.specs.Prelude.{◌≡◌, true};
 ghost use Rattle.fast_field.specs.Parts.{IsFieldPart};
 ghost use Rattle.fast_field.specs.Within.{HoldsScalar};
 
