@@ -1,13 +1,12 @@
 //! What tests make fields of.
 
-ghost use Rattle.std.specs.Prelude.{◌≡◌, IfOk, IsTrue};
-ghost use Rattle.fast_template.specs.TemplateSets.{applies};
-ghost use Rattle.fast_value.specs.declared.kind.Operator.TheVariants as op;
-ghost use Rattle.fast_value.specs.declared.scalar.Scalar.TheVariants as scalar;
-ghost use Rattle.fast_value.specs.declared.kind.Presence.TheVariants.{Optional};
+ghost use Rattle.std.specs.Prelude.{◌≡◌, true};
 ghost use Rattle.fast_field.specs.Parts.{IsFieldPart};
+ghost use Rattle.fast_field.specs.Within.{HoldsScalar};
 
+use crate::judged::holds_scalar;
 use crate::same::same;
+use crate::ways::is_part;
 use fast_dictionary::Entry;
 use fast_template::{
     ByteString, FieldPart, Initial, Key, Kind, Name, Operator, Part, Presence, Scalar, Scope,
@@ -24,13 +23,10 @@ pub(crate) fn part_of(
     kind: Kind,
     presence: Presence,
     operator: Operator,
-    initial: Option<Scalar>,
-) -> Tried<FieldPart>
-    ensures { IfOk result (λ i. (i.part ≡ part) × (i.kind ≡ kind) × (i.presence ≡ presence)
-        × (i.operator ≡ operator) × (i.initial ≡ initial)) }
-{
+    initial: Option<Value>,
+) -> Tried<FieldPart> {
     let initial = match initial {
-        Some(value) => Some(Initial::of(alloc, value)?),
+        Some(value) => Some(Initial::of(alloc, value.scalar(alloc)?)?),
         None => None,
     };
     Ok(FieldPart {
@@ -49,33 +45,14 @@ pub(crate) fn part_of(
     })
 }
 
-pub(crate) fn field(
-    alloc: Global,
-    kind: Kind,
-    presence: Presence,
-    operator: Operator,
-) -> Tried<FieldPart>
-    requires applies { IsTrue (applies operator kind) }
-    requires constant { operator ≡ op.Constant → ⊥ }
-    requires default { operator ≡ op.Default → presence ≡ Optional }
-    ensures { IfOk result IsFieldPart }
+// Whether this is the instruction of a field, and a value that an entry may have. A test ends where it is not.
+pub(crate) fn are_such(rt: &impl Abort, instr: &FieldPart, entry: &Entry) -> bool
+    ensures part { result ≡ true → IsFieldPart instr.now }
+    ensures entry { result ≡ true → HoldsScalar entry.now }
 {
-    part_of(alloc, Part::Whole, kind, presence, operator, None)
-}
-
-pub(crate) fn ascii(alloc: Global, text: &[u8]) -> Tried<Scalar>
-    ensures { IfOk result (λ v. v ≡ scalar.Ascii text.now) }
-{
-    Ok(Scalar::Ascii(ByteString::from_vec(text.to_vec(alloc)?)))
-}
-
-fn unicode(alloc: Global, text: &str) -> Tried<Scalar> {
-    let text = String::from_str(alloc, text)?;
-    Ok(Scalar::Unicode(UnicodeText::from_string(text)))
-}
-
-fn vector(alloc: Global, bytes: &[u8]) -> Tried<Scalar> {
-    Ok(Scalar::Bytes(ByteString::from_vec(bytes.to_vec(alloc)?)))
+    let are = is_part(instr.part, instr) && holds_scalar(entry);
+    same(rt, are, true);
+    are
 }
 
 fn letters(alloc: Global, count: usize) -> Tried<Scalar> {
@@ -102,49 +79,52 @@ pub(crate) enum Shape {
     Optional(Kind, Operator),
     // A uInt32 with an initial value.
     Initial(Presence, Operator, u32),
+    // An optional ASCII tail with an initial value.
+    Tail(&'static [u8]),
     // A mandatory length.
     Length(Operator),
-    // An exponent, which may have an initial value.
+    // An exponent, which may have an initial value, and a mantissa.
     Exponent(Presence, Operator, Option<i32>),
+    Mantissa(Operator),
 }
 
 impl Shape {
     pub(crate) fn instr(self, alloc: Global) -> Tried<FieldPart> {
-        let mandatory = Presence::Mandatory;
-        match self {
-            Shape::Mandatory(kind, operator) => {
-                part_of(alloc, Part::Whole, kind, mandatory, operator, None)
-            }
-            Shape::Optional(kind, operator) => {
-                let presence = Presence::Optional;
-                part_of(alloc, Part::Whole, kind, presence, operator, None)
-            }
+        let (whole, mandatory, optional) = (Part::Whole, Presence::Mandatory, Presence::Optional);
+        let (part, kind, presence, operator, initial) = match self {
+            Shape::Mandatory(kind, operator) => (whole, kind, mandatory, operator, None),
+            Shape::Optional(kind, operator) => (whole, kind, optional, operator, None),
             Shape::Initial(presence, operator, number) => {
-                let initial = Some(Scalar::U32(number));
-                part_of(
-                    alloc,
-                    Part::Whole,
+                (
+                    whole,
                     Kind::UInt32,
                     presence,
                     operator,
-                    initial,
+                    Some(Value::U32(number)),
                 )
             }
-            Shape::Length(operator) => {
-                part_of(alloc, Part::Length, Kind::UInt32, mandatory, operator, None)
+            Shape::Tail(text) => {
+                (
+                    whole,
+                    Kind::Ascii,
+                    optional,
+                    Operator::Tail,
+                    Some(Value::Ascii(text)),
+                )
             }
+            Shape::Length(operator) => (Part::Length, Kind::UInt32, mandatory, operator, None),
             Shape::Exponent(presence, operator, initial) => {
-                let initial = initial.map(Scalar::I32);
-                part_of(
-                    alloc,
+                (
                     Part::Exponent,
                     Kind::Int32,
                     presence,
                     operator,
-                    initial,
+                    initial.map(Value::I32),
                 )
             }
-        }
+            Shape::Mantissa(operator) => (Part::Mantissa, Kind::Int64, mandatory, operator, None),
+        };
+        part_of(alloc, part, kind, presence, operator, initial)
     }
 }
 
@@ -172,12 +152,22 @@ impl Value {
             Value::U64(number) => Ok(Scalar::U64(number)),
             Value::I64(number) => Ok(Scalar::I64(number)),
             Value::Decimal(exponent, mantissa) => Ok(Scalar::Decimal { exponent, mantissa }),
-            Value::Ascii(text) => ascii(alloc, text),
-            Value::Unicode(text) => unicode(alloc, text),
-            Value::Bytes(bytes) => vector(alloc, bytes),
+            Value::Ascii(text) => Ok(Scalar::Ascii(ByteString::from_vec(text.to_vec(alloc)?))),
+            Value::Unicode(text) => {
+                let text = String::from_str(alloc, text)?;
+                Ok(Scalar::Unicode(UnicodeText::from_string(text)))
+            }
+            Value::Bytes(bytes) => Ok(Scalar::Bytes(ByteString::from_vec(bytes.to_vec(alloc)?))),
             Value::Letters(count) => letters(alloc, count),
             Value::Wide(count) => wide(alloc, count),
         }
+    }
+}
+
+pub(crate) fn scalar_of(alloc: Global, value: Option<Value>) -> Tried<Option<Scalar>> {
+    match value {
+        None => Ok(None),
+        Some(value) => Ok(Some(value.scalar(alloc)?)),
     }
 }
 

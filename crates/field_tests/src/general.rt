@@ -1,30 +1,21 @@
 //! Fields that go the general way: what is read of their bytes, and the best form that is written of it.
 
-ghost use Rattle.std.specs.Prelude.{◌≡◌, None};
-
 use crate::fields::Kept::{Assigned, Empty, Undefined};
+use crate::fields::Shape::{Mandatory, Optional};
 use crate::fields::Value::{Ascii, Bytes, Decimal, U32, U64, Unicode};
-use crate::fields::{Kept, is_kept, part_of};
-use crate::judged::{holds_scalar, is_field_part};
+use crate::fields::{Kept, Shape, are_such, is_kept};
 use crate::same::same;
-use fast_dictionary::Entry;
 use fast_field::{FieldFault, FieldRefusal, Level, find_field, write_found};
-use fast_template::Presence::{Mandatory, Optional};
-use fast_template::{FieldPart, Kind, Operator, Part, Presence};
+use fast_template::Kind::{UInt32, UInt64};
+use fast_template::Operator::{Copy, Delta, Increment, Tail};
+use fast_template::{FieldPart, Kind, Operator};
 use std::alloc::{AllocError, Global};
 use std::process::Abort;
 use test_rows::{Tried, rows};
 
-// Bytes that stand for a field under bit 1, to their end; the bit and the bytes of the best form, and the entry afterwards.
-struct Row {
-    kind: Kind,
-    presence: Presence,
-    operator: Operator,
-    before: Kept,
-    bytes: &'static [u8],
-    best: (bool, &'static [u8]),
-    after: Kept,
-}
+// A field, its entry, bytes that stand for it under bit 1, to their end, the bit and the bytes of the best form, and the entry
+// afterwards.
+struct Row(Shape, Kept, &'static [u8], (bool, &'static [u8]), Kept);
 
 // What the general way answers; a fault that is none of memory ends the test.
 fn none<T>(rt: &impl Abort, is_memory: bool) -> Tried<T> {
@@ -33,52 +24,36 @@ fn none<T>(rt: &impl Abort, is_memory: bool) -> Tried<T> {
 }
 
 // Want of memory leaves the entry and the output as they were, and ends the test.
-fn is_written(
-    rt: &impl Abort,
-    alloc: Global,
-    instr: &FieldPart,
-    entry: &mut Entry,
-    row: &Row,
-) -> Tried
-    requires { instr.now.initial ≡ None }
-{
+fn is_written(rt: &impl Abort, alloc: Global, instr: &FieldPart, row: &Row) -> Tried {
+    let mut entry = row.1.entry(alloc)?;
     // no other is written
-    if !is_field_part(instr) || !holds_scalar(entry) {
-        same(rt, false, true);
+    if !are_such(rt, instr, &entry) {
         return Ok(());
     }
-    let found = match find_field(alloc, instr, entry.view(), true, Level::Usual, row.bytes, 0) {
+    let found = match find_field(alloc, instr, entry.view(), true, Level::Usual, row.2, 0) {
         Ok((found, next)) => {
-            same(rt, next, row.bytes.len());
+            same(rt, next, row.2.len());
             found
         }
         Err(fault) => return none(rt, fault == FieldFault::Memory),
     };
     let mut out = Vec::new(alloc);
-    match write_found(alloc, instr, entry, found, &mut out) {
+    match write_found(alloc, instr, &mut entry, found, &mut out) {
         Ok((_, bit)) => {
-            same(rt, (bit, out.as_slice()), row.best);
-            is_kept(rt, alloc, entry, row.after)
+            same(rt, (bit, out.as_slice()), row.3);
+            is_kept(rt, alloc, &entry, row.4)
         }
         Err(refusal) => {
             same(rt, out.as_slice(), &[]);
-            is_kept(rt, alloc, entry, row.before)?;
+            is_kept(rt, alloc, &entry, row.1)?;
             none(rt, refusal == FieldRefusal::Memory)
         }
     }
 }
 
 fn is_rewritten(rt: &impl Abort, alloc: Global, row: &Row) -> Tried {
-    let instr = part_of(
-        alloc,
-        Part::Whole,
-        row.kind,
-        row.presence,
-        row.operator,
-        None,
-    )?;
-    let mut entry = row.before.entry(alloc)?;
-    is_written(rt, alloc, &instr, &mut entry, row)
+    let instr = row.0.instr(alloc)?;
+    is_written(rt, alloc, &instr, row)
 }
 
 fn all_rewritten(rt: &impl Abort, alloc: Global, rows: &[Row]) -> Tried {
@@ -90,67 +65,62 @@ fn all_rewritten(rt: &impl Abort, alloc: Global, rows: &[Row]) -> Tried {
 
 #[test]
 fn fields_that_are_spelled_at_length(rt: HostRuntime) -> Tried {
-    const ROWS: &[Row] = rows! { Row { kind, presence, operator, before, bytes, best, after }:
+    const ROWS: &[Row] = rows! { Row:
         // an overlong mantissa
-        Kind::Decimal, Mandatory, Operator::Delta, Assigned(Decimal(-2, 7)), b"\x80\x00\x81", (true, b"\x80\x81"),
+        Mandatory(Kind::Decimal, Delta), Assigned(Decimal(-2, 7)), b"\x80\x00\x81", (true, b"\x80\x81"),
             Assigned(Decimal(-2, 8));
         // behind a nullable exponent
-        Kind::Decimal, Optional, Operator::Copy, Empty, b"\x82\x7f\xfe", (true, b"\x82\xfe"), Assigned(Decimal(1, -2));
+        Optional(Kind::Decimal, Copy), Empty, b"\x82\x7f\xfe", (true, b"\x82\xfe"), Assigned(Decimal(1, -2));
         // an overlong NULL
-        Kind::UInt32, Optional, Operator::Copy, Assigned(U32(7)), b"\x00\x80", (true, b"\x80"), Empty;
+        Optional(UInt32, Copy), Assigned(U32(7)), b"\x00\x80", (true, b"\x80"), Empty;
         // a preamble in front of a letter, and an empty string
-        Kind::Ascii, Mandatory, Operator::Copy, Assigned(Ascii(b"AB")), b"\x00\x43\xc4", (true, b"\x43\xc4"),
+        Mandatory(Kind::Ascii, Copy), Assigned(Ascii(b"AB")), b"\x00\x43\xc4", (true, b"\x43\xc4"),
             Assigned(Ascii(b"CD"));
-        Kind::Ascii, Optional, Operator::Copy, Assigned(Ascii(b"AB")), b"\x00\x80", (true, b"\x00\x80"),
-            Assigned(Ascii(b""));
+        Optional(Kind::Ascii, Copy), Assigned(Ascii(b"AB")), b"\x00\x80", (true, b"\x00\x80"), Assigned(Ascii(b""));
         // of another type is what the entry has
-        Kind::Bytes, Optional, Operator::Copy, Assigned(Unicode("ab")), b"\x83\x61\x63", (true, b"\x83\x61\x63"),
+        Optional(Kind::Bytes, Copy), Assigned(Unicode("ab")), b"\x83\x61\x63", (true, b"\x83\x61\x63"),
             Assigned(Bytes(b"ac"));
         // tails that are longer than need be, and that begin within a character
-        Kind::Unicode, Mandatory, Operator::Tail, Assigned(Unicode("üab")), b"\x82\x61\x63", (true, b"\x81\x63"),
+        Mandatory(Kind::Unicode, Tail), Assigned(Unicode("üab")), b"\x82\x61\x63", (true, b"\x81\x63"),
             Assigned(Unicode("üac"));
-        Kind::Unicode, Mandatory, Operator::Tail, Assigned(Unicode("xü")), b"\x81\xb6", (true, b"\x81\xb6"),
+        Mandatory(Kind::Unicode, Tail), Assigned(Unicode("xü")), b"\x81\xb6", (true, b"\x81\xb6"),
             Assigned(Unicode("xö"));
         // of what is removed the first byte is put there again
-        Kind::Unicode, Optional, Operator::Delta, Assigned(Unicode("abü")), b"\x83\x82\xc3\xb6",
-            (true, b"\x82\x81\xb6"), Assigned(Unicode("abö"));
+        Optional(Kind::Unicode, Delta), Assigned(Unicode("abü")), b"\x83\x82\xc3\xb6", (true, b"\x82\x81\xb6"),
+            Assigned(Unicode("abö"));
         // the same end: removed in front are fewer
-        Kind::Ascii, Mandatory, Operator::Delta, Assigned(Ascii(b"0012")), b"\x84\x31\x30\x31\xb2", (true, b"\xfe\xb1"),
+        Mandatory(Kind::Ascii, Delta), Assigned(Ascii(b"0012")), b"\x84\x31\x30\x31\xb2", (true, b"\xfe\xb1"),
             Assigned(Ascii(b"1012"));
-        Kind::Bytes, Mandatory, Operator::Delta, Assigned(Bytes(b"ESM6")), b"\x84\x84\x58\x53\x4d\x36",
-            (true, b"\xfe\x81\x58"), Assigned(Bytes(b"XSM6"));
+        Mandatory(Kind::Bytes, Delta), Assigned(Bytes(b"ESM6")), b"\x84\x84\x58\x53\x4d\x36", (true, b"\xfe\x81\x58"),
+            Assigned(Bytes(b"XSM6"));
         // numbers as identifiers and lengths are
-        Kind::UInt32, Mandatory, Operator::Copy, Assigned(U32(5)), b"\x01\x80", (true, b"\x01\x80"), Assigned(U32(128));
-        Kind::UInt32, Optional, Operator::Increment, Assigned(U32(5)), b"\x88", (true, b"\x88"), Assigned(U32(7));
+        Mandatory(UInt32, Copy), Assigned(U32(5)), b"\x01\x80", (true, b"\x01\x80"), Assigned(U32(128));
+        Optional(UInt32, Increment), Assigned(U32(5)), b"\x88", (true, b"\x88"), Assigned(U32(7));
         // behind needless groups
-        Kind::UInt32, Mandatory, Operator::Copy, Assigned(U32(5)), b"\x00\x00\x87", (true, b"\x87"), Assigned(U32(7));
+        Mandatory(UInt32, Copy), Assigned(U32(5)), b"\x00\x00\x87", (true, b"\x87"), Assigned(U32(7));
         // no value before, and of another type
-        Kind::UInt32, Mandatory, Operator::Copy, Undefined, b"\x87", (true, b"\x87"), Assigned(U32(7));
-        Kind::UInt64, Mandatory, Operator::Copy, Undefined, b"\x87", (true, b"\x87"), Assigned(U64(7));
+        Mandatory(UInt32, Copy), Undefined, b"\x87", (true, b"\x87"), Assigned(U32(7));
+        Mandatory(UInt64, Copy), Undefined, b"\x87", (true, b"\x87"), Assigned(U64(7));
     };
     all_rewritten(&rt, rt.alloc(), ROWS)
 }
 
 #[test]
 fn fields_that_bit_0_gives(rt: HostRuntime) -> Tried {
-    const ROWS: &[Row] = rows! { Row { kind, presence, operator, before, bytes, best, after }:
+    const ROWS: &[Row] = rows! { Row:
         // an overlong NULL
-        Kind::UInt32, Optional, Operator::Copy, Empty, b"\x00\x80", (false, b""), Empty;
-        Kind::Decimal, Mandatory, Operator::Copy, Assigned(Decimal(1, -2)), b"\x81\xfe", (false, b""),
-            Assigned(Decimal(1, -2));
-        Kind::Ascii, Mandatory, Operator::Copy, Assigned(Ascii(b"AB")), b"\x00\x41\xc2", (false, b""),
-            Assigned(Ascii(b"AB"));
-        Kind::Unicode, Mandatory, Operator::Copy, Assigned(Unicode("ü")), b"\x82\xc3\xbc", (false, b""),
-            Assigned(Unicode("ü"));
+        Optional(UInt32, Copy), Empty, b"\x00\x80", (false, b""), Empty;
+        Mandatory(Kind::Decimal, Copy), Assigned(Decimal(1, -2)), b"\x81\xfe", (false, b""), Assigned(Decimal(1, -2));
+        Mandatory(Kind::Ascii, Copy), Assigned(Ascii(b"AB")), b"\x00\x41\xc2", (false, b""), Assigned(Ascii(b"AB"));
+        Mandatory(Kind::Unicode, Copy), Assigned(Unicode("ü")), b"\x82\xc3\xbc", (false, b""), Assigned(Unicode("ü"));
         // tails that put back what was there
-        Kind::Ascii, Mandatory, Operator::Tail, Assigned(Ascii(b"xab")), b"\xe2", (false, b""), Assigned(Ascii(b"xab"));
-        Kind::Bytes, Mandatory, Operator::Tail, Assigned(Bytes(b"ab")), b"\x81\x62", (false, b""),
-            Assigned(Bytes(b"ab"));
+        Mandatory(Kind::Ascii, Tail), Assigned(Ascii(b"xab")), b"\xe2", (false, b""), Assigned(Ascii(b"xab"));
+        Mandatory(Kind::Bytes, Tail), Assigned(Bytes(b"ab")), b"\x81\x62", (false, b""), Assigned(Bytes(b"ab"));
         // numbers as identifiers and lengths are
-        Kind::UInt32, Mandatory, Operator::Copy, Assigned(U32(7)), b"\x87", (false, b""), Assigned(U32(7));
-        Kind::UInt32, Optional, Operator::Increment, Assigned(U32(6)), b"\x00\x88", (false, b""), Assigned(U32(7));
+        Mandatory(UInt32, Copy), Assigned(U32(7)), b"\x87", (false, b""), Assigned(U32(7));
+        Optional(UInt32, Increment), Assigned(U32(6)), b"\x00\x88", (false, b""), Assigned(U32(7));
         // NULL of no value before
-        Kind::UInt32, Optional, Operator::Copy, Undefined, b"\x80", (false, b""), Empty;
+        Optional(UInt32, Copy), Undefined, b"\x80", (false, b""), Empty;
     };
     all_rewritten(&rt, rt.alloc(), ROWS)
 }

@@ -1,34 +1,34 @@
 //! Rows on fields that are judged as they stand.
 
-ghost use Rattle.std.specs.Prelude.{◌≡◌, ◌≤◌, ◌<◌, None, IfOk, IsTrue, true, length};
+ghost use Rattle.std.specs.Prelude.{◌≡◌, ◌≤◌, ◌<◌, IsTrue, true, length};
 ghost use Rattle.std.specs.List.{AllByRecursion};
 ghost use Rattle.fast_value.specs.Scalar.{IsScalar};
-ghost use Rattle.fast_value.specs.declared.kind.Kind.TheVariants as kind_type;
-ghost use Rattle.fast_value.specs.declared.kind.Part.TheVariants as part_type;
 ghost use Rattle.fast_template.specs.TemplateSets.{applies};
-ghost use Rattle.fast_field.specs.Parts.{IsFieldPart, IsKindOfPart};
+ghost use Rattle.fast_field.specs.Parts.{IsKindOfPart};
 ghost use Rattle.fast_field.specs.Within.{HoldsScalar};
 
-use crate::fields::{Kept, Value, is_kept, part_of};
+use crate::fields::Kept::{Assigned, Empty, Undefined};
+use crate::fields::Shape::{Exponent, Initial, Mandatory, Mantissa, Optional};
+use crate::fields::Value::{Ascii, Bytes, Decimal, I32, I64, U32, U64, Unicode};
+use crate::fields::{Kept, Shape, are_such, is_kept};
 use crate::same::same;
 use fast_dictionary::Entry;
+use fast_relay::Judged::{Behind, BehindTwo, Given, Stands};
 use fast_relay::{Judged, judge_field};
+use fast_template::Kind::{Int32, Int64, UInt32, UInt64};
+use fast_template::Operator::{Copy, Default, Delta, Increment, Plain, Tail};
 use fast_template::{FieldPart, Kind, Operator, Part, Presence, Scalar};
 use fast_value::UNIT_LIMIT;
 use std::alloc::{AllocError, Global};
 use std::process::Abort;
+use test_rows::{Tried, rows};
 
-// What the bytes behind the first are judged to be, and the entry afterwards.
-pub(crate) struct Row {
-    pub(crate) part: Part,
-    pub(crate) kind: Kind,
-    pub(crate) presence: Presence,
-    pub(crate) operator: Operator,
-    pub(crate) before: Kept,
-    pub(crate) bytes: &'static [u8],
-    pub(crate) judged: Judged,
-    pub(crate) after: Kept,
-}
+// A field, its entry, what the bytes behind the first are judged to be, and the entry afterwards.
+#[derive(Clone, Copy)]
+struct Row(Shape, Kept, &'static [u8], Judged, Kept);
+
+// A field, its entry, and bytes behind the first that are not judged: nothing has changed.
+struct Left(Shape, Kept, &'static [u8]);
 
 // Whether there are not too many bytes.
 fn are_few(bytes: &[u8]) -> bool
@@ -92,1047 +92,305 @@ pub(crate) fn has_kind(part: Part, kind: Kind) -> bool
     }
 }
 
-// Whether a field with no initial value is one.
-pub(crate) fn is_field_part(instr: &FieldPart) -> bool
-    requires { instr.now.initial ≡ None }
-    ensures { result ≡ true → IsFieldPart instr.now }
-{
-    let needs_none = match (instr.operator, instr.presence) {
-        (Operator::Constant, _) => false,
-        (Operator::Default, Presence::Mandatory) => false,
-        _ => true,
-    };
-    needs_none && applies_to(instr.operator, instr.kind) && has_kind(instr.part, instr.kind)
-}
-
 // Want of memory leaves the entry as it was, and ends the test.
-fn is_judged_so(
-    rt: &impl Abort,
-    alloc: Global,
-    instr: &FieldPart,
-    entry: &mut Entry,
-    row: &Row,
-) -> Result<(), AllocError>
-    requires part { row.now.part ≡ instr.now.part }
-    requires initial { instr.now.initial ≡ None }
-{
-    let at = row.bytes.len().min(1);
+fn is_judged_so(rt: &impl Abort, alloc: Global, instr: &FieldPart, row: Row) -> Tried {
+    let Row(_, before, bytes, judged, after) = row;
+    let mut entry = before.entry(alloc)?;
     // no other is judged
-    if !is_field_part(instr) || !holds_scalar(entry) {
-        same(rt, false, true);
+    if !are_such(rt, instr, &entry) {
         return Ok(());
     }
-    let judged = judge_field(row.part, alloc, instr, entry, row.bytes, at);
-    if judged == Judged::Elsewhere && row.judged != Judged::Elsewhere {
-        is_kept(rt, alloc, entry, row.before)?;
+    let answer = judge_field(
+        instr.part,
+        alloc,
+        instr,
+        &mut entry,
+        bytes,
+        bytes.len().min(1),
+    );
+    if answer == Judged::Elsewhere && judged != Judged::Elsewhere {
+        is_kept(rt, alloc, &entry, before)?;
         return Err(AllocError);
     }
-    same(rt, judged, row.judged);
-    is_kept(rt, alloc, entry, row.after)
+    same(rt, answer, judged);
+    is_kept(rt, alloc, &entry, after)
 }
 
-fn is_judged(rt: &impl Abort, alloc: Global, row: &Row) -> Result<(), AllocError> {
-    let instr = part_of(alloc, row.part, row.kind, row.presence, row.operator, None)?;
-    let mut entry = row.before.entry(alloc)?;
-    is_judged_so(rt, alloc, &instr, &mut entry, row)
+fn is_judged(rt: &impl Abort, alloc: Global, row: Row) -> Tried {
+    let instr = row.0.instr(alloc)?;
+    is_judged_so(rt, alloc, &instr, row)
 }
 
-pub(crate) fn all_judged(rt: &impl Abort, alloc: Global, rows: &[Row]) -> Result<(), AllocError> {
+fn all_judged(rt: &impl Abort, alloc: Global, rows: &[Row], left: &[Left]) -> Tried {
     for row in rows {
-        is_judged(rt, alloc, row)?;
+        is_judged(rt, alloc, *row)?;
     }
-    Ok(())
-}
-
-// The same of a uInt32 with an initial value, whose entry is undefined.
-struct First {
-    presence: Presence,
-    operator: Operator,
-    initial: u32,
-    bytes: &'static [u8],
-    judged: Judged,
-    after: Kept,
-}
-
-// A uInt32 with an initial value.
-fn beginning(
-    alloc: Global,
-    presence: Presence,
-    operator: Operator,
-    initial: u32,
-) -> Result<FieldPart, AllocError>
-    requires { IsTrue (applies operator kind_type.UInt32) }
-    ensures part { IfOk result (λ i. i.part ≡ part_type.Whole) }
-    ensures field { IfOk result IsFieldPart }
-{
-    let number = Some(Scalar::U32(initial));
-    part_of(alloc, Part::Whole, Kind::UInt32, presence, operator, number)
-}
-
-fn is_first_judged(rt: &impl Abort, alloc: Global, row: &First) -> Result<(), AllocError> {
-    // no other is judged
-    if !applies_to(row.operator, Kind::UInt32) {
-        same(rt, false, true);
-        return Ok(());
-    }
-    let instr = beginning(alloc, row.presence, row.operator, row.initial)?;
-    let mut entry = Entry::Undefined;
-    let at = row.bytes.len().min(1);
-    let judged = judge_field(Part::Whole, alloc, &instr, &mut entry, row.bytes, at);
-    same(rt, judged, row.judged);
-    is_kept(rt, alloc, &entry, row.after)
-}
-
-fn all_firsts_judged(rt: &impl Abort, alloc: Global, rows: &[First]) -> Result<(), AllocError> {
-    for row in rows {
-        is_first_judged(rt, alloc, row)?;
+    for Left(of, before, bytes) in left {
+        is_judged(
+            rt,
+            alloc,
+            Row(*of, *before, *bytes, Judged::Elsewhere, *before),
+        )?;
     }
     Ok(())
 }
 
 #[test]
-fn strings_that_are_judged(rt: HostRuntime) -> Result<(), AllocError> {
-    const JUDGED: &[Row] = &[
+fn strings(rt: HostRuntime) -> Tried {
+    const JUDGED: &[Row] = rows! { Row:
         // copies stand where they differ, and bit 0 gives those that do not
-        Row {
-            part: Part::Whole,
-            kind: Kind::Ascii,
-            presence: Presence::Mandatory,
-            operator: Operator::Copy,
-            before: Kept::Assigned(Value::Ascii(b"AB")),
-            bytes: &[0, 0x43, 0xc4],
-            judged: Judged::Stands(3),
-            after: Kept::Assigned(Value::Ascii(b"CD")),
-        },
-        Row {
-            part: Part::Whole,
-            kind: Kind::Ascii,
-            presence: Presence::Optional,
-            operator: Operator::Copy,
-            before: Kept::Empty,
-            bytes: &[0, 0x43, 0xc4],
-            judged: Judged::Stands(3),
-            after: Kept::Assigned(Value::Ascii(b"CD")),
-        },
-        Row {
-            part: Part::Whole,
-            kind: Kind::Ascii,
-            presence: Presence::Mandatory,
-            operator: Operator::Copy,
-            before: Kept::Assigned(Value::Ascii(b"AB")),
-            bytes: &[0, 0x41, 0xc2],
-            judged: Judged::Given(3),
-            after: Kept::Assigned(Value::Ascii(b"AB")),
-        },
+        Mandatory(Kind::Ascii, Copy), Assigned(Ascii(b"AB")), b"\x00\x43\xc4", Stands(3), Assigned(Ascii(b"CD"));
+        Optional(Kind::Ascii, Copy), Empty, b"\x00\x43\xc4", Stands(3), Assigned(Ascii(b"CD"));
+        Mandatory(Kind::Ascii, Copy), Assigned(Ascii(b"AB")), b"\x00\x41\xc2", Given(3), Assigned(Ascii(b"AB"));
         // an undefined entry
-        Row {
-            part: Part::Whole,
-            kind: Kind::Ascii,
-            presence: Presence::Mandatory,
-            operator: Operator::Copy,
-            before: Kept::Undefined,
-            bytes: &[0, 0x43, 0xc4],
-            judged: Judged::Stands(3),
-            after: Kept::Assigned(Value::Ascii(b"CD")),
-        },
+        Mandatory(Kind::Ascii, Copy), Undefined, b"\x00\x43\xc4", Stands(3), Assigned(Ascii(b"CD"));
         // a string with no operator, and a default, leave their entries
-        Row {
-            part: Part::Whole,
-            kind: Kind::Ascii,
-            presence: Presence::Mandatory,
-            operator: Operator::Plain,
-            before: Kept::Undefined,
-            bytes: &[0, 0x43, 0xc4],
-            judged: Judged::Stands(3),
-            after: Kept::Undefined,
-        },
-        Row {
-            part: Part::Whole,
-            kind: Kind::Ascii,
-            presence: Presence::Optional,
-            operator: Operator::Default,
-            before: Kept::Assigned(Value::Ascii(b"AB")),
-            bytes: &[0, 0x43, 0xc4],
-            judged: Judged::Stands(3),
-            after: Kept::Assigned(Value::Ascii(b"AB")),
-        },
+        Mandatory(Kind::Ascii, Plain), Undefined, b"\x00\x43\xc4", Stands(3), Undefined;
+        Optional(Kind::Ascii, Default), Assigned(Ascii(b"AB")), b"\x00\x43\xc4", Stands(3), Assigned(Ascii(b"AB"));
         // deltas stand where no shorter one gives the same
-        Row {
-            part: Part::Whole,
-            kind: Kind::Ascii,
-            presence: Presence::Mandatory,
-            operator: Operator::Delta,
-            before: Kept::Assigned(Value::Ascii(b"ESM6")),
-            bytes: &[0, 0x81, 0xb7, 0, 0, 0, 0, 0, 0, 0, 0, 0, 0, 0, 0, 0, 0, 0],
-            judged: Judged::Stands(3),
-            after: Kept::Assigned(Value::Ascii(b"ESM7")),
-        },
-        Row {
-            part: Part::Whole,
-            kind: Kind::Ascii,
-            presence: Presence::Mandatory,
-            operator: Operator::Delta,
-            before: Kept::Assigned(Value::Ascii(b"0012")),
-            bytes: &[
-                0, 0x82, 0x32, 0xb2, 0, 0, 0, 0, 0, 0, 0, 0, 0, 0, 0, 0, 0, 0, 0,
-            ],
-            judged: Judged::Stands(4),
-            after: Kept::Assigned(Value::Ascii(b"0022")),
-        },
+        Mandatory(Kind::Ascii, Delta), Assigned(Ascii(b"ESM6")),
+            b"\x00\x81\xb7\0\0\0\0\0\0\0\0\0\0\0\0\0\0\0", Stands(3), Assigned(Ascii(b"ESM7"));
+        Mandatory(Kind::Ascii, Delta), Assigned(Ascii(b"0012")),
+            b"\x00\x82\x32\xb2\0\0\0\0\0\0\0\0\0\0\0\0\0\0\0", Stands(4), Assigned(Ascii(b"0022"));
         // so do tails, and bit 0 gives an end that is there already
-        Row {
-            part: Part::Whole,
-            kind: Kind::Ascii,
-            presence: Presence::Mandatory,
-            operator: Operator::Tail,
-            before: Kept::Assigned(Value::Ascii(b"xab")),
-            bytes: &[0, 0xe3],
-            judged: Judged::Stands(2),
-            after: Kept::Assigned(Value::Ascii(b"xac")),
-        },
-        Row {
-            part: Part::Whole,
-            kind: Kind::Ascii,
-            presence: Presence::Mandatory,
-            operator: Operator::Tail,
-            before: Kept::Assigned(Value::Ascii(b"xab")),
-            bytes: &[0, 0x61, 0xe2],
-            judged: Judged::Given(3),
-            after: Kept::Assigned(Value::Ascii(b"xab")),
-        },
+        Mandatory(Kind::Ascii, Tail), Assigned(Ascii(b"xab")), b"\x00\xe3", Stands(2), Assigned(Ascii(b"xac"));
+        Mandatory(Kind::Ascii, Tail), Assigned(Ascii(b"xab")), b"\x00\x61\xe2", Given(3), Assigned(Ascii(b"xab"));
         // the first character of a tail, or two, are there already
-        Row {
-            part: Part::Whole,
-            kind: Kind::Ascii,
-            presence: Presence::Mandatory,
-            operator: Operator::Tail,
-            before: Kept::Assigned(Value::Ascii(b"xab")),
-            bytes: &[0, 0x61, 0xe3],
-            judged: Judged::Behind(3),
-            after: Kept::Assigned(Value::Ascii(b"xac")),
-        },
-        Row {
-            part: Part::Whole,
-            kind: Kind::Ascii,
-            presence: Presence::Mandatory,
-            operator: Operator::Tail,
-            before: Kept::Assigned(Value::Ascii(b"xab")),
-            bytes: &[0, 0x78, 0x61, 0xe3],
-            judged: Judged::BehindTwo(4),
-            after: Kept::Assigned(Value::Ascii(b"xac")),
-        },
+        Mandatory(Kind::Ascii, Tail), Assigned(Ascii(b"xab")), b"\x00\x61\xe3", Behind(3), Assigned(Ascii(b"xac"));
+        Mandatory(Kind::Ascii, Tail), Assigned(Ascii(b"xab")), b"\x00\x78\x61\xe3", BehindTwo(4),
+            Assigned(Ascii(b"xac"));
         // behind a preamble that is not needed
-        Row {
-            part: Part::Whole,
-            kind: Kind::Ascii,
-            presence: Presence::Mandatory,
-            operator: Operator::Copy,
-            before: Kept::Assigned(Value::Ascii(b"AB")),
-            bytes: &[0, 0x00, 0x43, 0xc4],
-            judged: Judged::Behind(4),
-            after: Kept::Assigned(Value::Ascii(b"CD")),
-        },
-        Row {
-            part: Part::Whole,
-            kind: Kind::Ascii,
-            presence: Presence::Mandatory,
-            operator: Operator::Copy,
-            before: Kept::Assigned(Value::Ascii(b"AB")),
-            bytes: &[0, 0x00, 0x41, 0xc2],
-            judged: Judged::Given(4),
-            after: Kept::Assigned(Value::Ascii(b"AB")),
-        },
-    ];
-    all_judged(&rt, rt.alloc(), JUDGED)
-}
-
-#[test]
-fn strings_that_are_not_judged(rt: HostRuntime) -> Result<(), AllocError> {
-    const OTHERS: &[Row] = &[
+        Mandatory(Kind::Ascii, Copy), Assigned(Ascii(b"AB")), b"\x00\x00\x43\xc4", Behind(4), Assigned(Ascii(b"CD"));
+        Mandatory(Kind::Ascii, Copy), Assigned(Ascii(b"AB")), b"\x00\x00\x41\xc2", Given(4), Assigned(Ascii(b"AB"));
+    };
+    const OTHERS: &[Left] = rows! { Left:
         // two zero groups, of which one is NUL
-        Row {
-            part: Part::Whole,
-            kind: Kind::Ascii,
-            presence: Presence::Mandatory,
-            operator: Operator::Copy,
-            before: Kept::Assigned(Value::Ascii(b"AB")),
-            bytes: &[0, 0x00, 0x00, 0x43, 0xc4],
-            judged: Judged::Elsewhere,
-            after: Kept::Assigned(Value::Ascii(b"AB")),
-        },
+        Mandatory(Kind::Ascii, Copy), Assigned(Ascii(b"AB")), b"\x00\x00\x00\x43\xc4";
         // NULL
-        Row {
-            part: Part::Whole,
-            kind: Kind::Ascii,
-            presence: Presence::Optional,
-            operator: Operator::Copy,
-            before: Kept::Assigned(Value::Ascii(b"AB")),
-            bytes: &[0, 0x80],
-            judged: Judged::Elsewhere,
-            after: Kept::Assigned(Value::Ascii(b"AB")),
-        },
+        Optional(Kind::Ascii, Copy), Assigned(Ascii(b"AB")), b"\x00\x80";
         // one character is removed and put back, and one removal in front is shorter
-        Row {
-            part: Part::Whole,
-            kind: Kind::Ascii,
-            presence: Presence::Mandatory,
-            operator: Operator::Delta,
-            before: Kept::Assigned(Value::Ascii(b"ESM6")),
-            bytes: &[0, 0x82, 0x4d, 0xb7],
-            judged: Judged::Elsewhere,
-            after: Kept::Assigned(Value::Ascii(b"ESM6")),
-        },
-        Row {
-            part: Part::Whole,
-            kind: Kind::Ascii,
-            presence: Presence::Mandatory,
-            operator: Operator::Delta,
-            before: Kept::Assigned(Value::Ascii(b"0012")),
-            bytes: &[0, 0x84, 0x31, 0x30, 0x31, 0xb2],
-            judged: Judged::Elsewhere,
-            after: Kept::Assigned(Value::Ascii(b"0012")),
-        },
+        Mandatory(Kind::Ascii, Delta), Assigned(Ascii(b"ESM6")), b"\x00\x82\x4d\xb7";
+        Mandatory(Kind::Ascii, Delta), Assigned(Ascii(b"0012")), b"\x00\x84\x31\x30\x31\xb2";
         // an overlong removal
-        Row {
-            part: Part::Whole,
-            kind: Kind::Ascii,
-            presence: Presence::Mandatory,
-            operator: Operator::Delta,
-            before: Kept::Assigned(Value::Ascii(b"ESM6")),
-            bytes: &[0, 0x00, 0x81, 0xb7],
-            judged: Judged::Elsewhere,
-            after: Kept::Assigned(Value::Ascii(b"ESM6")),
-        },
+        Mandatory(Kind::Ascii, Delta), Assigned(Ascii(b"ESM6")), b"\x00\x00\x81\xb7";
         // a tail of which three characters are there already
-        Row {
-            part: Part::Whole,
-            kind: Kind::Ascii,
-            presence: Presence::Mandatory,
-            operator: Operator::Tail,
-            before: Kept::Assigned(Value::Ascii(b"abcd")),
-            bytes: &[0, 0x61, 0x62, 0x63, 0xe5],
-            judged: Judged::Elsewhere,
-            after: Kept::Assigned(Value::Ascii(b"abcd")),
-        },
-    ];
-    all_judged(&rt, rt.alloc(), OTHERS)
+        Mandatory(Kind::Ascii, Tail), Assigned(Ascii(b"abcd")), b"\x00\x61\x62\x63\xe5";
+    };
+    all_judged(&rt, rt.alloc(), JUDGED, OTHERS)
 }
 
 #[test]
-fn integers_that_are_judged(rt: HostRuntime) -> Result<(), AllocError> {
-    const JUDGED: &[Row] = &[
+fn integers(rt: HostRuntime) -> Tried {
+    const JUDGED: &[Row] = rows! { Row:
         // a number stands where bit 0 gives another, and bit 0 gives the kept one
-        Row {
-            part: Part::Whole,
-            kind: Kind::UInt32,
-            presence: Presence::Mandatory,
-            operator: Operator::Copy,
-            before: Kept::Assigned(Value::U32(5)),
-            bytes: &[0, 0x87],
-            judged: Judged::Stands(2),
-            after: Kept::Assigned(Value::U32(7)),
-        },
-        Row {
-            part: Part::Whole,
-            kind: Kind::UInt32,
-            presence: Presence::Mandatory,
-            operator: Operator::Copy,
-            before: Kept::Assigned(Value::U32(5)),
-            bytes: &[0, 0x85],
-            judged: Judged::Given(2),
-            after: Kept::Assigned(Value::U32(5)),
-        },
-        Row {
-            part: Part::Whole,
-            kind: Kind::UInt32,
-            presence: Presence::Optional,
-            operator: Operator::Copy,
-            before: Kept::Assigned(Value::U32(5)),
-            bytes: &[0, 0x88],
-            judged: Judged::Stands(2),
-            after: Kept::Assigned(Value::U32(7)),
-        },
+        Mandatory(UInt32, Copy), Assigned(U32(5)), b"\x00\x87", Stands(2), Assigned(U32(7));
+        Mandatory(UInt32, Copy), Assigned(U32(5)), b"\x00\x85", Given(2), Assigned(U32(5));
+        Optional(UInt32, Copy), Assigned(U32(5)), b"\x00\x88", Stands(2), Assigned(U32(7));
         // the one behind it where it is increased
-        Row {
-            part: Part::Whole,
-            kind: Kind::UInt64,
-            presence: Presence::Mandatory,
-            operator: Operator::Increment,
-            before: Kept::Assigned(Value::U64(5)),
-            bytes: &[0, 0x86],
-            judged: Judged::Given(2),
-            after: Kept::Assigned(Value::U64(6)),
-        },
-        Row {
-            part: Part::Whole,
-            kind: Kind::UInt64,
-            presence: Presence::Mandatory,
-            operator: Operator::Increment,
-            before: Kept::Assigned(Value::U64(5)),
-            bytes: &[0, 0x85],
-            judged: Judged::Stands(2),
-            after: Kept::Assigned(Value::U64(5)),
-        },
+        Mandatory(UInt64, Increment), Assigned(U64(5)), b"\x00\x86", Given(2), Assigned(U64(6));
+        Mandatory(UInt64, Increment), Assigned(U64(5)), b"\x00\x85", Stands(2), Assigned(U64(5));
         // the first number of an undefined entry, where bit 0 gives none
-        Row {
-            part: Part::Whole,
-            kind: Kind::UInt32,
-            presence: Presence::Mandatory,
-            operator: Operator::Copy,
-            before: Kept::Undefined,
-            bytes: &[0, 0x87],
-            judged: Judged::Stands(2),
-            after: Kept::Assigned(Value::U32(7)),
-        },
-        Row {
-            part: Part::Whole,
-            kind: Kind::Int64,
-            presence: Presence::Optional,
-            operator: Operator::Increment,
-            before: Kept::Undefined,
-            bytes: &[0, 0x88],
-            judged: Judged::Stands(2),
-            after: Kept::Assigned(Value::I64(7)),
-        },
+        Mandatory(UInt32, Copy), Undefined, b"\x00\x87", Stands(2), Assigned(U32(7));
+        Optional(Int64, Increment), Undefined, b"\x00\x88", Stands(2), Assigned(I64(7));
         // two groups, the first not needless
-        Row {
-            part: Part::Whole,
-            kind: Kind::Int32,
-            presence: Presence::Mandatory,
-            operator: Operator::Plain,
-            before: Kept::Undefined,
-            bytes: &[0, 0x00, 0xc0],
-            judged: Judged::Stands(3),
-            after: Kept::Undefined,
-        },
-        Row {
-            part: Part::Whole,
-            kind: Kind::Int64,
-            presence: Presence::Mandatory,
-            operator: Operator::Delta,
-            before: Kept::Assigned(Value::I64(-1)),
-            bytes: &[0, 0xff],
-            judged: Judged::Stands(2),
-            after: Kept::Assigned(Value::I64(-2)),
-        },
+        Mandatory(Int32, Plain), Undefined, b"\x00\x00\xc0", Stands(3), Undefined;
+        Mandatory(Int64, Delta), Assigned(I64(-1)), b"\x00\xff", Stands(2), Assigned(I64(-2));
         // the limits of an exponent, and a mantissa
-        Row {
-            part: Part::Exponent,
-            kind: Kind::Int32,
-            presence: Presence::Mandatory,
-            operator: Operator::Copy,
-            before: Kept::Assigned(Value::I32(0)),
-            bytes: &[0, 0xbf],
-            judged: Judged::Stands(2),
-            after: Kept::Assigned(Value::I32(63)),
-        },
-        Row {
-            part: Part::Mantissa,
-            kind: Kind::Int64,
-            presence: Presence::Mandatory,
-            operator: Operator::Delta,
-            before: Kept::Assigned(Value::I64(10)),
-            bytes: &[0, 0x81],
-            judged: Judged::Stands(2),
-            after: Kept::Assigned(Value::I64(11)),
-        },
+        Exponent(Presence::Mandatory, Copy, None), Assigned(I32(0)), b"\x00\xbf", Stands(2), Assigned(I32(63));
+        Mantissa(Delta), Assigned(I64(10)), b"\x00\x81", Stands(2), Assigned(I64(11));
         // behind one needless group
-        Row {
-            part: Part::Whole,
-            kind: Kind::UInt32,
-            presence: Presence::Mandatory,
-            operator: Operator::Copy,
-            before: Kept::Assigned(Value::U32(5)),
-            bytes: &[0, 0x00, 0x87],
-            judged: Judged::Behind(3),
-            after: Kept::Assigned(Value::U32(7)),
-        },
-        Row {
-            part: Part::Whole,
-            kind: Kind::UInt32,
-            presence: Presence::Mandatory,
-            operator: Operator::Copy,
-            before: Kept::Assigned(Value::U32(5)),
-            bytes: &[0, 0x00, 0x85],
-            judged: Judged::Given(3),
-            after: Kept::Assigned(Value::U32(5)),
-        },
-        Row {
-            part: Part::Whole,
-            kind: Kind::Int32,
-            presence: Presence::Mandatory,
-            operator: Operator::Copy,
-            before: Kept::Assigned(Value::I32(5)),
-            bytes: &[0, 0x00, 0xbf],
-            judged: Judged::Behind(3),
-            after: Kept::Assigned(Value::I32(63)),
-        },
-        Row {
-            part: Part::Whole,
-            kind: Kind::Int32,
-            presence: Presence::Mandatory,
-            operator: Operator::Copy,
-            before: Kept::Assigned(Value::I32(5)),
-            bytes: &[0, 0x7f, 0xff],
-            judged: Judged::Behind(3),
-            after: Kept::Assigned(Value::I32(-1)),
-        },
+        Mandatory(UInt32, Copy), Assigned(U32(5)), b"\x00\x00\x87", Behind(3), Assigned(U32(7));
+        Mandatory(UInt32, Copy), Assigned(U32(5)), b"\x00\x00\x85", Given(3), Assigned(U32(5));
+        Mandatory(Int32, Copy), Assigned(I32(5)), b"\x00\x00\xbf", Behind(3), Assigned(I32(63));
+        Mandatory(Int32, Copy), Assigned(I32(5)), b"\x00\x7f\xff", Behind(3), Assigned(I32(-1));
         // whose sign wants a group of its own
-        Row {
-            part: Part::Whole,
-            kind: Kind::Int32,
-            presence: Presence::Mandatory,
-            operator: Operator::Copy,
-            before: Kept::Assigned(Value::I32(5)),
-            bytes: &[0, 0x00, 0x00, 0xc0],
-            judged: Judged::Behind(4),
-            after: Kept::Assigned(Value::I32(64)),
-        },
+        Mandatory(Int32, Copy), Assigned(I32(5)), b"\x00\x00\x00\xc0", Behind(4), Assigned(I32(64));
         // behind two
-        Row {
-            part: Part::Whole,
-            kind: Kind::UInt32,
-            presence: Presence::Mandatory,
-            operator: Operator::Copy,
-            before: Kept::Assigned(Value::U32(5)),
-            bytes: &[0, 0x00, 0x00, 0x87],
-            judged: Judged::BehindTwo(4),
-            after: Kept::Assigned(Value::U32(7)),
-        },
-        Row {
-            part: Part::Whole,
-            kind: Kind::UInt32,
-            presence: Presence::Mandatory,
-            operator: Operator::Copy,
-            before: Kept::Assigned(Value::U32(5)),
-            bytes: &[0, 0x00, 0x00, 0x85],
-            judged: Judged::Given(4),
-            after: Kept::Assigned(Value::U32(5)),
-        },
-        Row {
-            part: Part::Whole,
-            kind: Kind::Int64,
-            presence: Presence::Optional,
-            operator: Operator::Delta,
-            before: Kept::Assigned(Value::I64(10)),
-            bytes: &[0, 0x7f, 0x7f, 0xff],
-            judged: Judged::BehindTwo(4),
-            after: Kept::Assigned(Value::I64(9)),
-        },
-    ];
-    all_judged(&rt, rt.alloc(), JUDGED)
-}
-
-#[test]
-fn first_numbers_that_are_judged(rt: HostRuntime) -> Result<(), AllocError> {
-    const FIRSTS: &[First] = &[
+        Mandatory(UInt32, Copy), Assigned(U32(5)), b"\x00\x00\x00\x87", BehindTwo(4), Assigned(U32(7));
+        Mandatory(UInt32, Copy), Assigned(U32(5)), b"\x00\x00\x00\x85", Given(4), Assigned(U32(5));
+        Optional(Int64, Delta), Assigned(I64(10)), b"\x00\x7f\x7f\xff", BehindTwo(4), Assigned(I64(9));
         // bit 0 gives the initial value, and what differs stands
-        First {
-            presence: Presence::Mandatory,
-            operator: Operator::Copy,
-            initial: 5,
-            bytes: &[0, 0x85],
-            judged: Judged::Given(2),
-            after: Kept::Assigned(Value::U32(5)),
-        },
-        First {
-            presence: Presence::Mandatory,
-            operator: Operator::Copy,
-            initial: 5,
-            bytes: &[0, 0x87],
-            judged: Judged::Stands(2),
-            after: Kept::Assigned(Value::U32(7)),
-        },
-        First {
-            presence: Presence::Optional,
-            operator: Operator::Copy,
-            initial: 5,
-            bytes: &[0, 0x86],
-            judged: Judged::Given(2),
-            after: Kept::Assigned(Value::U32(5)),
-        },
-        First {
-            presence: Presence::Optional,
-            operator: Operator::Copy,
-            initial: 5,
-            bytes: &[0, 0x85],
-            judged: Judged::Stands(2),
-            after: Kept::Assigned(Value::U32(4)),
-        },
+        Initial(Presence::Mandatory, Copy, 5), Undefined, b"\x00\x85", Given(2), Assigned(U32(5));
+        Initial(Presence::Mandatory, Copy, 5), Undefined, b"\x00\x87", Stands(2), Assigned(U32(7));
+        Initial(Presence::Optional, Copy, 5), Undefined, b"\x00\x86", Given(2), Assigned(U32(5));
+        Initial(Presence::Optional, Copy, 5), Undefined, b"\x00\x85", Stands(2), Assigned(U32(4));
         // it is not increased
-        First {
-            presence: Presence::Mandatory,
-            operator: Operator::Increment,
-            initial: 5,
-            bytes: &[0, 0x85],
-            judged: Judged::Given(2),
-            after: Kept::Assigned(Value::U32(5)),
-        },
-        First {
-            presence: Presence::Mandatory,
-            operator: Operator::Increment,
-            initial: 5,
-            bytes: &[0, 0x86],
-            judged: Judged::Stands(2),
-            after: Kept::Assigned(Value::U32(6)),
-        },
+        Initial(Presence::Mandatory, Increment, 5), Undefined, b"\x00\x85", Given(2), Assigned(U32(5));
+        Initial(Presence::Mandatory, Increment, 5), Undefined, b"\x00\x86", Stands(2), Assigned(U32(6));
         // behind a needless group
-        First {
-            presence: Presence::Mandatory,
-            operator: Operator::Copy,
-            initial: 5,
-            bytes: &[0, 0x00, 0x85],
-            judged: Judged::Given(3),
-            after: Kept::Assigned(Value::U32(5)),
-        },
-        First {
-            presence: Presence::Mandatory,
-            operator: Operator::Increment,
-            initial: 5,
-            bytes: &[0, 0x00, 0x87],
-            judged: Judged::Behind(3),
-            after: Kept::Assigned(Value::U32(7)),
-        },
+        Initial(Presence::Mandatory, Copy, 5), Undefined, b"\x00\x00\x85", Given(3), Assigned(U32(5));
+        Initial(Presence::Mandatory, Increment, 5), Undefined, b"\x00\x00\x87", Behind(3), Assigned(U32(7));
         // a default leaves the entry
-        First {
-            presence: Presence::Mandatory,
-            operator: Operator::Default,
-            initial: 5,
-            bytes: &[0, 0x85],
-            judged: Judged::Given(2),
-            after: Kept::Undefined,
-        },
-        First {
-            presence: Presence::Mandatory,
-            operator: Operator::Default,
-            initial: 5,
-            bytes: &[0, 0x87],
-            judged: Judged::Stands(2),
-            after: Kept::Undefined,
-        },
-    ];
-    all_firsts_judged(&rt, rt.alloc(), FIRSTS)
-}
-
-#[test]
-fn integers_that_are_not_judged(rt: HostRuntime) -> Result<(), AllocError> {
-    const OTHERS: &[Row] = &[
+        Initial(Presence::Mandatory, Default, 5), Undefined, b"\x00\x85", Given(2), Undefined;
+        Initial(Presence::Mandatory, Default, 5), Undefined, b"\x00\x87", Stands(2), Undefined;
+    };
+    const OTHERS: &[Left] = rows! { Left:
         // three needless groups
-        Row {
-            part: Part::Whole,
-            kind: Kind::UInt32,
-            presence: Presence::Mandatory,
-            operator: Operator::Copy,
-            before: Kept::Assigned(Value::U32(5)),
-            bytes: &[0, 0x00, 0x00, 0x00, 0x87],
-            judged: Judged::Elsewhere,
-            after: Kept::Assigned(Value::U32(5)),
-        },
+        Mandatory(UInt32, Copy), Assigned(U32(5)), b"\x00\x00\x00\x00\x87";
         // NULL
-        Row {
-            part: Part::Whole,
-            kind: Kind::UInt32,
-            presence: Presence::Optional,
-            operator: Operator::Copy,
-            before: Kept::Assigned(Value::U32(5)),
-            bytes: &[0, 0x80],
-            judged: Judged::Elsewhere,
-            after: Kept::Assigned(Value::U32(5)),
-        },
+        Optional(UInt32, Copy), Assigned(U32(5)), b"\x00\x80";
         // out of the range of its type, and of an exponent
-        Row {
-            part: Part::Whole,
-            kind: Kind::UInt32,
-            presence: Presence::Mandatory,
-            operator: Operator::Copy,
-            before: Kept::Assigned(Value::U32(5)),
-            bytes: &[0, 0x10, 0x00, 0x00, 0x00, 0x80],
-            judged: Judged::Elsewhere,
-            after: Kept::Assigned(Value::U32(5)),
-        },
-        Row {
-            part: Part::Whole,
-            kind: Kind::UInt32,
-            presence: Presence::Mandatory,
-            operator: Operator::Delta,
-            before: Kept::Assigned(Value::U32(0)),
-            bytes: &[0, 0xff],
-            judged: Judged::Elsewhere,
-            after: Kept::Assigned(Value::U32(0)),
-        },
-        Row {
-            part: Part::Exponent,
-            kind: Kind::Int32,
-            presence: Presence::Mandatory,
-            operator: Operator::Copy,
-            before: Kept::Assigned(Value::I32(0)),
-            bytes: &[0, 0x00, 0xc0],
-            judged: Judged::Elsewhere,
-            after: Kept::Assigned(Value::I32(0)),
-        },
+        Mandatory(UInt32, Copy), Assigned(U32(5)), b"\x00\x10\x00\x00\x00\x80";
+        Mandatory(UInt32, Delta), Assigned(U32(0)), b"\x00\xff";
+        Exponent(Presence::Mandatory, Copy, None), Assigned(I32(0)), b"\x00\x00\xc0";
         // the number behind the greatest
-        Row {
-            part: Part::Whole,
-            kind: Kind::UInt32,
-            presence: Presence::Mandatory,
-            operator: Operator::Increment,
-            before: Kept::Assigned(Value::U32(4294967295)),
-            bytes: &[0, 0x80],
-            judged: Judged::Elsewhere,
-            after: Kept::Assigned(Value::U32(4294967295)),
-        },
+        Mandatory(UInt32, Increment), Assigned(U32(u32::MAX)), b"\x00\x80";
         // no stop bit
-        Row {
-            part: Part::Whole,
-            kind: Kind::UInt32,
-            presence: Presence::Mandatory,
-            operator: Operator::Plain,
-            before: Kept::Undefined,
-            bytes: &[0, 0x07],
-            judged: Judged::Elsewhere,
-            after: Kept::Undefined,
-        },
-    ];
-    all_judged(&rt, rt.alloc(), OTHERS)
+        Mandatory(UInt32, Plain), Undefined, b"\x00\x07";
+    };
+    all_judged(&rt, rt.alloc(), JUDGED, OTHERS)
 }
 
 #[test]
-fn vectors_that_are_judged(rt: HostRuntime) -> Result<(), AllocError> {
-    const JUDGED: &[Row] = &[
+fn vectors(rt: HostRuntime) -> Tried {
+    const JUDGED: &[Row] = rows! { Row:
         // a vector and a Unicode string, whose lengths are the shortest
-        Row {
-            part: Part::Whole,
-            kind: Kind::Bytes,
-            presence: Presence::Mandatory,
-            operator: Operator::Copy,
-            before: Kept::Assigned(Value::Bytes(b"AB")),
-            bytes: &[0, 0x81, 0x43],
-            judged: Judged::Stands(3),
-            after: Kept::Assigned(Value::Bytes(b"C")),
-        },
-        Row {
-            part: Part::Whole,
-            kind: Kind::Bytes,
-            presence: Presence::Mandatory,
-            operator: Operator::Copy,
-            before: Kept::Assigned(Value::Bytes(b"AB")),
-            bytes: &[0, 0x82, 0x41, 0x42],
-            judged: Judged::Given(4),
-            after: Kept::Assigned(Value::Bytes(b"AB")),
-        },
-        Row {
-            part: Part::Whole,
-            kind: Kind::Unicode,
-            presence: Presence::Mandatory,
-            operator: Operator::Copy,
-            before: Kept::Assigned(Value::Unicode("AB")),
-            bytes: &[0, 0x82, 0xc3, 0xbc],
-            judged: Judged::Stands(4),
-            after: Kept::Assigned(Value::Unicode("ü")),
-        },
+        Mandatory(Kind::Bytes, Copy), Assigned(Bytes(b"AB")), b"\x00\x81\x43", Stands(3), Assigned(Bytes(b"C"));
+        Mandatory(Kind::Bytes, Copy), Assigned(Bytes(b"AB")), b"\x00\x82\x41\x42", Given(4), Assigned(Bytes(b"AB"));
+        Mandatory(Kind::Unicode, Copy), Assigned(Unicode("AB")), b"\x00\x82\xc3\xbc", Stands(4), Assigned(Unicode("ü"));
         // behind one needless group of their lengths
-        Row {
-            part: Part::Whole,
-            kind: Kind::Bytes,
-            presence: Presence::Mandatory,
-            operator: Operator::Copy,
-            before: Kept::Assigned(Value::Bytes(b"AB")),
-            bytes: &[0, 0x00, 0x81, 0x43],
-            judged: Judged::Behind(4),
-            after: Kept::Assigned(Value::Bytes(b"C")),
-        },
-        Row {
-            part: Part::Whole,
-            kind: Kind::Bytes,
-            presence: Presence::Mandatory,
-            operator: Operator::Copy,
-            before: Kept::Assigned(Value::Bytes(b"AB")),
-            bytes: &[0, 0x00, 0x82, 0x41, 0x42],
-            judged: Judged::Given(5),
-            after: Kept::Assigned(Value::Bytes(b"AB")),
-        },
-        Row {
-            part: Part::Whole,
-            kind: Kind::Unicode,
-            presence: Presence::Optional,
-            operator: Operator::Copy,
-            before: Kept::Assigned(Value::Unicode("AB")),
-            bytes: &[0, 0x00, 0x83, 0xc3, 0xbc],
-            judged: Judged::Behind(5),
-            after: Kept::Assigned(Value::Unicode("ü")),
-        },
-        Row {
-            part: Part::Whole,
-            kind: Kind::Unicode,
-            presence: Presence::Mandatory,
-            operator: Operator::Plain,
-            before: Kept::Undefined,
-            bytes: &[0, 0x00, 0x80],
-            judged: Judged::Behind(3),
-            after: Kept::Undefined,
-        },
+        Mandatory(Kind::Bytes, Copy), Assigned(Bytes(b"AB")), b"\x00\x00\x81\x43", Behind(4), Assigned(Bytes(b"C"));
+        Mandatory(Kind::Bytes, Copy), Assigned(Bytes(b"AB")), b"\x00\x00\x82\x41\x42", Given(5), Assigned(Bytes(b"AB"));
+        Optional(Kind::Unicode, Copy), Assigned(Unicode("AB")), b"\x00\x00\x83\xc3\xbc", Behind(5),
+            Assigned(Unicode("ü"));
+        Mandatory(Kind::Unicode, Plain), Undefined, b"\x00\x00\x80", Behind(3), Undefined;
         // so do ends, and differences whose removals have it
-        Row {
-            part: Part::Whole,
-            kind: Kind::Unicode,
-            presence: Presence::Mandatory,
-            operator: Operator::Tail,
-            before: Kept::Assigned(Value::Unicode("AB")),
-            bytes: &[0, 0x00, 0x81, 0x43],
-            judged: Judged::Behind(4),
-            after: Kept::Assigned(Value::Unicode("AC")),
-        },
-        Row {
-            part: Part::Whole,
-            kind: Kind::Bytes,
-            presence: Presence::Mandatory,
-            operator: Operator::Tail,
-            before: Kept::Empty,
-            bytes: &[0, 0x00, 0x81, 0x43],
-            judged: Judged::Behind(4),
-            after: Kept::Assigned(Value::Bytes(b"C")),
-        },
-        Row {
-            part: Part::Whole,
-            kind: Kind::Bytes,
-            presence: Presence::Mandatory,
-            operator: Operator::Delta,
-            before: Kept::Assigned(Value::Bytes(b"AB")),
-            bytes: &[0, 0x00, 0x81, 0x81, 0x43],
-            judged: Judged::Behind(5),
-            after: Kept::Assigned(Value::Bytes(b"AC")),
-        },
-        Row {
-            part: Part::Whole,
-            kind: Kind::Unicode,
-            presence: Presence::Optional,
-            operator: Operator::Delta,
-            before: Kept::Assigned(Value::Unicode("AB")),
-            bytes: &[0, 0x00, 0x81, 0x81, 0x43],
-            judged: Judged::Behind(5),
-            after: Kept::Assigned(Value::Unicode("ABC")),
-        },
+        Mandatory(Kind::Unicode, Tail), Assigned(Unicode("AB")), b"\x00\x00\x81\x43", Behind(4),
+            Assigned(Unicode("AC"));
+        Mandatory(Kind::Bytes, Tail), Empty, b"\x00\x00\x81\x43", Behind(4), Assigned(Bytes(b"C"));
+        Mandatory(Kind::Bytes, Delta), Assigned(Bytes(b"AB")), b"\x00\x00\x81\x81\x43", Behind(5),
+            Assigned(Bytes(b"AC"));
+        Optional(Kind::Unicode, Delta), Assigned(Unicode("AB")), b"\x00\x00\x81\x81\x43", Behind(5),
+            Assigned(Unicode("ABC"));
         // behind two
-        Row {
-            part: Part::Whole,
-            kind: Kind::Bytes,
-            presence: Presence::Mandatory,
-            operator: Operator::Copy,
-            before: Kept::Assigned(Value::Bytes(b"AB")),
-            bytes: &[0, 0x00, 0x00, 0x81, 0x43],
-            judged: Judged::BehindTwo(5),
-            after: Kept::Assigned(Value::Bytes(b"C")),
-        },
-        Row {
-            part: Part::Whole,
-            kind: Kind::Unicode,
-            presence: Presence::Mandatory,
-            operator: Operator::Delta,
-            before: Kept::Assigned(Value::Unicode("AB")),
-            bytes: &[0, 0x00, 0x00, 0x81, 0x81, 0x43],
-            judged: Judged::BehindTwo(6),
-            after: Kept::Assigned(Value::Unicode("AC")),
-        },
-    ];
-    all_judged(&rt, rt.alloc(), JUDGED)
-}
-
-#[test]
-fn vectors_that_are_not_judged(rt: HostRuntime) -> Result<(), AllocError> {
-    const OTHERS: &[Row] = &[
+        Mandatory(Kind::Bytes, Copy), Assigned(Bytes(b"AB")), b"\x00\x00\x00\x81\x43", BehindTwo(5),
+            Assigned(Bytes(b"C"));
+        Mandatory(Kind::Unicode, Delta), Assigned(Unicode("AB")), b"\x00\x00\x00\x81\x81\x43", BehindTwo(6),
+            Assigned(Unicode("AC"));
+        // whole texts
+        Mandatory(Kind::Unicode, Copy), Assigned(Unicode("aé")), b"\x00\x82\xc3\xbc", Stands(4), Assigned(Unicode("ü"));
+        // an overlong length
+        Mandatory(Kind::Unicode, Copy), Assigned(Unicode("aé")), b"\x00\x00\x82\xc3\xbc", Behind(5),
+            Assigned(Unicode("ü"));
+        // a nullable length
+        Optional(Kind::Unicode, Copy), Empty, b"\x00\x83\xc3\xbc", Stands(4), Assigned(Unicode("ü"));
+        // undefined entries
+        Mandatory(Kind::Unicode, Copy), Undefined, b"\x00\x82\xc3\xbc", Stands(4), Assigned(Unicode("ü"));
+        Optional(Kind::Bytes, Copy), Undefined, b"\x00\x83\x00\xff", Stands(4), Assigned(Bytes(b"\x00\xff"));
+        // a default
+        Optional(Kind::Unicode, Default), Undefined, b"\x00\x81", Stands(2), Undefined;
+        // whole vectors
+        Mandatory(Kind::Bytes, Plain), Undefined, b"\x00\x82\x00\xff", Stands(4), Undefined;
+        Mandatory(Kind::Bytes, Copy), Assigned(Bytes(b"abc")), b"\x00\x82\x00\xff", Stands(4),
+            Assigned(Bytes(b"\x00\xff"));
+        // tails
+        Mandatory(Kind::Unicode, Tail), Assigned(Unicode("üab")), b"\x00\x81\x63", Stands(3), Assigned(Unicode("üac"));
+        // of an empty entry it is the whole value
+        Optional(Kind::Unicode, Tail), Empty, b"\x00\x83\xc3\xbc", Stands(4), Assigned(Unicode("ü"));
+        // all of the base is replaced
+        Optional(Kind::Bytes, Tail), Assigned(Bytes(b"ab")), b"\x00\x83\x63\x62", Stands(4), Assigned(Bytes(b"cb"));
+        // differences
+        Mandatory(Kind::Bytes, Delta), Assigned(Bytes(b"ESM6")), b"\x00\x81\x81\x37", Stands(4),
+            Assigned(Bytes(b"ESM7"));
+        // a nullable subtraction length; more is put behind
+        Optional(Kind::Unicode, Delta), Assigned(Unicode("ab")), b"\x00\x81\x82\xc3\xbc", Stands(5),
+            Assigned(Unicode("abü"));
+        // the same end, and as short a removal
+        Mandatory(Kind::Bytes, Delta), Assigned(Bytes(b"0012")), b"\x00\x82\x82\x32\x32", Stands(5),
+            Assigned(Bytes(b"0022"));
+        // what bit 0 gives
+        Mandatory(Kind::Unicode, Copy), Assigned(Unicode("ü")), b"\x00\x82\xc3\xbc", Given(4), Assigned(Unicode("ü"));
+    };
+    const OTHERS: &[Left] = rows! { Left:
         // three needless groups in front of a length, or one in front of that of a new part
-        Row {
-            part: Part::Whole,
-            kind: Kind::Bytes,
-            presence: Presence::Mandatory,
-            operator: Operator::Copy,
-            before: Kept::Assigned(Value::Bytes(b"AB")),
-            bytes: &[0, 0x00, 0x00, 0x00, 0x81, 0x43],
-            judged: Judged::Elsewhere,
-            after: Kept::Assigned(Value::Bytes(b"AB")),
-        },
-        Row {
-            part: Part::Whole,
-            kind: Kind::Bytes,
-            presence: Presence::Mandatory,
-            operator: Operator::Delta,
-            before: Kept::Assigned(Value::Bytes(b"AB")),
-            bytes: &[0, 0x81, 0x00, 0x81, 0x43],
-            judged: Judged::Elsewhere,
-            after: Kept::Assigned(Value::Bytes(b"AB")),
-        },
+        Mandatory(Kind::Bytes, Copy), Assigned(Bytes(b"AB")), b"\x00\x00\x00\x00\x81\x43";
+        Mandatory(Kind::Bytes, Delta), Assigned(Bytes(b"AB")), b"\x00\x81\x00\x81\x43";
         // NULL behind a needless group
-        Row {
-            part: Part::Whole,
-            kind: Kind::Bytes,
-            presence: Presence::Optional,
-            operator: Operator::Copy,
-            before: Kept::Assigned(Value::Bytes(b"AB")),
-            bytes: &[0, 0x00, 0x80],
-            judged: Judged::Elsewhere,
-            after: Kept::Assigned(Value::Bytes(b"AB")),
-        },
+        Optional(Kind::Bytes, Copy), Assigned(Bytes(b"AB")), b"\x00\x00\x80";
         // no UTF-8
-        Row {
-            part: Part::Whole,
-            kind: Kind::Unicode,
-            presence: Presence::Mandatory,
-            operator: Operator::Copy,
-            before: Kept::Assigned(Value::Unicode("AB")),
-            bytes: &[0, 0x81, 0xc3],
-            judged: Judged::Elsewhere,
-            after: Kept::Assigned(Value::Unicode("AB")),
-        },
-    ];
-    all_judged(&rt, rt.alloc(), OTHERS)
+        Mandatory(Kind::Unicode, Copy), Assigned(Unicode("AB")), b"\x00\x81\xc3";
+        // of another type is what the entry has
+        Optional(Kind::Bytes, Copy), Assigned(Unicode("ab")), b"\x00\x83\x61\x63";
+        // a tail that is longer than need be
+        Mandatory(Kind::Unicode, Tail), Assigned(Unicode("üab")), b"\x00\x82\x61\x63";
+        // a tail that begins within a character
+        Mandatory(Kind::Unicode, Tail), Assigned(Unicode("xü")), b"\x00\x81\xb6";
+        // of what is removed the first byte is put there again
+        Optional(Kind::Unicode, Delta), Assigned(Unicode("abü")), b"\x00\x83\x82\xc3\xb6";
+        // the same end: removed in front are fewer
+        Mandatory(Kind::Bytes, Delta), Assigned(Bytes(b"ESM6")), b"\x00\x84\x84\x58\x53\x4d\x36";
+        // no UTF-8
+        Mandatory(Kind::Unicode, Copy), Assigned(Unicode("ü")), b"\x00\x82\xc3\x28";
+        // fewer bytes than the length says
+        Mandatory(Kind::Bytes, Plain), Undefined, b"\x00\x83\x00\xff";
+        // a length of 65,536
+        Mandatory(Kind::Bytes, Plain), Undefined, b"\x00\x04\x00\x80";
+        // a tail that bit 0 gives
+        Mandatory(Kind::Bytes, Tail), Assigned(Bytes(b"ab")), b"\x00\x81\x62";
+        // no UTF-8
+        Mandatory(Kind::Unicode, Tail), Assigned(Unicode("xü")), b"\x00\x81\x28";
+        Mandatory(Kind::Unicode, Tail), Assigned(Bytes(b"ab")), b"\x00\x81\x63";
+        // more is removed than there is
+        Mandatory(Kind::Bytes, Delta), Assigned(Bytes(b"ESM6")), b"\x00\x85\x81\x37";
+        // no UTF-8
+        Mandatory(Kind::Unicode, Delta), Assigned(Unicode("ü")), b"\x00\x81\x81\x37";
+        Mandatory(Kind::Bytes, Delta), Empty, b"\x00\x80\x81\x37";
+    };
+    all_judged(&rt, rt.alloc(), JUDGED, OTHERS)
 }
 
 #[test]
-fn decimals_that_are_judged(rt: HostRuntime) -> Result<(), AllocError> {
-    const JUDGED: &[Row] = &[
+fn decimals(rt: HostRuntime) -> Tried {
+    const JUDGED: &[Row] = rows! { Row:
         // an exponent and a mantissa in their shortest forms
-        Row {
-            part: Part::Whole,
-            kind: Kind::Decimal,
-            presence: Presence::Mandatory,
-            operator: Operator::Copy,
-            before: Kept::Assigned(Value::Decimal(1, 5)),
-            bytes: &[0, 0xfe, 0x85],
-            judged: Judged::Stands(3),
-            after: Kept::Assigned(Value::Decimal(-2, 5)),
-        },
-        Row {
-            part: Part::Whole,
-            kind: Kind::Decimal,
-            presence: Presence::Mandatory,
-            operator: Operator::Copy,
-            before: Kept::Assigned(Value::Decimal(1, 5)),
-            bytes: &[0, 0x81, 0x85],
-            judged: Judged::Given(3),
-            after: Kept::Assigned(Value::Decimal(1, 5)),
-        },
-        Row {
-            part: Part::Whole,
-            kind: Kind::Decimal,
-            presence: Presence::Mandatory,
-            operator: Operator::Delta,
-            before: Kept::Assigned(Value::Decimal(-2, 100)),
-            bytes: &[0, 0x80, 0x81],
-            judged: Judged::Stands(3),
-            after: Kept::Assigned(Value::Decimal(-2, 101)),
-        },
+        Mandatory(Kind::Decimal, Copy), Assigned(Decimal(1, 5)), b"\x00\xfe\x85", Stands(3), Assigned(Decimal(-2, 5));
+        Mandatory(Kind::Decimal, Copy), Assigned(Decimal(1, 5)), b"\x00\x81\x85", Given(3), Assigned(Decimal(1, 5));
+        Mandatory(Kind::Decimal, Delta), Assigned(Decimal(-2, 100)), b"\x00\x80\x81", Stands(3),
+            Assigned(Decimal(-2, 101));
         // behind one needless group of the exponent
-        Row {
-            part: Part::Whole,
-            kind: Kind::Decimal,
-            presence: Presence::Mandatory,
-            operator: Operator::Copy,
-            before: Kept::Assigned(Value::Decimal(1, 5)),
-            bytes: &[0, 0x7f, 0xfe, 0x85],
-            judged: Judged::Behind(4),
-            after: Kept::Assigned(Value::Decimal(-2, 5)),
-        },
-        Row {
-            part: Part::Whole,
-            kind: Kind::Decimal,
-            presence: Presence::Mandatory,
-            operator: Operator::Copy,
-            before: Kept::Assigned(Value::Decimal(1, 5)),
-            bytes: &[0, 0x00, 0x81, 0x85],
-            judged: Judged::Given(4),
-            after: Kept::Assigned(Value::Decimal(1, 5)),
-        },
-        Row {
-            part: Part::Whole,
-            kind: Kind::Decimal,
-            presence: Presence::Optional,
-            operator: Operator::Plain,
-            before: Kept::Undefined,
-            bytes: &[0, 0x00, 0x81, 0x85],
-            judged: Judged::Behind(4),
-            after: Kept::Undefined,
-        },
-        Row {
-            part: Part::Whole,
-            kind: Kind::Decimal,
-            presence: Presence::Mandatory,
-            operator: Operator::Delta,
-            before: Kept::Assigned(Value::Decimal(-2, 100)),
-            bytes: &[0, 0x00, 0x80, 0x81],
-            judged: Judged::Behind(4),
-            after: Kept::Assigned(Value::Decimal(-2, 101)),
-        },
+        Mandatory(Kind::Decimal, Copy), Assigned(Decimal(1, 5)), b"\x00\x7f\xfe\x85", Behind(4),
+            Assigned(Decimal(-2, 5));
+        Mandatory(Kind::Decimal, Copy), Assigned(Decimal(1, 5)), b"\x00\x00\x81\x85", Given(4), Assigned(Decimal(1, 5));
+        Optional(Kind::Decimal, Plain), Undefined, b"\x00\x00\x81\x85", Behind(4), Undefined;
+        Mandatory(Kind::Decimal, Delta), Assigned(Decimal(-2, 100)), b"\x00\x00\x80\x81", Behind(4),
+            Assigned(Decimal(-2, 101));
         // behind two
-        Row {
-            part: Part::Whole,
-            kind: Kind::Decimal,
-            presence: Presence::Mandatory,
-            operator: Operator::Copy,
-            before: Kept::Assigned(Value::Decimal(1, 5)),
-            bytes: &[0, 0x00, 0x00, 0x82, 0x85],
-            judged: Judged::BehindTwo(5),
-            after: Kept::Assigned(Value::Decimal(2, 5)),
-        },
-        Row {
-            part: Part::Whole,
-            kind: Kind::Decimal,
-            presence: Presence::Mandatory,
-            operator: Operator::Delta,
-            before: Kept::Assigned(Value::Decimal(-2, 100)),
-            bytes: &[0, 0x7f, 0x7f, 0xff, 0x81],
-            judged: Judged::BehindTwo(5),
-            after: Kept::Assigned(Value::Decimal(-3, 101)),
-        },
-    ];
-    all_judged(&rt, rt.alloc(), JUDGED)
-}
-
-#[test]
-fn decimals_that_are_not_judged(rt: HostRuntime) -> Result<(), AllocError> {
-    const OTHERS: &[Row] = &[
+        Mandatory(Kind::Decimal, Copy), Assigned(Decimal(1, 5)), b"\x00\x00\x00\x82\x85", BehindTwo(5),
+            Assigned(Decimal(2, 5));
+        Mandatory(Kind::Decimal, Delta), Assigned(Decimal(-2, 100)), b"\x00\x7f\x7f\xff\x81", BehindTwo(5),
+            Assigned(Decimal(-3, 101));
+        // differences
+        Mandatory(Kind::Decimal, Delta), Assigned(Decimal(-2, 7)), b"\x00\x81\xfe", Stands(3), Assigned(Decimal(-1, 5));
+        // a nullable exponent
+        Optional(Kind::Decimal, Delta), Assigned(Decimal(-2, 7)), b"\x00\x82\xfe", Stands(3), Assigned(Decimal(-1, 5));
+        // whole decimals
+        Mandatory(Kind::Decimal, Copy), Assigned(Decimal(-2, 7)), b"\x00\x81\xfe", Stands(3), Assigned(Decimal(1, -2));
+        Mandatory(Kind::Decimal, Plain), Undefined, b"\x00\xfe\x87", Stands(3), Undefined;
+        Optional(Kind::Decimal, Default), Undefined, b"\x00\xfe\x87", Stands(3), Undefined;
+        // what bit 0 gives
+        Mandatory(Kind::Decimal, Copy), Assigned(Decimal(1, -2)), b"\x00\x81\xfe", Given(3), Assigned(Decimal(1, -2));
+    };
+    const OTHERS: &[Left] = rows! { Left:
         // three needless groups, and one of the mantissa
-        Row {
-            part: Part::Whole,
-            kind: Kind::Decimal,
-            presence: Presence::Mandatory,
-            operator: Operator::Copy,
-            before: Kept::Assigned(Value::Decimal(1, 5)),
-            bytes: &[0, 0x00, 0x00, 0x00, 0x82, 0x85],
-            judged: Judged::Elsewhere,
-            after: Kept::Assigned(Value::Decimal(1, 5)),
-        },
-        Row {
-            part: Part::Whole,
-            kind: Kind::Decimal,
-            presence: Presence::Mandatory,
-            operator: Operator::Copy,
-            before: Kept::Assigned(Value::Decimal(1, 5)),
-            bytes: &[0, 0x82, 0x00, 0x85],
-            judged: Judged::Elsewhere,
-            after: Kept::Assigned(Value::Decimal(1, 5)),
-        },
+        Mandatory(Kind::Decimal, Copy), Assigned(Decimal(1, 5)), b"\x00\x00\x00\x00\x82\x85";
+        Mandatory(Kind::Decimal, Copy), Assigned(Decimal(1, 5)), b"\x00\x82\x00\x85";
         // NULL behind a needless group
-        Row {
-            part: Part::Whole,
-            kind: Kind::Decimal,
-            presence: Presence::Optional,
-            operator: Operator::Copy,
-            before: Kept::Assigned(Value::Decimal(1, 5)),
-            bytes: &[0, 0x00, 0x80],
-            judged: Judged::Elsewhere,
-            after: Kept::Assigned(Value::Decimal(1, 5)),
-        },
+        Optional(Kind::Decimal, Copy), Assigned(Decimal(1, 5)), b"\x00\x00\x80";
         // an exponent of 64
-        Row {
-            part: Part::Whole,
-            kind: Kind::Decimal,
-            presence: Presence::Mandatory,
-            operator: Operator::Copy,
-            before: Kept::Assigned(Value::Decimal(1, 5)),
-            bytes: &[0, 0x00, 0xc0, 0x85],
-            judged: Judged::Elsewhere,
-            after: Kept::Assigned(Value::Decimal(1, 5)),
-        },
-    ];
-    all_judged(&rt, rt.alloc(), OTHERS)
+        Mandatory(Kind::Decimal, Copy), Assigned(Decimal(1, 5)), b"\x00\x00\xc0\x85";
+        // an overlong mantissa
+        Mandatory(Kind::Decimal, Delta), Assigned(Decimal(-2, 7)), b"\x00\x80\x00\x81";
+        // a nullable exponent, an overlong mantissa
+        Optional(Kind::Decimal, Copy), Empty, b"\x00\x82\x7f\xfe";
+        // NULL
+        Optional(Kind::Decimal, Delta), Assigned(Decimal(-2, 7)), b"\x00\x80";
+        // an exponent of 64
+        Mandatory(Kind::Decimal, Delta), Assigned(Decimal(63, 7)), b"\x00\x81\x80";
+        // no mantissa
+        Mandatory(Kind::Decimal, Delta), Assigned(Decimal(-2, 7)), b"\x00\x81";
+        Mandatory(Kind::Decimal, Delta), Undefined, b"\x00\x81\xfe";
+        // an exponent of -64
+        Mandatory(Kind::Decimal, Copy), Assigned(Decimal(-2, 7)), b"\x00\xc0\x81";
+    };
+    all_judged(&rt, rt.alloc(), JUDGED, OTHERS)
 }

@@ -2,8 +2,6 @@
 #![tactic(auto)]
 
 #[cfg(test)]
-mod decimals;
-#[cfg(test)]
 mod entries;
 #[cfg(test)]
 mod fields;
@@ -11,10 +9,6 @@ mod fields;
 mod general;
 #[cfg(test)]
 mod judged;
-#[cfg(test)]
-mod nulls;
-#[cfg(test)]
-mod one_byte;
 #[cfg(test)]
 mod passed;
 #[cfg(test)]
@@ -24,17 +18,9 @@ mod relaying;
 #[cfg(test)]
 mod same;
 #[cfg(test)]
-mod strict;
-#[cfg(test)]
 mod taken;
 #[cfg(test)]
 mod takes;
-#[cfg(test)]
-mod texts;
-#[cfg(test)]
-mod undefined;
-#[cfg(test)]
-mod vectors;
 #[cfg(test)]
 mod ways;
 #[cfg(test)]

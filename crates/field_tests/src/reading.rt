@@ -1,16 +1,18 @@
 //! Rows on single fields that are read, by the calls. A test has a table of rows and makes nothing of its own, since
 //! each value that lies there at a `?` makes its proof longer.
 
-use self::Wanted::{Absent, Fault, Present};
+use self::Wanted::{Absent, Fault, Keeps, Present};
 use crate::fields::Kept::{Assigned, Empty, Undefined};
 use crate::fields::Shape::{Exponent, Initial, Length, Mandatory, Optional};
-use crate::fields::Value::{Ascii, Bytes, Decimal, I32, Letters, U32, Unicode};
-use crate::fields::{Kept, Shape, Value, ascii};
+use crate::fields::Value::{Ascii, Bytes, Decimal, I32, I64, Letters, U32, Unicode};
+use crate::fields::{Kept, Shape, Value, is_kept, scalar_of};
 use crate::same::same;
 use fast_dictionary::{Entry, EntryRef};
-use fast_field::FieldFault::{D2, D4, D5, D6, D7, Limit, NeedMore, R1, R2};
+use fast_field::FieldFault::{D2, D4, D5, D6, D7, Limit, NeedMore, R1, R2, R6, R9};
 use fast_field::{FieldFault, Found, Level, find_field, next_entry, read_field, read_in_place};
-use fast_template::{FieldPart, Kind, Operator, Presence, Scalar};
+use fast_template::Kind::{Int32, Int64, UInt32, UInt64};
+use fast_template::Operator::{Constant, Copy, Default, Delta, Increment, Plain, Tail};
+use fast_template::{FieldPart, Kind, Presence, Scalar};
 use std::alloc::{AllocError, Global};
 use std::process::Abort;
 use test_rows::{Tried, rows};
@@ -21,19 +23,15 @@ type Read = Result<(Option<Scalar>, Entry, usize), FieldFault>;
 // The same, with the entry where it lay.
 type ReadInPlace = Result<(Option<Scalar>, usize), FieldFault>;
 
-// A field that is read on an entry, and what is wanted of it.
-pub(crate) struct Row {
-    pub(crate) of: Shape,
-    pub(crate) before: Kept,
-    pub(crate) bit: bool,
-    pub(crate) bytes: &'static [u8],
-    pub(crate) wanted: Wanted,
-}
+// A field, its entry, bit and bytes, and what is wanted of them.
+struct Row(Shape, Kept, bool, &'static [u8], Wanted);
 
 #[derive(Clone, Copy)]
-pub(crate) enum Wanted {
+enum Wanted {
     Absent(Kept, usize),
     Present(Value, Kept, usize),
+    // A value that the entry then has.
+    Keeps(Value, usize),
     Fault(FieldFault),
 }
 
@@ -42,6 +40,7 @@ impl Wanted {
         match self {
             Wanted::Absent(after, next) => Ok(Ok((None, after.entry(alloc)?, next))),
             Wanted::Present(value, after, next) => read_value(alloc, value, after, next),
+            Wanted::Keeps(value, next) => read_value(alloc, value, Kept::Assigned(value), next),
             Wanted::Fault(fault) => Ok(Err(fault)),
         }
     }
@@ -69,9 +68,9 @@ fn read_beside(
     level: Level,
     row: &Row,
 ) -> Tried {
-    let entry = row.before.entry(alloc)?;
-    let read = read_field(alloc, instr, entry.view(), row.bit, level, row.bytes, 0);
-    judged(rt, alloc, read, row.wanted)
+    let entry = row.1.entry(alloc)?;
+    let read = read_field(alloc, instr, entry.view(), row.2, level, row.3, 0);
+    judged(rt, alloc, read, row.4)
 }
 
 // What is found of one field where its entry lies.
@@ -118,10 +117,10 @@ fn read_within(
     level: Level,
     row: &Row,
 ) -> Tried {
-    let before = row.before.entry(alloc)?;
-    let mut entry = row.before.entry(alloc)?;
-    let found = found_in_place(alloc, instr, &mut entry, row.bit, level, row.bytes)?;
-    compared(rt, alloc, found, entry, before, row.wanted)
+    let before = row.1.entry(alloc)?;
+    let mut entry = row.1.entry(alloc)?;
+    let found = found_in_place(alloc, instr, &mut entry, row.2, level, row.3)?;
+    compared(rt, alloc, found, entry, before, row.4)
 }
 
 // Reads one field in both ways.
@@ -131,139 +130,162 @@ fn read_with(rt: &impl Abort, alloc: Global, instr: &FieldPart, level: Level, ro
 }
 
 fn read_so(rt: &impl Abort, alloc: Global, level: Level, row: &Row) -> Tried {
-    let instr = row.of.instr(alloc)?;
+    let instr = row.0.instr(alloc)?;
     read_with(rt, alloc, &instr, level, row)
-}
-
-pub(crate) fn all_read_at(rt: &impl Abort, alloc: Global, level: Level, rows: &[Row]) -> Tried {
-    for row in rows {
-        read_so(rt, alloc, level, row)?;
-    }
-    Ok(())
-}
-
-fn all_read(rt: &impl Abort, alloc: Global, rows: &[Row]) -> Tried {
-    all_read_at(rt, alloc, Level::Usual, rows)
 }
 
 #[test]
 fn fields_that_are_read(rt: HostRuntime) -> Tried {
-    const ROWS: &[Row] = rows! { Row { of, before, bit, bytes, wanted }:
+    const ROWS: &[Row] = rows! { Row:
         // increments go past the greatest
-        Mandatory(Kind::UInt32, Operator::Increment), Assigned(U32(4_294_967_295)), false, b"",
-            Present(U32(0), Assigned(U32(0)), 0);
-        Mandatory(Kind::Int32, Operator::Increment), Assigned(I32(i32::MAX)), false, b"",
-            Present(I32(i32::MIN), Assigned(I32(i32::MIN)), 0);
+        Mandatory(UInt32, Increment), Assigned(U32(4_294_967_295)), false, b"", Keeps(U32(0), 0);
+        Mandatory(Int32, Increment), Assigned(I32(i32::MAX)), false, b"", Keeps(I32(i32::MIN), 0);
         // copies of no value
-        Mandatory(Kind::Ascii, Operator::Copy), Undefined, false, b"", Fault(D5);
-        Mandatory(Kind::Ascii, Operator::Copy), Empty, false, b"", Fault(D6);
-        Optional(Kind::UInt32, Operator::Copy), Undefined, false, b"", Absent(Empty, 0);
+        Mandatory(Kind::Ascii, Copy), Undefined, false, b"", Fault(D5);
+        Mandatory(Kind::Ascii, Copy), Empty, false, b"", Fault(D6);
+        Optional(UInt32, Copy), Undefined, false, b"", Absent(Empty, 0);
         // copies on another type
-        Mandatory(Kind::UInt32, Operator::Copy), Assigned(Ascii(b"A")), false, b"", Fault(D4);
-        Mandatory(Kind::UInt32, Operator::Copy), Assigned(Ascii(b"A")), true, b"\x86",
-            Present(U32(6), Assigned(U32(6)), 1);
+        Mandatory(UInt32, Copy), Assigned(Ascii(b"A")), false, b"", Fault(D4);
+        Mandatory(UInt32, Copy), Assigned(Ascii(b"A")), true, b"\x86", Keeps(U32(6), 1);
         // defaults
-        Initial(Presence::Mandatory, Operator::Default, 3), Undefined, true, b"\x10\x00\x00\x00\x80", Fault(D2);
-        Initial(Presence::Mandatory, Operator::Default, 3), Undefined, true, b"\x10\x00\x00\x00", Fault(NeedMore);
-        Initial(Presence::Mandatory, Operator::Default, 3), Undefined, false, b"", Present(U32(3), Undefined, 0);
+        Initial(Presence::Mandatory, Default, 3), Undefined, true, b"\x10\x00\x00\x00\x80", Fault(D2);
+        Initial(Presence::Mandatory, Default, 3), Undefined, true, b"\x10\x00\x00\x00", Fault(NeedMore);
+        Initial(Presence::Mandatory, Default, 3), Undefined, false, b"", Present(U32(3), Undefined, 0);
         // copies of an initial value
-        Initial(Presence::Optional, Operator::Copy, 5), Empty, false, b"", Absent(Empty, 0);
-        Initial(Presence::Optional, Operator::Copy, 5), Undefined, false, b"", Present(U32(5), Assigned(U32(5)), 0);
+        Initial(Presence::Optional, Copy, 5), Empty, false, b"", Absent(Empty, 0);
+        Initial(Presence::Optional, Copy, 5), Undefined, false, b"", Keeps(U32(5), 0);
         // vectors
-        Optional(Kind::Bytes, Operator::Plain), Empty, true, b"\x83\x01\xff", Present(Bytes(b"\x01\xff"), Empty, 3);
+        Optional(Kind::Bytes, Plain), Empty, true, b"\x83\x01\xff", Present(Bytes(b"\x01\xff"), Empty, 3);
         // constants
-        Initial(Presence::Optional, Operator::Constant, 9), Undefined, false, b"", Absent(Undefined, 0);
-        Initial(Presence::Optional, Operator::Constant, 9), Undefined, true, b"", Present(U32(9), Undefined, 0);
+        Initial(Presence::Optional, Constant, 9), Undefined, false, b"", Absent(Undefined, 0);
+        Initial(Presence::Optional, Constant, 9), Undefined, true, b"", Present(U32(9), Undefined, 0);
         // string deltas
-        Mandatory(Kind::Ascii, Operator::Delta), Assigned(Ascii(b"ESM6")), true, b"\xff\x80",
-            Present(Ascii(b"ESM6"), Assigned(Ascii(b"ESM6")), 2);
-        Mandatory(Kind::Ascii, Operator::Delta), Assigned(Ascii(b"GEM6")), true, b"\xfd\x45\xd3",
-            Present(Ascii(b"ESM6"), Assigned(Ascii(b"ESM6")), 3);
-        Mandatory(Kind::Ascii, Operator::Delta), Assigned(Ascii(b"ESM6")), true, b"\x82\x5a\xb6",
-            Present(Ascii(b"ESZ6"), Assigned(Ascii(b"ESZ6")), 3);
+        Mandatory(Kind::Ascii, Delta), Assigned(Ascii(b"ESM6")), true, b"\xff\x80", Keeps(Ascii(b"ESM6"), 2);
+        Mandatory(Kind::Ascii, Delta), Assigned(Ascii(b"GEM6")), true, b"\xfd\x45\xd3", Keeps(Ascii(b"ESM6"), 3);
+        Mandatory(Kind::Ascii, Delta), Assigned(Ascii(b"ESM6")), true, b"\x82\x5a\xb6", Keeps(Ascii(b"ESZ6"), 3);
         // deltas that remove too much
-        Mandatory(Kind::Ascii, Operator::Delta), Assigned(Ascii(b"ESM6")), true, b"\x85\x80", Fault(D7);
+        Mandatory(Kind::Ascii, Delta), Assigned(Ascii(b"ESM6")), true, b"\x85\x80", Fault(D7);
         // number deltas
-        Mandatory(Kind::UInt32, Operator::Delta), Assigned(U32(4_294_967_295)), true, b"\x81", Fault(D2);
-        Mandatory(Kind::UInt32, Operator::Delta), Empty, true, b"\x81", Fault(D6);
+        Mandatory(UInt32, Delta), Assigned(U32(4_294_967_295)), true, b"\x81", Fault(D2);
+        Mandatory(UInt32, Delta), Empty, true, b"\x81", Fault(D6);
         // absent deltas
-        Optional(Kind::UInt32, Operator::Delta), Empty, true, b"\x80", Absent(Empty, 1);
-        Optional(Kind::UInt32, Operator::Delta), Assigned(U32(5)), true, b"\x80", Absent(Assigned(U32(5)), 1);
+        Optional(UInt32, Delta), Empty, true, b"\x80", Absent(Empty, 1);
+        Optional(UInt32, Delta), Assigned(U32(5)), true, b"\x80", Absent(Assigned(U32(5)), 1);
         // tails
-        Optional(Kind::Ascii, Operator::Tail), Assigned(Ascii(b"xab")), true, b"\x00\x00\x00\xe2",
-            Present(Ascii(b"x\0b"), Assigned(Ascii(b"x\0b")), 4);
+        Optional(Kind::Ascii, Tail), Assigned(Ascii(b"xab")), true, b"\x00\x00\x00\xe2", Keeps(Ascii(b"x\0b"), 4);
         // tails of text
-        Mandatory(Kind::Unicode, Operator::Tail), Assigned(Unicode("é")), true, b"\x81\xa8",
-            Present(Unicode("è"), Assigned(Unicode("è")), 2);
-        Mandatory(Kind::Unicode, Operator::Tail), Assigned(Unicode("è")), true, b"\x81\x41", Fault(R2);
+        Mandatory(Kind::Unicode, Tail), Assigned(Unicode("é")), true, b"\x81\xa8", Keeps(Unicode("è"), 2);
+        Mandatory(Kind::Unicode, Tail), Assigned(Unicode("è")), true, b"\x81\x41", Fault(R2);
         // a result that is too long before one that is no UTF-8
-        Mandatory(Kind::Unicode, Operator::Delta), Assigned(Letters(65_535)), true, b"\x80\x81\xff", Fault(Limit);
-        Mandatory(Kind::Unicode, Operator::Delta), Assigned(Letters(65_535)), true, b"\xff\x81\xff", Fault(Limit);
-        Mandatory(Kind::Unicode, Operator::Delta), Assigned(Letters(65_534)), true, b"\x80\x81\xff", Fault(R2);
-        Mandatory(Kind::Unicode, Operator::Delta), Assigned(Letters(65_535)), true, b"\x81\x81\xff", Fault(R2);
-        Mandatory(Kind::Unicode, Operator::Tail), Assigned(Letters(65_535)), true, b"\x81\xff", Fault(R2);
-        Mandatory(Kind::Unicode, Operator::Tail), Assigned(Letters(65_535)), true, b"\x04\x00\x80", Fault(Limit);
+        Mandatory(Kind::Unicode, Delta), Assigned(Letters(65_535)), true, b"\x80\x81\xff", Fault(Limit);
+        Mandatory(Kind::Unicode, Delta), Assigned(Letters(65_535)), true, b"\xff\x81\xff", Fault(Limit);
+        Mandatory(Kind::Unicode, Delta), Assigned(Letters(65_534)), true, b"\x80\x81\xff", Fault(R2);
+        Mandatory(Kind::Unicode, Delta), Assigned(Letters(65_535)), true, b"\x81\x81\xff", Fault(R2);
+        Mandatory(Kind::Unicode, Tail), Assigned(Letters(65_535)), true, b"\x81\xff", Fault(R2);
+        Mandatory(Kind::Unicode, Tail), Assigned(Letters(65_535)), true, b"\x04\x00\x80", Fault(Limit);
         // exponents
-        Exponent(Presence::Optional, Operator::Default, Some(2)), Undefined, true, b"\x80", Absent(Undefined, 1);
-        Exponent(Presence::Optional, Operator::Default, Some(2)), Undefined, true, b"\x00\xc0",
-            Present(I32(63), Undefined, 2);
-        Exponent(Presence::Optional, Operator::Default, Some(2)), Undefined, true, b"\x00\xc1", Fault(R1);
+        Exponent(Presence::Optional, Default, Some(2)), Undefined, true, b"\x80", Absent(Undefined, 1);
+        Exponent(Presence::Optional, Default, Some(2)), Undefined, true, b"\x00\xc0", Present(I32(63), Undefined, 2);
+        Exponent(Presence::Optional, Default, Some(2)), Undefined, true, b"\x00\xc1", Fault(R1);
         // whole decimals
-        Mandatory(Kind::Decimal, Operator::Copy), Undefined, true, b"\xfe\x39\x45\xa3",
-            Present(Decimal(-2, 942_755), Assigned(Decimal(-2, 942_755)), 4);
+        Mandatory(Kind::Decimal, Copy), Undefined, true, b"\xfe\x39\x45\xa3", Keeps(Decimal(-2, 942_755), 4);
         // decimal deltas
-        Mandatory(Kind::Decimal, Operator::Delta), Assigned(Decimal(-2, 7)), true, b"\x81\xfe",
-            Present(Decimal(-1, 5), Assigned(Decimal(-1, 5)), 2);
+        Mandatory(Kind::Decimal, Delta), Assigned(Decimal(-2, 7)), true, b"\x81\xfe", Keeps(Decimal(-1, 5), 2);
         // an exponent out of range is refused before a mantissa has come
-        Mandatory(Kind::Decimal, Operator::Delta), Undefined, true, b"\x00\xc0", Fault(R1);
+        Mandatory(Kind::Decimal, Delta), Undefined, true, b"\x00\xc0", Fault(R1);
         // lengths
-        Length(Operator::Copy), Assigned(U32(65_536)), false, b"", Fault(Limit);
+        Length(Copy), Assigned(U32(65_536)), false, b"", Fault(Limit);
     };
-    all_read(&rt, rt.alloc(), ROWS)
-}
-
-// The entry that a value of a field leaves on an entry of these characters.
-fn entry_after(
-    alloc: Global,
-    of: Shape,
-    text: &'static [u8],
-    value: Option<&Scalar>,
-) -> Tried<Entry> {
-    let kept = Kept::Assigned(Value::Ascii(text)).entry(alloc)?;
-    let instr = of.instr(alloc)?;
-    next_entry(alloc, &instr, kept.view(), value)
-}
-
-#[test]
-fn entries_after_a_value(rt: HostRuntime) -> Tried {
-    let alloc = rt.alloc();
-    let of = Shape::Mandatory(Kind::Ascii, Operator::Delta);
-    let value = ascii(alloc, b"ESM6")?;
-    let entry = entry_after(alloc, of, b"GEM6", Some(&value))?;
-    same(&rt, entry, Entry::Assigned(value));
-    Ok(())
-}
-
-// No value leaves this entry.
-fn left(rt: &impl Abort, alloc: Global, of: Shape, text: &'static [u8], after: Kept) -> Tried {
-    let entry = entry_after(alloc, of, text, None)?;
-    same(rt, entry, after.entry(alloc)?);
+    for row in ROWS {
+        read_so(&rt, rt.alloc(), Level::Usual, row)?;
+    }
     Ok(())
 }
 
 #[test]
-fn entries_after_an_absent_value(rt: HostRuntime) -> Tried {
-    let alloc = rt.alloc();
-    let of = Shape::Mandatory(Kind::Ascii, Operator::Delta);
-    left(
-        &rt,
-        alloc,
-        of,
-        b"GEM6",
-        Kept::Assigned(Value::Ascii(b"GEM6")),
-    )?;
-    let of = Shape::Optional(Kind::Ascii, Operator::Copy);
-    left(&rt, alloc, of, b"GEM6", Kept::Empty)
+fn fields_at_the_strict_level(rt: HostRuntime) -> Tried {
+    const ROWS: &[Row] = rows! { Row:
+        // overlong fields
+        Mandatory(UInt32, Plain), Undefined, true, b"\x00\x85", Fault(R6);
+        // an overlong NULL
+        Optional(UInt64, Copy), Undefined, true, b"\x00\x80", Fault(R6);
+        Mandatory(Int32, Plain), Undefined, true, b"\x00\xbf", Fault(R6);
+        Mandatory(Int64, Delta), Undefined, true, b"\x7f\xc0", Fault(R6);
+        Mandatory(Kind::Ascii, Copy), Undefined, true, b"\x00\xc1", Fault(R9);
+        Optional(Kind::Ascii, Tail), Undefined, true, b"\x00\x00\xc1", Fault(R9);
+        Mandatory(Kind::Bytes, Plain), Undefined, true, b"\x00\x81\x41", Fault(R6);
+        Optional(Kind::Unicode, Default), Undefined, true, b"\x00\x80", Fault(R6);
+        // a number of units to be removed, and a new part
+        Mandatory(Kind::Ascii, Delta), Undefined, true, b"\x00\x80\xc1", Fault(R6);
+        Optional(Kind::Ascii, Delta), Undefined, true, b"\x81\x00\xc1", Fault(R9);
+        Mandatory(Kind::Bytes, Delta), Undefined, true, b"\x80\x00\x81\x41", Fault(R6);
+        Mandatory(Kind::Unicode, Tail), Undefined, true, b"\x00\x81\x41", Fault(R6);
+        // an exponent, and a mantissa
+        Optional(Kind::Decimal, Plain), Undefined, true, b"\x00\x83\x81", Fault(R6);
+        Mandatory(Kind::Decimal, Delta), Undefined, true, b"\x82\x7f\xff", Fault(R6);
+        Exponent(Presence::Mandatory, Copy, None), Undefined, true, b"\x00\x82", Fault(R6);
+        Length(Plain), Undefined, true, b"\x00\x82", Fault(R6);
+        // fields that are just not
+        Mandatory(Int32, Plain), Undefined, true, b"\x00\xc0", Present(I32(64), Undefined, 2);
+        Mandatory(Int64, Plain), Undefined, true, b"\x7f\xbf", Present(I64(-65), Undefined, 2);
+        Mandatory(Kind::Ascii, Copy), Undefined, true, b"\x00\x80", Keeps(Ascii(b"\0"), 2);
+        Mandatory(Kind::Ascii, Copy), Undefined, true, b"\x00\x00\xc1", Keeps(Ascii(b"\0A"), 3);
+        Optional(Kind::Ascii, Copy), Undefined, true, b"\x00\x80", Keeps(Ascii(b""), 2);
+        Optional(Kind::Ascii, Copy), Undefined, true, b"\x00\x00\x80", Keeps(Ascii(b"\0"), 3);
+        // the new part has the form without NULL
+        Optional(Kind::Ascii, Delta), Undefined, true, b"\x81\x00\x00\xc1", Keeps(Ascii(b"\0A"), 4);
+        Mandatory(Kind::Decimal, Plain), Undefined, true, b"\x82\x00\x40\x81", Present(Decimal(2, 8193), Undefined, 4);
+        Optional(UInt32, Copy), Undefined, true, b"\x80", Absent(Empty, 1);
+        // bit 0 reads no byte
+        Mandatory(UInt32, Copy), Assigned(U32(7)), false, b"\x00\x80", Keeps(U32(7), 0);
+        // overlong before other faults
+        Mandatory(UInt32, Plain), Undefined, true, b"\x00\x10\x00\x00\x00\x80", Fault(R6);
+        Mandatory(UInt32, Plain), Undefined, true, b"\x10\x00\x00\x00\x80", Fault(D2);
+        Mandatory(UInt32, Plain), Undefined, true, b"\x00", Fault(NeedMore);
+        Mandatory(UInt32, Plain), Undefined, true, b"\x00\x00\x00\x00\x00\x00\x00\x00\x00\x00", Fault(Limit);
+        Length(Plain), Undefined, true, b"\x00\x04\x00\x80", Fault(R6);
+        Length(Plain), Undefined, true, b"\x04\x00\x80", Fault(Limit);
+        Mandatory(Kind::Ascii, Delta), Empty, true, b"\x00\x80\x80", Fault(R6);
+        // the base before the new part
+        Mandatory(Kind::Ascii, Delta), Empty, true, b"\x80\x00\xc1", Fault(D6);
+        Mandatory(Kind::Ascii, Tail), Assigned(U32(7)), true, b"\x00\xc1", Fault(R9);
+        Mandatory(Kind::Ascii, Tail), Assigned(U32(7)), true, b"\xc1", Fault(D4);
+        // before the bytes have come
+        Mandatory(Kind::Bytes, Plain), Undefined, true, b"\x00\x82\x41", Fault(R6);
+        Mandatory(Kind::Unicode, Plain), Undefined, true, b"\x00\x81\xff", Fault(R6);
+        // the exponent before the mantissa
+        Mandatory(Kind::Decimal, Plain), Undefined, true, b"\x00\xc0\x00\x81", Fault(R1);
+        Mandatory(Kind::Decimal, Plain), Undefined, true, b"\x00\x00\xc0", Fault(R6);
+    };
+    for row in ROWS {
+        read_so(&rt, rt.alloc(), Level::Strict, row)?;
+    }
+    Ok(())
+}
+
+// A field, its entry, a value, and the entry that the value leaves.
+struct Next(Shape, Kept, Option<Value>, Kept);
+
+fn leaves(rt: &impl Abort, alloc: Global, row: &Next) -> Tried {
+    let instr = row.0.instr(alloc)?;
+    let entry = row.1.entry(alloc)?;
+    let value = scalar_of(alloc, row.2)?;
+    let after = next_entry(alloc, &instr, entry.view(), value.as_ref())?;
+    is_kept(rt, alloc, &after, row.3)
+}
+
+#[test]
+fn entries_after_values(rt: HostRuntime) -> Tried {
+    const ROWS: &[Next] = rows! { Next:
+        Mandatory(Kind::Ascii, Delta), Assigned(Ascii(b"GEM6")), Some(Ascii(b"ESM6")), Assigned(Ascii(b"ESM6"));
+        // no value
+        Mandatory(Kind::Ascii, Delta), Assigned(Ascii(b"GEM6")), None, Assigned(Ascii(b"GEM6"));
+        Optional(Kind::Ascii, Copy), Assigned(Ascii(b"GEM6")), None, Empty;
+    };
+    for row in ROWS {
+        leaves(&rt, rt.alloc(), row)?;
+    }
+    Ok(())
 }
 
 // A copy of what was found.
@@ -289,7 +311,7 @@ fn copied(alloc: Global, instr: &FieldPart, kept: EntryRef) -> Tried<Option<Scal
 
 // The same where the field is an optional copy of characters.
 fn copy_kept(alloc: Global, kept: EntryRef) -> Tried<Option<Scalar>> {
-    let instr = Shape::Optional(Kind::Ascii, Operator::Copy).instr(alloc)?;
+    let instr = Optional(Kind::Ascii, Copy).instr(alloc)?;
     copied(alloc, &instr, kept)
 }
 
@@ -301,7 +323,7 @@ fn copy_in(alloc: Global, kept: Kept) -> Tried<Option<Scalar>> {
 #[test]
 fn values_that_lie_in_the_entry(rt: HostRuntime) -> Tried {
     let alloc = rt.alloc();
-    let value = copy_in(alloc, Kept::Assigned(Value::Ascii(b"GEM6")))?;
-    same(&rt, value, Some(ascii(alloc, b"GEM6")?));
+    let value = copy_in(alloc, Assigned(Ascii(b"GEM6")))?;
+    same(&rt, value, Some(Ascii(b"GEM6").scalar(alloc)?));
     Ok(())
 }

@@ -1,29 +1,26 @@
 //! Rows on fields that are best spelled otherwise than they stand, or are NULL.
 
+use crate::fields::Kept::{Assigned, Empty, Undefined};
+use crate::fields::Shape::{Initial, Mandatory, Optional};
+use crate::fields::Value::{Ascii, Bytes, Decimal, U32, Unicode};
 use crate::fields::{Kept, Shape, is_kept};
 use crate::judged::holds_scalar;
 use crate::same::same;
 use fast_dictionary::Entry;
 use fast_relay::{Best, judge_other};
+use fast_template::Kind::UInt32;
+use fast_template::Operator::{Constant, Copy, Default, Delta, Increment, Plain, Tail};
+use fast_template::{Kind, Operator, Presence};
 use std::alloc::{AllocError, Global};
 use std::process::Abort;
-use test_rows::Tried;
+use test_rows::{Tried, rows};
 
-// The bytes behind the first are read to their end, and these are the best form, under bit 1, or none, under bit 0.
-pub(crate) struct Relayed {
-    pub(crate) of: Shape,
-    pub(crate) before: Kept,
-    pub(crate) bytes: &'static [u8],
-    pub(crate) best: &'static [u8],
-    pub(crate) after: Kept,
-}
+// A field, its entry, bytes behind the first that are read to their end, those of the best form, under bit 1, or none, under
+// bit 0, and the entry afterwards.
+struct Relayed(Shape, Kept, &'static [u8], &'static [u8], Kept);
 
-// The bytes behind the first are left to the general way, and nothing has changed.
-pub(crate) struct NotRelayed {
-    pub(crate) of: Shape,
-    pub(crate) before: Kept,
-    pub(crate) bytes: &'static [u8],
-}
+// A field, its entry, and bytes behind the first that are left to the general way: nothing has changed.
+struct Left(Shape, Kept, &'static [u8]);
 
 // What is answered, and the entry afterwards.
 fn answer(alloc: Global, of: Shape, before: Kept, bytes: &[u8]) -> Tried<(Option<Best>, Entry)> {
@@ -39,40 +36,114 @@ fn answer(alloc: Global, of: Shape, before: Kept, bytes: &[u8]) -> Tried<(Option
 
 // Want of memory leaves all as it was, and ends the test.
 fn is_relayed(rt: &impl Abort, alloc: Global, there: bool, row: &Relayed) -> Tried {
-    let (best, entry) = answer(alloc, row.of, row.before, row.bytes)?;
+    let (best, entry) = answer(alloc, row.0, row.1, row.2)?;
     let Some(best) = best else {
-        is_kept(rt, alloc, &entry, row.before)?;
+        is_kept(rt, alloc, &entry, row.1)?;
         return Err(AllocError);
     };
     same(
         rt,
         (best.there, best.bit, best.next),
-        (there, !row.best.is_empty(), row.bytes.len()),
+        (there, !row.3.is_empty(), row.2.len()),
     );
     let behind = match best.removal {
-        None => row.best,
+        None => row.3,
         Some(removal) => {
-            same(rt, row.best.first(), Some(&removal));
-            &row.best[row.best.len().min(1)..]
+            same(rt, row.3.first(), Some(&removal));
+            &row.3[row.3.len().min(1)..]
         }
     };
-    same(rt, row.bytes.get(best.first..best.next), Some(behind));
-    is_kept(rt, alloc, &entry, row.after)
+    same(rt, row.2.get(best.first..best.next), Some(behind));
+    is_kept(rt, alloc, &entry, row.4)
 }
 
 // `there` says whether the values are.
-pub(crate) fn all_relayed(rt: &impl Abort, alloc: Global, there: bool, rows: &[Relayed]) -> Tried {
+fn all_relayed(rt: &impl Abort, alloc: Global, there: bool, rows: &[Relayed]) -> Tried {
     for row in rows {
         is_relayed(rt, alloc, there, row)?;
     }
     Ok(())
 }
 
-pub(crate) fn none_relayed(rt: &impl Abort, alloc: Global, rows: &[NotRelayed]) -> Tried {
+fn none_relayed(rt: &impl Abort, alloc: Global, rows: &[Left]) -> Tried {
     for row in rows {
-        let (best, entry) = answer(alloc, row.of, row.before, row.bytes)?;
+        let (best, entry) = answer(alloc, row.0, row.1, row.2)?;
         same(rt, best, None);
-        is_kept(rt, alloc, &entry, row.before)?;
+        is_kept(rt, alloc, &entry, row.1)?;
     }
     Ok(())
+}
+
+#[test]
+fn texts_that_are_relayed(rt: HostRuntime) -> Tried {
+    const RELAYED: &[Relayed] = rows! { Relayed:
+        // deltas
+        Mandatory(Kind::Ascii, Delta), Assigned(Ascii(b"ESM6")), b"\x00\x81\xb7", b"\x81\xb7", Assigned(Ascii(b"ESM7"));
+        // the same end, and as short a removal
+        Mandatory(Kind::Ascii, Delta), Assigned(Ascii(b"0012")), b"\x00\x82\x32\xb2", b"\x82\x32\xb2",
+            Assigned(Ascii(b"0022"));
+        // one more is removed than need be
+        Mandatory(Kind::Ascii, Delta), Assigned(Ascii(b"ESM6")), b"\x00\x82\x4d\xb7", b"\x81\xb7",
+            Assigned(Ascii(b"ESM7"));
+        // two more, behind an overlong removal, and a preamble stands in front of the part
+        Mandatory(Kind::Ascii, Delta), Assigned(Ascii(b"ESM6")), b"\x00\x00\x83\x00\x53\x4d\xb7", b"\x81\xb7",
+            Assigned(Ascii(b"ESM7"));
+    };
+    const OTHERS: &[Left] = rows! { Left:
+        // the rest goes the general way
+        // removed in front are fewer
+        Mandatory(Kind::Ascii, Delta), Assigned(Ascii(b"0012")), b"\x00\x84\x31\x30\x31\xb2";
+        // more is removed than there is
+        Mandatory(Kind::Ascii, Delta), Assigned(Ascii(b"ESM6")), b"\x00\x85\xb7";
+        // a tail
+        Mandatory(Kind::Ascii, Tail), Assigned(Ascii(b"xab")), b"\x00\xe2";
+        // what is spelled whole: an empty string, and one with no stop bit
+        Optional(Kind::Ascii, Copy), Assigned(Ascii(b"AB")), b"\x00\x00\x80";
+        Mandatory(Kind::Ascii, Copy), Assigned(Ascii(b"AB")), b"\x00\x41";
+        // Unicode strings and byte vectors
+        Mandatory(Kind::Unicode, Tail), Assigned(Unicode("üab")), b"\x00\x82\x61\x63";
+        Mandatory(Kind::Bytes, Delta), Assigned(Bytes(b"ESM6")), b"\x00\x84\x84\x58\x53\x4d\x36";
+    };
+    all_relayed(&rt, rt.alloc(), true, RELAYED)?;
+    none_relayed(&rt, rt.alloc(), OTHERS)
+}
+
+#[test]
+fn nulls_that_are_relayed(rt: HostRuntime) -> Tried {
+    const RELAYED: &[Relayed] = rows! { Relayed:
+        // null empties an entry
+        Optional(UInt32, Copy), Assigned(U32(7)), b"\xff\x80", b"\x80", Empty;
+        Optional(Kind::Ascii, Copy), Assigned(Ascii(b"AB")), b"\xff\x80", b"\x80", Empty;
+        Optional(Kind::Unicode, Tail), Assigned(Unicode("ü")), b"\xff\x80", b"\x80", Empty;
+        // bit 0 gives the initial value
+        Initial(Presence::Optional, Increment, 5), Undefined, b"\xff\x80", b"\x80", Empty;
+        // null leaves an entry
+        Optional(Kind::Decimal, Delta), Assigned(Decimal(-2, 7)), b"\xff\x80", b"\x80", Assigned(Decimal(-2, 7));
+        Optional(Kind::Bytes, Plain), Assigned(Bytes(b"AB")), b"\xff\x80", b"\x80", Assigned(Bytes(b"AB"));
+        // bit 0 gives the initial value
+        Initial(Presence::Optional, Default, 5), Undefined, b"\xff\x80", b"\x80", Undefined;
+        // bit 0 gives null
+        Optional(UInt32, Copy), Empty, b"\xff\x80", b"", Empty;
+        Optional(UInt32, Default), Assigned(U32(7)), b"\xff\x80", b"", Assigned(U32(7));
+        Optional(Kind::Ascii, Default), Undefined, b"\xff\x80", b"", Undefined;
+    };
+    const OTHERS: &[Left] = rows! { Left:
+        // what is not of the entry goes the general way
+        Optional(UInt32, Increment), Undefined, b"\xff\x80";
+        // the rest is no null
+        // the number 0
+        Mandatory(UInt32, Copy), Assigned(U32(7)), b"\xff\x80";
+        // a constant has no bytes
+        Optional(UInt32, Constant), Undefined, b"\xff\x80";
+        // an overlong NULL of a number
+        Optional(UInt32, Copy), Assigned(U32(7)), b"\xff\x00\x80";
+        // an overlong NULL of a string
+        Optional(Kind::Unicode, Copy), Assigned(Unicode("ü")), b"\xff\x00\x80";
+        // a value
+        Optional(UInt32, Copy), Assigned(U32(7)), b"\xff\x81";
+        // no byte
+        Optional(UInt32, Copy), Assigned(U32(7)), b"\xff";
+    };
+    all_relayed(&rt, rt.alloc(), false, RELAYED)?;
+    none_relayed(&rt, rt.alloc(), OTHERS)
 }

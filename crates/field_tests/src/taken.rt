@@ -1,490 +1,241 @@
 //! Rows on fields that are taken: each is as it is read, and its value is told from where it lies.
 
-use crate::fields::{Kept, Shape, Value, is_kept};
-use crate::judged::holds_scalar;
+use self::Wanted::{AsRead, Keeps, Tells};
+use crate::fields::Kept::{Assigned, Empty, Undefined};
+use crate::fields::Shape::{Initial, Length, Mandatory, Optional};
+use crate::fields::Value::{Ascii, Bytes, Decimal, I32, I64, U32, U64, Unicode};
+use crate::fields::{Kept, Shape, Value, are_such, is_kept};
 use crate::same::same;
 use crate::takes::is_taken;
-use crate::ways::is_part;
+use fast_dictionary::Entry;
 use fast_field::{FieldFault, Level};
 use fast_take::{Aside, Room, take};
-use fast_template::{Kind, Operator, Presence};
+use fast_template::Kind::{Int32, Int64, UInt32, UInt64};
+use fast_template::Operator::{Constant, Copy, Default, Delta, Increment, Plain, Tail};
+use fast_template::{FieldPart, Kind, Operator, Presence};
 use std::alloc::{AllocError, Global};
 use std::process::Abort;
+use test_rows::{Tried, rows};
 
-// The bytes behind the first are taken to their end, and give this value and this entry; none: what is read of them says.
-struct Row {
-    of: Shape,
-    before: Kept,
-    bytes: &'static [u8],
-    gives: Option<(Value, Kept)>,
+// A field, its entry, and what the bytes behind the first give, to their end.
+#[derive(Clone, Copy)]
+struct Row(Shape, Kept, &'static [u8], Wanted);
+
+#[derive(Clone, Copy)]
+enum Wanted {
+    // This value, which the entry has afterwards, or which leaves it as it was.
+    Keeps(Value),
+    Tells(Value),
+    // What is read of them says.
+    AsRead,
 }
 
-// What a row says of a field's value and entry.
+// What is told of a field that is taken, and its entry.
 fn gives(
     rt: &impl Abort,
     alloc: Global,
-    row: &Row,
+    instr: &FieldPart,
+    before: Kept,
+    bytes: &[u8],
     value: Value,
     after: Kept,
     room: &mut Room,
-) -> Result<(), AllocError> {
-    let instr = row.of.instr(alloc)?;
-    let mut entry = row.before.entry(alloc)?;
+) -> Tried {
+    let mut entry = before.entry(alloc)?;
     let mut aside = Aside::new(alloc);
-    let at = row.bytes.len().min(1);
-    if !holds_scalar(&entry) || !is_part(instr.part, &instr) {
-        same(rt, false, true);
+    let at = bytes.len().min(1);
+    if !are_such(rt, instr, &entry) {
         return Ok(());
     }
     let took = match take(
         alloc,
-        &instr,
+        instr,
         &mut entry,
         true,
         Level::Usual,
-        row.bytes,
+        bytes,
         at,
         &mut aside,
     ) {
         Ok(took) => took,
-        Err(FieldFault::Memory) => return Err(AllocError),
-        Err(_) => {
-            same(rt, false, true);
-            return Ok(());
+        Err(fault) => {
+            same(rt, fault, FieldFault::Memory);
+            return Err(AllocError);
         }
     };
-    same(rt, took.place(), row.bytes.len());
+    same(rt, took.place(), bytes.len());
     let wanted = Some(value.scalar(alloc)?);
-    let told = aside.value(alloc, took, &instr, &entry, true, row.bytes, room)?;
+    let told = aside.value(alloc, took, instr, &entry, true, bytes, room)?;
     same(rt, told, wanted.as_ref());
-    let copy = aside.copied_value(alloc, took, &instr, &entry, true, row.bytes)?;
+    let copy = aside.copied_value(alloc, took, instr, &entry, true, bytes)?;
     same(rt, copy, wanted);
     is_kept(rt, alloc, &entry, after)
 }
 
-fn all_taken(rt: &impl Abort, alloc: Global, rows: &[Row]) -> Result<(), AllocError> {
+fn is_so(
+    rt: &impl Abort,
+    alloc: Global,
+    instr: &FieldPart,
+    entry: &Entry,
+    row: &Row,
+    aside: &mut Aside,
+    room: &mut Room,
+) -> Tried {
+    if !are_such(rt, instr, entry) {
+        return Ok(());
+    }
+    let Row(_, before, bytes, wanted) = *row;
+    let at = bytes.len().min(1);
+    is_taken(
+        rt,
+        alloc,
+        instr,
+        entry,
+        true,
+        Level::Usual,
+        bytes,
+        at,
+        aside,
+    )?;
+    let (value, after) = match wanted {
+        Wanted::Keeps(value) => (value, Kept::Assigned(value)),
+        Wanted::Tells(value) => (value, before),
+        Wanted::AsRead => return Ok(()),
+    };
+    gives(rt, alloc, instr, before, bytes, value, after, room)
+}
+
+fn all_taken(rt: &impl Abort, alloc: Global, rows: &[Row]) -> Tried {
     let mut aside = Aside::new(alloc);
     let mut room = Room::new(alloc);
     for row in rows {
-        let instr = row.of.instr(alloc)?;
-        let entry = row.before.entry(alloc)?;
-        if !is_part(instr.part, &instr) {
-            same(rt, false, true);
-            return Ok(());
-        }
-        let at = row.bytes.len().min(1);
-        is_taken(
-            rt,
-            alloc,
-            &instr,
-            &entry,
-            true,
-            Level::Usual,
-            row.bytes,
-            at,
-            &mut aside,
-        )?;
-        if let Some((value, after)) = row.gives {
-            gives(rt, alloc, row, value, after, &mut room)?;
-        }
+        let instr = row.0.instr(alloc)?;
+        let entry = row.1.entry(alloc)?;
+        is_so(rt, alloc, &instr, &entry, row, &mut aside, &mut room)?;
     }
     Ok(())
 }
 
 #[test]
-fn numbers_that_are_taken(rt: HostRuntime) -> Result<(), AllocError> {
-    const ROWS: &[Row] = &[
+fn numbers_that_are_taken(rt: HostRuntime) -> Tried {
+    const ROWS: &[Row] = rows! { Row:
         // numbers are taken
-        Row {
-            of: Shape::Mandatory(Kind::UInt32, Operator::Plain),
-            before: Kept::Assigned(Value::U32(7)),
-            bytes: &[0xff, 0x39, 0x45, 0xa3],
-            gives: Some((Value::U32(942_755), Kept::Assigned(Value::U32(7)))),
-        },
-        Row {
-            of: Shape::Optional(Kind::UInt32, Operator::Copy),
-            before: Kept::Undefined,
-            bytes: &[0xff, 0x82],
-            gives: Some((Value::U32(1), Kept::Assigned(Value::U32(1)))),
-        },
-        Row {
-            of: Shape::Mandatory(Kind::Int64, Operator::Increment),
-            before: Kept::Empty,
-            bytes: &[0xff, 0xff],
-            gives: Some((Value::I64(-1), Kept::Assigned(Value::I64(-1)))),
-        },
-        Row {
-            of: Shape::Initial(Presence::Mandatory, Operator::Default, 5),
-            before: Kept::Undefined,
-            bytes: &[0xff, 0x85],
-            gives: Some((Value::U32(5), Kept::Undefined)),
-        },
-        Row {
-            of: Shape::Mandatory(Kind::Int32, Operator::Delta),
-            before: Kept::Assigned(Value::I32(5)),
-            bytes: &[0xff, 0xfe],
-            gives: Some((Value::I32(3), Kept::Assigned(Value::I32(3)))),
-        },
-        Row {
-            of: Shape::Optional(Kind::UInt64, Operator::Delta),
-            before: Kept::Assigned(Value::U64(9)),
-            bytes: &[0xff, 0x82],
-            gives: Some((Value::U64(10), Kept::Assigned(Value::U64(10)))),
-        },
+        Mandatory(UInt32, Plain), Assigned(U32(7)), b"\xff\x39\x45\xa3", Tells(U32(942_755));
+        Optional(UInt32, Copy), Undefined, b"\xff\x82", Keeps(U32(1));
+        Mandatory(Int64, Increment), Empty, b"\xff\xff", Keeps(I64(-1));
+        Initial(Presence::Mandatory, Default, 5), Undefined, b"\xff\x85", Tells(U32(5));
+        Mandatory(Int32, Delta), Assigned(I32(5)), b"\xff\xfe", Keeps(I32(3));
+        Optional(UInt64, Delta), Assigned(U64(9)), b"\xff\x82", Keeps(U64(10));
         // what is as it is read
         // NULL
-        Row {
-            of: Shape::Optional(Kind::UInt32, Operator::Copy),
-            before: Kept::Assigned(Value::U32(7)),
-            bytes: &[0xff, 0x80],
-            gives: None,
-        },
+        Optional(UInt32, Copy), Assigned(U32(7)), b"\xff\x80", AsRead;
         // the bytes end
-        Row {
-            of: Shape::Mandatory(Kind::UInt32, Operator::Copy),
-            before: Kept::Assigned(Value::U32(7)),
-            bytes: &[0xff, 0x01],
-            gives: None,
-        },
+        Mandatory(UInt32, Copy), Assigned(U32(7)), b"\xff\x01", AsRead;
         // 4,294,967,296 is no uInt32
-        Row {
-            of: Shape::Mandatory(Kind::UInt32, Operator::Plain),
-            before: Kept::Undefined,
-            bytes: &[0xff, 0x10, 0x00, 0x00, 0x00, 0x80],
-            gives: None,
-        },
+        Mandatory(UInt32, Plain), Undefined, b"\xff\x10\x00\x00\x00\x80", AsRead;
         // nor is one less than 0
-        Row {
-            of: Shape::Mandatory(Kind::UInt32, Operator::Delta),
-            before: Kept::Assigned(Value::U32(0)),
-            bytes: &[0xff, 0xff],
-            gives: None,
-        },
+        Mandatory(UInt32, Delta), Assigned(U32(0)), b"\xff\xff", AsRead;
         // a length of 65,536
-        Row {
-            of: Shape::Length(Operator::Plain),
-            before: Kept::Undefined,
-            bytes: &[0xff, 0x04, 0x00, 0x80],
-            gives: None,
-        },
-        Row {
-            of: Shape::Mandatory(Kind::Ascii, Operator::Plain),
-            before: Kept::Undefined,
-            bytes: &[0xff, 0xc1],
-            gives: None,
-        },
-        Row {
-            of: Shape::Initial(Presence::Mandatory, Operator::Constant, 5),
-            before: Kept::Undefined,
-            bytes: &[0xff, 0x85],
-            gives: None,
-        },
-    ];
+        Length(Plain), Undefined, b"\xff\x04\x00\x80", AsRead;
+        Mandatory(Kind::Ascii, Plain), Undefined, b"\xff\xc1", AsRead;
+        Initial(Presence::Mandatory, Constant, 5), Undefined, b"\xff\x85", AsRead;
+    };
     all_taken(&rt, rt.alloc(), ROWS)
 }
 
 #[test]
-fn decimals_that_are_taken(rt: HostRuntime) -> Result<(), AllocError> {
-    const ROWS: &[Row] = &[
+fn decimals_that_are_taken(rt: HostRuntime) -> Tried {
+    const ROWS: &[Row] = rows! { Row:
         // an exponent and a mantissa, whole
-        Row {
-            of: Shape::Mandatory(Kind::Decimal, Operator::Copy),
-            before: Kept::Assigned(Value::Decimal(1, 5)),
-            bytes: &[0xff, 0xfe, 0x39, 0x45, 0xa3],
-            gives: Some((
-                Value::Decimal(-2, 942_755),
-                Kept::Assigned(Value::Decimal(-2, 942_755)),
-            )),
-        },
-        Row {
-            of: Shape::Optional(Kind::Decimal, Operator::Copy),
-            before: Kept::Assigned(Value::Decimal(1, 5)),
-            bytes: &[0xff, 0x83, 0x84],
-            gives: Some((Value::Decimal(2, 4), Kept::Assigned(Value::Decimal(2, 4)))),
-        },
+        Mandatory(Kind::Decimal, Copy), Assigned(Decimal(1, 5)), b"\xff\xfe\x39\x45\xa3", Keeps(Decimal(-2, 942_755));
+        Optional(Kind::Decimal, Copy), Assigned(Decimal(1, 5)), b"\xff\x83\x84", Keeps(Decimal(2, 4));
         // and what is added to both
-        Row {
-            of: Shape::Mandatory(Kind::Decimal, Operator::Delta),
-            before: Kept::Assigned(Value::Decimal(-2, 942_755)),
-            bytes: &[0xff, 0x80, 0x85],
-            gives: Some((
-                Value::Decimal(-2, 942_760),
-                Kept::Assigned(Value::Decimal(-2, 942_760)),
-            )),
-        },
-        Row {
-            of: Shape::Optional(Kind::Decimal, Operator::Delta),
-            before: Kept::Assigned(Value::Decimal(-2, 942_755)),
-            bytes: &[0xff, 0xff, 0xfb],
-            gives: Some((
-                Value::Decimal(-3, 942_750),
-                Kept::Assigned(Value::Decimal(-3, 942_750)),
-            )),
-        },
+        Mandatory(Kind::Decimal, Delta), Assigned(Decimal(-2, 942_755)), b"\xff\x80\x85", Keeps(Decimal(-2, 942_760));
+        Optional(Kind::Decimal, Delta), Assigned(Decimal(-2, 942_755)), b"\xff\xff\xfb", Keeps(Decimal(-3, 942_750));
         // what is as it is read
         // NULL
-        Row {
-            of: Shape::Optional(Kind::Decimal, Operator::Copy),
-            before: Kept::Assigned(Value::Decimal(1, 5)),
-            bytes: &[0xff, 0x80],
-            gives: None,
-        },
+        Optional(Kind::Decimal, Copy), Assigned(Decimal(1, 5)), b"\xff\x80", AsRead;
         // the bytes end
-        Row {
-            of: Shape::Mandatory(Kind::Decimal, Operator::Copy),
-            before: Kept::Assigned(Value::Decimal(1, 5)),
-            bytes: &[0xff, 0x82, 0x05],
-            gives: None,
-        },
+        Mandatory(Kind::Decimal, Copy), Assigned(Decimal(1, 5)), b"\xff\x82\x05", AsRead;
         // an exponent of 64, sent or as a sum
-        Row {
-            of: Shape::Mandatory(Kind::Decimal, Operator::Copy),
-            before: Kept::Assigned(Value::Decimal(1, 5)),
-            bytes: &[0xff, 0x00, 0xc0, 0x85],
-            gives: None,
-        },
-        Row {
-            of: Shape::Mandatory(Kind::Decimal, Operator::Delta),
-            before: Kept::Assigned(Value::Decimal(63, 5)),
-            bytes: &[0xff, 0x81, 0x80],
-            gives: None,
-        },
+        Mandatory(Kind::Decimal, Copy), Assigned(Decimal(1, 5)), b"\xff\x00\xc0\x85", AsRead;
+        Mandatory(Kind::Decimal, Delta), Assigned(Decimal(63, 5)), b"\xff\x81\x80", AsRead;
         // nothing is kept that is added to
-        Row {
-            of: Shape::Mandatory(Kind::Decimal, Operator::Delta),
-            before: Kept::Undefined,
-            bytes: &[0xff, 0x80, 0x85],
-            gives: None,
-        },
+        Mandatory(Kind::Decimal, Delta), Undefined, b"\xff\x80\x85", AsRead;
         // an operator that keeps nothing
-        Row {
-            of: Shape::Mandatory(Kind::Decimal, Operator::Plain),
-            before: Kept::Undefined,
-            bytes: &[0xff, 0x82, 0x85],
-            gives: None,
-        },
-    ];
+        Mandatory(Kind::Decimal, Plain), Undefined, b"\xff\x82\x85", AsRead;
+    };
     all_taken(&rt, rt.alloc(), ROWS)
 }
 
 #[test]
-fn numbers_and_strings_that_are_kept(rt: HostRuntime) -> Result<(), AllocError> {
-    const ROWS: &[Row] = &[
+fn numbers_and_strings_that_are_kept(rt: HostRuntime) -> Tried {
+    const ROWS: &[Row] = rows! { Row:
         // numbers, whole, added to and counted on
-        Row {
-            of: Shape::Mandatory(Kind::Int64, Operator::Copy),
-            before: Kept::Undefined,
-            bytes: &[0xff, 0x82],
-            gives: Some((Value::I64(2), Kept::Assigned(Value::I64(2)))),
-        },
-        Row {
-            of: Shape::Optional(Kind::UInt64, Operator::Delta),
-            before: Kept::Assigned(Value::U64(9)),
-            bytes: &[0xff, 0x82],
-            gives: Some((Value::U64(10), Kept::Assigned(Value::U64(10)))),
-        },
-        Row {
-            of: Shape::Mandatory(Kind::UInt32, Operator::Increment),
-            before: Kept::Assigned(Value::U32(7)),
-            bytes: &[0xff, 0x39, 0x45, 0xa3],
-            gives: Some((Value::U32(942_755), Kept::Assigned(Value::U32(942_755)))),
-        },
+        Mandatory(Int64, Copy), Undefined, b"\xff\x82", Keeps(I64(2));
+        Optional(UInt64, Delta), Assigned(U64(9)), b"\xff\x82", Keeps(U64(10));
+        Mandatory(UInt32, Increment), Assigned(U32(7)), b"\xff\x39\x45\xa3", Keeps(U32(942_755));
         // one that bit 0 gives, and one behind a needless group
-        Row {
-            of: Shape::Mandatory(Kind::UInt32, Operator::Copy),
-            before: Kept::Assigned(Value::U32(7)),
-            bytes: &[0xff, 0x87],
-            gives: Some((Value::U32(7), Kept::Assigned(Value::U32(7)))),
-        },
-        Row {
-            of: Shape::Mandatory(Kind::UInt32, Operator::Copy),
-            before: Kept::Assigned(Value::U32(7)),
-            bytes: &[0xff, 0x00, 0x85],
-            gives: Some((Value::U32(5), Kept::Assigned(Value::U32(5)))),
-        },
+        Mandatory(UInt32, Copy), Assigned(U32(7)), b"\xff\x87", Keeps(U32(7));
+        Mandatory(UInt32, Copy), Assigned(U32(7)), b"\xff\x00\x85", Keeps(U32(5));
         // characters
-        Row {
-            of: Shape::Mandatory(Kind::Ascii, Operator::Copy),
-            before: Kept::Assigned(Value::Ascii(b"AB")),
-            bytes: &[0xff, 0xc3],
-            gives: Some((Value::Ascii(b"C"), Kept::Assigned(Value::Ascii(b"C")))),
-        },
-        Row {
-            of: Shape::Mandatory(Kind::Ascii, Operator::Tail),
-            before: Kept::Assigned(Value::Ascii(b"AB")),
-            bytes: &[0xff, 0xc3],
-            gives: Some((Value::Ascii(b"AC"), Kept::Assigned(Value::Ascii(b"AC")))),
-        },
+        Mandatory(Kind::Ascii, Copy), Assigned(Ascii(b"AB")), b"\xff\xc3", Keeps(Ascii(b"C"));
+        Mandatory(Kind::Ascii, Tail), Assigned(Ascii(b"AB")), b"\xff\xc3", Keeps(Ascii(b"AC"));
         // what is as it is read: NULL, and an operator that keeps nothing
-        Row {
-            of: Shape::Optional(Kind::UInt32, Operator::Copy),
-            before: Kept::Assigned(Value::U32(7)),
-            bytes: &[0xff, 0x80],
-            gives: None,
-        },
-        Row {
-            of: Shape::Mandatory(Kind::Ascii, Operator::Plain),
-            before: Kept::Undefined,
-            bytes: &[0xff, 0xc3],
-            gives: None,
-        },
-    ];
+        Optional(UInt32, Copy), Assigned(U32(7)), b"\xff\x80", AsRead;
+        Mandatory(Kind::Ascii, Plain), Undefined, b"\xff\xc3", AsRead;
+    };
     all_taken(&rt, rt.alloc(), ROWS)
 }
 
 #[test]
-fn vectors_that_are_taken(rt: HostRuntime) -> Result<(), AllocError> {
-    const ROWS: &[Row] = &[
+fn vectors_that_are_taken(rt: HostRuntime) -> Tried {
+    const ROWS: &[Row] = rows! { Row:
         // bytes and characters, whole
-        Row {
-            of: Shape::Mandatory(Kind::Bytes, Operator::Copy),
-            before: Kept::Empty,
-            bytes: &[0xff, 0x82, 0x41, 0x42],
-            gives: Some((Value::Bytes(b"AB"), Kept::Assigned(Value::Bytes(b"AB")))),
-        },
-        Row {
-            of: Shape::Optional(Kind::Unicode, Operator::Copy),
-            before: Kept::Assigned(Value::Unicode("AB")),
-            bytes: &[0xff, 0x83, 0xc3, 0xbc],
-            gives: Some((Value::Unicode("ü"), Kept::Assigned(Value::Unicode("ü")))),
-        },
+        Mandatory(Kind::Bytes, Copy), Empty, b"\xff\x82\x41\x42", Keeps(Bytes(b"AB"));
+        Optional(Kind::Unicode, Copy), Assigned(Unicode("AB")), b"\xff\x83\xc3\xbc", Keeps(Unicode("ü"));
         // a new end
-        Row {
-            of: Shape::Mandatory(Kind::Unicode, Operator::Tail),
-            before: Kept::Assigned(Value::Unicode("AB")),
-            bytes: &[0xff, 0x81, 0x43],
-            gives: Some((Value::Unicode("AC"), Kept::Assigned(Value::Unicode("AC")))),
-        },
+        Mandatory(Kind::Unicode, Tail), Assigned(Unicode("AB")), b"\xff\x81\x43", Keeps(Unicode("AC"));
         // a removal at the end, and a new part
-        Row {
-            of: Shape::Mandatory(Kind::Bytes, Operator::Delta),
-            before: Kept::Assigned(Value::Bytes(b"AB")),
-            bytes: &[0xff, 0x81, 0x82, 0x43, 0x44],
-            gives: Some((Value::Bytes(b"ACD"), Kept::Assigned(Value::Bytes(b"ACD")))),
-        },
-        Row {
-            of: Shape::Optional(Kind::Unicode, Operator::Delta),
-            before: Kept::Assigned(Value::Unicode("AB")),
-            bytes: &[0xff, 0x81, 0x81, 0x43],
-            gives: Some((Value::Unicode("ABC"), Kept::Assigned(Value::Unicode("ABC")))),
-        },
+        Mandatory(Kind::Bytes, Delta), Assigned(Bytes(b"AB")), b"\xff\x81\x82\x43\x44", Keeps(Bytes(b"ACD"));
+        Optional(Kind::Unicode, Delta), Assigned(Unicode("AB")), b"\xff\x81\x81\x43", Keeps(Unicode("ABC"));
         // what is as it is read
         // NULL
-        Row {
-            of: Shape::Optional(Kind::Bytes, Operator::Copy),
-            before: Kept::Assigned(Value::Bytes(b"AB")),
-            bytes: &[0xff, 0x80],
-            gives: None,
-        },
+        Optional(Kind::Bytes, Copy), Assigned(Bytes(b"AB")), b"\xff\x80", AsRead;
         // the bytes end
-        Row {
-            of: Shape::Mandatory(Kind::Bytes, Operator::Copy),
-            before: Kept::Assigned(Value::Bytes(b"AB")),
-            bytes: &[0xff, 0x82, 0x43],
-            gives: None,
-        },
+        Mandatory(Kind::Bytes, Copy), Assigned(Bytes(b"AB")), b"\xff\x82\x43", AsRead;
         // no UTF-8
-        Row {
-            of: Shape::Mandatory(Kind::Unicode, Operator::Copy),
-            before: Kept::Assigned(Value::Unicode("AB")),
-            bytes: &[0xff, 0x81, 0xc3],
-            gives: None,
-        },
+        Mandatory(Kind::Unicode, Copy), Assigned(Unicode("AB")), b"\xff\x81\xc3", AsRead;
         // an end that is longer than what is kept
-        Row {
-            of: Shape::Mandatory(Kind::Bytes, Operator::Tail),
-            before: Kept::Assigned(Value::Bytes(b"A")),
-            bytes: &[0xff, 0x82, 0x42, 0x43],
-            gives: None,
-        },
+        Mandatory(Kind::Bytes, Tail), Assigned(Bytes(b"A")), b"\xff\x82\x42\x43", AsRead;
         // a removal in front, and one of more than is kept
-        Row {
-            of: Shape::Mandatory(Kind::Bytes, Operator::Delta),
-            before: Kept::Assigned(Value::Bytes(b"AB")),
-            bytes: &[0xff, 0xfe, 0x81, 0x43],
-            gives: None,
-        },
-        Row {
-            of: Shape::Mandatory(Kind::Bytes, Operator::Delta),
-            before: Kept::Assigned(Value::Bytes(b"AB")),
-            bytes: &[0xff, 0x83, 0x81, 0x43],
-            gives: None,
-        },
+        Mandatory(Kind::Bytes, Delta), Assigned(Bytes(b"AB")), b"\xff\xfe\x81\x43", AsRead;
+        Mandatory(Kind::Bytes, Delta), Assigned(Bytes(b"AB")), b"\xff\x83\x81\x43", AsRead;
         // nothing is kept that has an end
-        Row {
-            of: Shape::Mandatory(Kind::Bytes, Operator::Tail),
-            before: Kept::Undefined,
-            bytes: &[0xff, 0x81, 0x43],
-            gives: None,
-        },
+        Mandatory(Kind::Bytes, Tail), Undefined, b"\xff\x81\x43", AsRead;
         // an operator that keeps nothing
-        Row {
-            of: Shape::Mandatory(Kind::Bytes, Operator::Plain),
-            before: Kept::Undefined,
-            bytes: &[0xff, 0x81, 0x43],
-            gives: None,
-        },
-    ];
+        Mandatory(Kind::Bytes, Plain), Undefined, b"\xff\x81\x43", AsRead;
+    };
     all_taken(&rt, rt.alloc(), ROWS)
 }
 
 #[test]
-fn strings_that_are_taken_aside(rt: HostRuntime) -> Result<(), AllocError> {
-    const ROWS: &[Row] = &[
+fn strings_that_are_taken_aside(rt: HostRuntime) -> Tried {
+    const ROWS: &[Row] = rows! { Row:
         // characters in the place of others, as many or not
-        Row {
-            of: Shape::Mandatory(Kind::Ascii, Operator::Plain),
-            before: Kept::Undefined,
-            bytes: &[0xff, 0x41, 0xc2],
-            gives: Some((Value::Ascii(b"AB"), Kept::Undefined)),
-        },
-        Row {
-            of: Shape::Optional(Kind::Ascii, Operator::Plain),
-            before: Kept::Undefined,
-            bytes: &[0xff, 0x41, 0xc2],
-            gives: Some((Value::Ascii(b"AB"), Kept::Undefined)),
-        },
-        Row {
-            of: Shape::Optional(Kind::Ascii, Operator::Default),
-            before: Kept::Undefined,
-            bytes: &[0xff, 0x41, 0x42, 0xc3],
-            gives: Some((Value::Ascii(b"ABC"), Kept::Undefined)),
-        },
+        Mandatory(Kind::Ascii, Plain), Undefined, b"\xff\x41\xc2", Tells(Ascii(b"AB"));
+        Optional(Kind::Ascii, Plain), Undefined, b"\xff\x41\xc2", Tells(Ascii(b"AB"));
+        Optional(Kind::Ascii, Default), Undefined, b"\xff\x41\x42\xc3", Tells(Ascii(b"ABC"));
         // what is as it is read
         // NULL
-        Row {
-            of: Shape::Optional(Kind::Ascii, Operator::Plain),
-            before: Kept::Undefined,
-            bytes: &[0xff, 0x80],
-            gives: None,
-        },
+        Optional(Kind::Ascii, Plain), Undefined, b"\xff\x80", AsRead;
         // the bytes end
-        Row {
-            of: Shape::Mandatory(Kind::Ascii, Operator::Plain),
-            before: Kept::Undefined,
-            bytes: &[0xff, 0x41, 0x42],
-            gives: None,
-        },
+        Mandatory(Kind::Ascii, Plain), Undefined, b"\xff\x41\x42", AsRead;
         // an operator that keeps it
-        Row {
-            of: Shape::Mandatory(Kind::Ascii, Operator::Copy),
-            before: Kept::Undefined,
-            bytes: &[0xff, 0x41, 0xc2],
-            gives: None,
-        },
+        Mandatory(Kind::Ascii, Copy), Undefined, b"\xff\x41\xc2", AsRead;
         // another value, and another type
-        Row {
-            of: Shape::Mandatory(Kind::Ascii, Operator::Plain),
-            before: Kept::Undefined,
-            bytes: &[0xff, 0x41, 0xc2],
-            gives: None,
-        },
-        Row {
-            of: Shape::Mandatory(Kind::Bytes, Operator::Plain),
-            before: Kept::Undefined,
-            bytes: &[0xff, 0x81, 0x43],
-            gives: None,
-        },
-    ];
+        Mandatory(Kind::Ascii, Plain), Undefined, b"\xff\x41\xc2", AsRead;
+        Mandatory(Kind::Bytes, Plain), Undefined, b"\xff\x81\x43", AsRead;
+    };
     all_taken(&rt, rt.alloc(), ROWS)
 }

@@ -16,6 +16,7 @@ use fast_template::{FieldPart, Kind, Operator, Part, Presence, Scalar, part_need
 use std::alloc::{AllocError, Global};
 use std::process::Abort;
 use template_tests::generated::Numbers;
+use test_rows::Tried;
 
 // How many fields of an instruction follow one another.
 const FIELDS: u32 = 48;
@@ -85,7 +86,7 @@ pub(crate) fn is_taken(
     bytes: &[u8],
     at: usize,
     aside: &mut Aside,
-) -> Result<(Entry, Option<usize>), AllocError>
+) -> Tried<(Entry, Option<usize>)>
     requires place { at ≤ length bytes.now }
     requires bit { IsBitOf instr.now bit }
     requires part { IsFieldPart instr.now }
@@ -139,7 +140,7 @@ fn all_taken(
     which: Part,
     instr: &FieldPart,
     level: Level,
-) -> Result<(), AllocError> {
+) -> Tried {
     let mut aside = Aside::new(alloc);
     let mut entry = Entry::Undefined;
     if !is_part(which, instr) {
@@ -183,14 +184,13 @@ fn instructions_taken(
     presence: Presence,
     operator: Operator,
     initial: Value,
-) -> Result<(), AllocError> {
+) -> Tried {
     if !applies_to(operator, kind) {
         return Ok(());
     }
     for level in [Level::Usual, Level::Strict] {
         if which != Part::Exponent {
-            let value = Some(initial.scalar(alloc)?);
-            let instr = part_of(alloc, which, kind, presence, operator, value)?;
+            let instr = part_of(alloc, which, kind, presence, operator, Some(initial))?;
             all_taken(rt, alloc, numbers, which, &instr, level)?;
         }
         if !needs_initial(operator, presence) {
@@ -202,7 +202,7 @@ fn instructions_taken(
 }
 
 #[test]
-fn generated_fields_are_taken_as_they_are_read(rt: HostRuntime) -> Result<(), AllocError> {
+fn generated_fields_are_taken_as_they_are_read(rt: HostRuntime) -> Tried {
     let mut numbers = Numbers::new(2);
     for (which, kind, initial) in PARTS {
         for operator in OPERATORS {

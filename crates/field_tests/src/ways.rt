@@ -2,11 +2,12 @@
 //! types and presences, bits that say what they need not, needless groups and characters, bytes that no field has, and fields
 //! that have not wholly come.
 
-ghost use Rattle.std.specs.Prelude.{◌≡◌, ◌≤◌, true, false, length, IfSome, IsSome};
+ghost use Rattle.std.specs.Prelude.{◌≡◌, ◌≤◌, IsTrue, true, false, length, IfSome, IsSome};
 ghost use Rattle.fast_value.specs.declared.kind.Operator.TheVariants as operator_type;
 ghost use Rattle.fast_value.specs.declared.kind.Presence.TheVariants.{Mandatory};
 ghost use Rattle.fast_field.specs.Parts.{IsFieldPart};
-ghost use Rattle.fast_template.specs.TemplateSets.{IsInitial};
+ghost use Rattle.fast_template.specs.TemplateSets.{IsInitial, is_in_part};
+ghost use Rattle.fast_value.specs.declared.kind.Part.TheVariants as part_type;
 
 use crate::fields::{Value, part_of};
 use crate::judged::{applies_to, has_kind, holds_scalar, is_scalar};
@@ -14,11 +15,12 @@ use crate::same::same;
 use fast_dictionary::Entry;
 use fast_field::{FieldFault, FieldRefusal, Level, Passed, read_field, write_in_place};
 use fast_relay::{Best, best_of, judge_field, judge_other, pass_quickly};
-use fast_template::{FieldPart, Initial, Kind, Operator, Part, Presence, part_needs_bit};
+use fast_template::{FieldPart, Initial, Kind, Operator, Part, Presence, Scalar, part_needs_bit};
 use fast_value::is_of_kind;
 use std::alloc::{AllocError, Global};
 use std::process::Abort;
 use template_tests::generated::{Numbers, put_sent};
+use test_rows::Tried;
 
 // Each type as a field has it, with an initial value.
 pub(crate) const PARTS: &[(Part, Kind, Value)] = &[
@@ -54,7 +56,7 @@ pub(crate) fn generated(
     instr: &FieldPart,
     bit: bool,
     numbers: &mut Numbers,
-) -> Result<Vec<u8>, AllocError> {
+) -> Tried<Vec<u8>> {
     let mut bytes = Vec::new(alloc);
     bytes.push(numbers.below(128))?;
     if bit {
@@ -66,13 +68,23 @@ pub(crate) fn generated(
     Ok(bytes)
 }
 
+// Whether a value is one that an exponent can have.
+fn is_exponent(value: &Scalar) -> bool
+    ensures { result ≡ true → IsTrue (is_in_part part_type.Exponent value.now) }
+{
+    match value {
+        Scalar::I32(number) => *number >= -63 && *number <= 63,
+        _ => false,
+    }
+}
+
 // Whether an initial value is one that a part can have.
 fn is_initial(instr: &FieldPart, initial: &Initial) -> bool
     ensures { result ≡ true → IsInitial instr.now initial.now }
 {
-    is_of_kind(instr.kind, initial.value())
-        && is_scalar(initial.value())
-        && instr.part != Part::Exponent
+    let value = initial.value();
+    let is_there = instr.part != Part::Exponent || is_exponent(value);
+    is_there && is_of_kind(instr.kind, value) && is_scalar(value)
 }
 
 // Whether an operator wants an initial value.
@@ -151,12 +163,7 @@ fn quickly(
 }
 
 // The bytes of a best form.
-fn spelled(
-    rt: &impl Abort,
-    alloc: Global,
-    best: Best,
-    bytes: &[u8],
-) -> Result<Vec<u8>, AllocError> {
+fn spelled(rt: &impl Abort, alloc: Global, best: Best, bytes: &[u8]) -> Tried<Vec<u8>> {
     let mut form = Vec::new(alloc);
     if let Some(removal) = best.removal {
         form.push(removal)?;
@@ -177,7 +184,7 @@ fn waits(
     entry: &Entry,
     bytes: &[u8],
     at: usize,
-) -> Result<(), AllocError>
+) -> Tried
     requires place { at ≤ length bytes.now }
     requires part { IsFieldPart instr.now }
     requires which { which ≡ instr.now.part }
@@ -208,7 +215,7 @@ fn goes_both_ways(
     entry: &mut Entry,
     bit: bool,
     bytes: &[u8],
-) -> Result<bool, AllocError> {
+) -> Tried<bool> {
     let at = bytes.len().min(1);
     // no other is judged
     if !is_part(which, instr) || !holds_scalar(entry) {
@@ -271,7 +278,7 @@ fn all_go_both_ways(
     numbers: &mut Numbers,
     which: Part,
     instr: &FieldPart,
-) -> Result<(), AllocError> {
+) -> Tried {
     let mut entry = Entry::Undefined;
     let mut served = false;
     for _ in 0..FIELDS {
@@ -293,13 +300,12 @@ fn instructions_go_both_ways(
     presence: Presence,
     operator: Operator,
     initial: Value,
-) -> Result<(), AllocError> {
+) -> Tried {
     if !applies_to(operator, kind) {
         return Ok(());
     }
     if which != Part::Exponent {
-        let value = Some(initial.scalar(alloc)?);
-        let instr = part_of(alloc, which, kind, presence, operator, value)?;
+        let instr = part_of(alloc, which, kind, presence, operator, Some(initial))?;
         all_go_both_ways(rt, alloc, numbers, which, &instr)?;
     }
     if needs_initial(operator, presence) {
@@ -310,7 +316,7 @@ fn instructions_go_both_ways(
 }
 
 #[test]
-fn generated_fields_go_the_same_both_ways(rt: HostRuntime) -> Result<(), AllocError> {
+fn generated_fields_go_the_same_both_ways(rt: HostRuntime) -> Tried {
     let mut numbers = Numbers::new(1);
     for (which, kind, initial) in PARTS {
         for operator in OPERATORS {

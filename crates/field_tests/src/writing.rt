@@ -1,18 +1,16 @@
 //! Rows on single fields that are planned and written, by the calls.
 
-ghost use Rattle.std.specs.Prelude.{IfOk, IfSome, IsTrue};
+ghost use Rattle.std.specs.Prelude.{IfOk};
 ghost use Rattle.fast_dictionary.specs.Dictionary.{entry_of};
 ghost use Rattle.fast_dictionary.specs.declared.entry.Entry as entry;
-ghost use Rattle.fast_value.specs.Scalar.{IsScalar, is_of};
-ghost use Rattle.fast_template.specs.TemplateSets.{applies};
-ghost use Rattle.fast_value.specs.declared.kind.Kind.TheVariants as kind;
 ghost use Rattle.fast_field.specs.Found.{CanLie};
 ghost use Rattle.fast_field.specs.Parts.{IsFieldPart};
 ghost use Rattle.fast_field.specs.Within.{HoldsScalar};
 
-use self::Before::{Empty, LongNumber, Number, Price, Text, Undefined};
+use crate::fields::Kept::{Assigned, Empty, Undefined};
+use crate::fields::Shape::{Exponent, Initial, Mandatory, Optional};
 use crate::fields::Value::{Ascii, Bytes, Decimal, I32, Letters, U32, U64, Unicode, Wide};
-use crate::fields::{Value, ascii, field, part_of};
+use crate::fields::{Kept, Shape, Value, are_such, scalar_of};
 use crate::same::same;
 use fast_dictionary::{Entry, EntryRef};
 use fast_field::FieldRefusal::{D3, D4, D6, Limit, Mismatch, NotConstant, R1, TooShort};
@@ -20,166 +18,12 @@ use fast_field::{
     FieldFault, FieldRefusal, Found, Level, Plan, next_entry, plan_field, read_field, write_field,
     write_found, write_in_place,
 };
-use fast_template::Presence::{Mandatory, Optional};
-use fast_template::{FieldPart, Kind, Operator, Part, Presence, Scalar};
+use fast_template::Kind::{UInt32, UInt64};
+use fast_template::Operator::{Constant, Copy, Default, Delta, Increment, Tail};
+use fast_template::{ByteString, FieldPart, Kind, Presence, Scalar};
 use std::alloc::{AllocError, Global};
 use std::process::Abort;
 use test_rows::{Tried, rows};
-
-// A number with an initial value.
-fn number_with(
-    alloc: Global,
-    presence: Presence,
-    operator: Operator,
-    number: u32,
-) -> Tried<FieldPart>
-    requires { IsTrue (applies operator kind.UInt32) }
-    ensures { IfOk result IsFieldPart }
-{
-    let initial = Some(Scalar::U32(number));
-    part_of(
-        alloc,
-        Part::Whole,
-        Kind::UInt32,
-        presence,
-        operator,
-        initial,
-    )
-}
-
-// A constant exponent of a decimal in parts.
-fn fixed_exponent(alloc: Global) -> Tried<FieldPart>
-    ensures { IfOk result IsFieldPart }
-{
-    let initial = Some(Scalar::I32(-2));
-    part_of(
-        alloc,
-        Part::Exponent,
-        Kind::Int32,
-        Presence::Mandatory,
-        Operator::Constant,
-        initial,
-    )
-}
-
-// These characters, or none if they are not of ASCII.
-fn checked_text(alloc: Global, text: &[u8]) -> Tried<Option<Scalar>>
-    ensures { IfOk result (λ v. IfSome v (λ v. IsTrue (is_of kind.Ascii v) × IsScalar v)) }
-{
-    if text.len() > 65_535 || !text.is_ascii() {
-        return Ok(None);
-    }
-    Ok(Some(ascii(alloc, text)?))
-}
-
-// An optional ASCII tail whose initial value is "ab".
-fn tail_of_ab(alloc: Global) -> Tried<FieldPart>
-    ensures { IfOk result IsFieldPart }
-{
-    let initial = checked_text(alloc, b"ab")?;
-    part_of(
-        alloc,
-        Part::Whole,
-        Kind::Ascii,
-        Presence::Optional,
-        Operator::Tail,
-        initial,
-    )
-}
-
-// An entry with these characters.
-fn text_entry(alloc: Global, text: &[u8]) -> Tried<Entry>
-    ensures { IfOk result HoldsScalar }
-{
-    match checked_text(alloc, text)? {
-        Some(text) => Ok(Entry::Assigned(text)),
-        None => Ok(Entry::Undefined),
-    }
-}
-
-// The field of a row, in short.
-#[derive(Clone, Copy)]
-enum Of {
-    Copy(Kind, Presence),
-    Delta(Kind, Presence),
-    AsciiTail(Presence),
-    UnicodeTail(Presence),
-    TailOfAb,
-    // a uInt32
-    Increment(Presence),
-    // with this initial value
-    Constant(Presence, u32),
-    Default(Presence, u32),
-    FixedExponent,
-}
-
-impl Of {
-    fn part(self, alloc: Global) -> Tried<FieldPart>
-        ensures { IfOk result IsFieldPart }
-    {
-        match self {
-            Of::Copy(kind, presence) => field(alloc, kind, presence, Operator::Copy),
-            Of::Delta(kind, presence) => field(alloc, kind, presence, Operator::Delta),
-            Of::AsciiTail(presence) => field(alloc, Kind::Ascii, presence, Operator::Tail),
-            Of::UnicodeTail(presence) => field(alloc, Kind::Unicode, presence, Operator::Tail),
-            Of::TailOfAb => tail_of_ab(alloc),
-            Of::Increment(presence) => field(alloc, Kind::UInt32, presence, Operator::Increment),
-            Of::Constant(presence, number) => number_with(
-                alloc,
-                presence,
-                Operator::Constant,
-                number,
-            ),
-            Of::Default(presence, number) => number_with(
-                alloc,
-                presence,
-                Operator::Default,
-                number,
-            ),
-            Of::FixedExponent => fixed_exponent(alloc),
-        }
-    }
-}
-
-// The entry of a row.
-#[derive(Clone, Copy)]
-enum Before {
-    Undefined,
-    Empty,
-    Text(&'static [u8]),
-    Number(u32),
-    LongNumber(u64),
-    // exponent -2, mantissa 7
-    Price,
-}
-
-impl Before {
-    fn entry(self, alloc: Global) -> Tried<Entry>
-        ensures { IfOk result HoldsScalar }
-    {
-        match self {
-            Before::Undefined => Ok(Entry::Undefined),
-            Before::Empty => Ok(Entry::Empty),
-            Before::Text(text) => text_entry(alloc, text),
-            Before::Number(number) => Ok(Entry::Assigned(Scalar::U32(number))),
-            Before::LongNumber(number) => Ok(Entry::Assigned(Scalar::U64(number))),
-            Before::Price => {
-                let price = Scalar::Decimal {
-                    exponent: -2,
-                    mantissa: 7,
-                };
-                Ok(Entry::Assigned(price))
-            }
-        }
-    }
-}
-
-fn value_of(alloc: Global, value: Option<Value>) -> Tried<Option<Scalar>> {
-    match value {
-        None => Ok(None),
-        Some(value) => Ok(Some(value.scalar(alloc)?)),
-    }
-}
 
 // A value is planned so, or refused so.
 fn planned(
@@ -433,83 +277,92 @@ fn refused_by_each(
     not_in_place(rt, alloc, instr, entry, value, refusal)
 }
 
-// A value of a field on an entry, and whether bit 0 does not give it and what is written, or why it is refused.
-struct Row {
-    of: Of,
-    before: Before,
-    value: Option<Value>,
-    answer: Result<(bool, &'static [u8]), FieldRefusal>,
+// A field, its entry, a value, and whether bit 0 does not give it and what is written, or why it is refused.
+struct Row(Shape, Kept, Option<Value>, Answered);
+
+type Answered = Result<(bool, &'static [u8]), FieldRefusal>;
+
+fn is_answered(
+    rt: &impl Abort,
+    alloc: Global,
+    instr: &FieldPart,
+    entry: &Entry,
+    value: Option<&Scalar>,
+    answer: Answered,
+) -> Tried {
+    if !are_such(rt, instr, entry) {
+        return Ok(());
+    }
+    match answer {
+        Ok((bit, bytes)) => written_by_each(rt, alloc, instr, entry, value, bit, bytes),
+        Err(refusal) => refused_by_each(rt, alloc, instr, entry, value, refusal),
+    }
 }
 
-fn is_answered(rt: &impl Abort, alloc: Global, row: &Row) -> Tried {
-    let instr = row.of.part(alloc)?;
-    let entry = row.before.entry(alloc)?;
-    let value = value_of(alloc, row.value)?;
-    match row.answer {
-        Ok((bit, bytes)) => {
-            written_by_each(rt, alloc, &instr, &entry, value.as_ref(), bit, bytes)
-        }
-        Err(refusal) => refused_by_each(rt, alloc, &instr, &entry, value.as_ref(), refusal),
-    }
+fn is_row(rt: &impl Abort, alloc: Global, row: &Row) -> Tried {
+    let instr = row.0.instr(alloc)?;
+    let entry = row.1.entry(alloc)?;
+    let value = scalar_of(alloc, row.2)?;
+    is_answered(rt, alloc, &instr, &entry, value.as_ref(), row.3)
 }
 
 #[test]
 fn fields_that_are_written(rt: HostRuntime) -> Tried {
-    const ROWS: &[Row] = rows! { Row { of, before, value, answer }:
+    const ROWS: &[Row] = rows! { Row:
         // constants
-        Of::Constant(Mandatory, 7), Undefined, Some(U32(7)), Ok((true, b""));
-        Of::Constant(Optional, 9), Undefined, None, Ok((false, b""));
-        Of::Constant(Optional, 9), Undefined, Some(U32(9)), Ok((true, b""));
-        Of::Constant(Mandatory, 7), Undefined, Some(U32(8)), Err(NotConstant);
-        Of::Constant(Mandatory, 7), Undefined, None, Err(Mismatch);
-        Of::FixedExponent, Undefined, Some(I32(-1)), Err(D3);
+        Initial(Presence::Mandatory, Constant, 7), Undefined, Some(U32(7)), Ok((true, b""));
+        Initial(Presence::Optional, Constant, 9), Undefined, None, Ok((false, b""));
+        Initial(Presence::Optional, Constant, 9), Undefined, Some(U32(9)), Ok((true, b""));
+        Initial(Presence::Mandatory, Constant, 7), Undefined, Some(U32(8)), Err(NotConstant);
+        Initial(Presence::Mandatory, Constant, 7), Undefined, None, Err(Mismatch);
+        Exponent(Presence::Mandatory, Constant, Some(-2)), Undefined, Some(I32(-1)), Err(D3);
         // defaults
-        Of::Default(Optional, 3), Undefined, Some(U32(3)), Ok((false, b""));
-        Of::Default(Optional, 3), Undefined, None, Ok((true, b"\x80"));
-        Of::Default(Optional, 3), Undefined, Some(U32(4)), Ok((true, b"\x85"));
+        Initial(Presence::Optional, Default, 3), Undefined, Some(U32(3)), Ok((false, b""));
+        Initial(Presence::Optional, Default, 3), Undefined, None, Ok((true, b"\x80"));
+        Initial(Presence::Optional, Default, 3), Undefined, Some(U32(4)), Ok((true, b"\x85"));
         // copies
-        Of::Copy(Kind::Ascii, Mandatory), Text(b"AB"), Some(Ascii(b"AB")), Ok((false, b""));
-        Of::Copy(Kind::Ascii, Mandatory), Text(b"AB"), Some(Ascii(b"C")), Ok((true, b"\xc3"));
-        Of::Copy(Kind::Bytes, Mandatory), Undefined, Some(Bytes(b"")), Ok((true, b"\x80"));
+        Mandatory(Kind::Ascii, Copy), Assigned(Ascii(b"AB")), Some(Ascii(b"AB")), Ok((false, b""));
+        Mandatory(Kind::Ascii, Copy), Assigned(Ascii(b"AB")), Some(Ascii(b"C")), Ok((true, b"\xc3"));
+        Mandatory(Kind::Bytes, Copy), Undefined, Some(Bytes(b"")), Ok((true, b"\x80"));
         // increments
-        Of::Increment(Mandatory), Number(1), Some(U32(2)), Ok((false, b""));
-        Of::Increment(Mandatory), Number(u32::MAX), Some(U32(0)), Ok((false, b""));
-        Of::Increment(Mandatory), Number(1), Some(U32(3)), Ok((true, b"\x83"));
+        Mandatory(UInt32, Increment), Assigned(U32(1)), Some(U32(2)), Ok((false, b""));
+        Mandatory(UInt32, Increment), Assigned(U32(u32::MAX)), Some(U32(0)), Ok((false, b""));
+        Mandatory(UInt32, Increment), Assigned(U32(1)), Some(U32(3)), Ok((true, b"\x83"));
         // deltas of numbers: a difference of 65 bits
-        Of::Delta(Kind::UInt64, Optional), LongNumber(u64::MAX), Some(U64(0)),
+        Optional(UInt64, Delta), Assigned(U64(u64::MAX)), Some(U64(0)),
             Ok((true, b"\x7e\x00\x00\x00\x00\x00\x00\x00\x00\x81"));
-        Of::Delta(Kind::UInt64, Optional), Empty, None, Ok((true, b"\x80"));
-        Of::Delta(Kind::Decimal, Mandatory), Price, Some(Decimal(-1, 5)), Ok((true, b"\x81\xfe"));
+        Optional(UInt64, Delta), Empty, None, Ok((true, b"\x80"));
+        Mandatory(Kind::Decimal, Delta), Assigned(Decimal(-2, 7)), Some(Decimal(-1, 5)), Ok((true, b"\x81\xfe"));
         // an exponent out of its range
-        Of::Delta(Kind::Decimal, Mandatory), Undefined, Some(Decimal(64, 1)), Err(R1);
+        Mandatory(Kind::Decimal, Delta), Undefined, Some(Decimal(64, 1)), Err(R1);
         // fewer bytes with removal in front
-        Of::Delta(Kind::Ascii, Mandatory), Text(b"GEM6"), Some(Ascii(b"ESM6")), Ok((true, b"\xfd\x45\xd3"));
+        Mandatory(Kind::Ascii, Delta), Assigned(Ascii(b"GEM6")), Some(Ascii(b"ESM6")), Ok((true, b"\xfd\x45\xd3"));
         // as many bytes on both sides: removal at the end
-        Of::Delta(Kind::Ascii, Mandatory), Text(b"ESM6"), Some(Ascii(b"ESM6")), Ok((true, b"\x80\x80"));
+        Mandatory(Kind::Ascii, Delta), Assigned(Ascii(b"ESM6")), Some(Ascii(b"ESM6")), Ok((true, b"\x80\x80"));
         // a character beyond ASCII
-        Of::Delta(Kind::Ascii, Mandatory), Text(b"A"), Some(Ascii(b"A\x80")), Err(Mismatch);
+        Mandatory(Kind::Ascii, Delta), Assigned(Ascii(b"A")), Some(Ascii(b"A\x80")), Err(Mismatch);
         // too many characters, and another type or a character beyond ASCII, which comes first
-        Of::Copy(Kind::Unicode, Mandatory), Undefined, Some(Letters(65_536)), Err(Limit);
-        Of::Copy(Kind::Ascii, Mandatory), Undefined, Some(Letters(65_536)), Err(Mismatch);
-        Of::Copy(Kind::UInt32, Optional), Undefined, Some(Letters(65_536)), Err(Mismatch);
-        Of::Copy(Kind::Ascii, Mandatory), Undefined, Some(Wide(65_536)), Err(Mismatch);
-        Of::Delta(Kind::Ascii, Mandatory), Empty, Some(Wide(65_536)), Err(Mismatch);
+        Mandatory(Kind::Unicode, Copy), Undefined, Some(Letters(65_536)), Err(Limit);
+        Mandatory(Kind::Ascii, Copy), Undefined, Some(Letters(65_536)), Err(Mismatch);
+        Optional(UInt32, Copy), Undefined, Some(Letters(65_536)), Err(Mismatch);
+        Mandatory(Kind::Ascii, Copy), Undefined, Some(Wide(65_536)), Err(Mismatch);
+        Mandatory(Kind::Ascii, Delta), Empty, Some(Wide(65_536)), Err(Mismatch);
         // a delta on an empty entry
-        Of::Delta(Kind::Ascii, Mandatory), Empty, Some(Ascii(b"A")), Err(D6);
+        Mandatory(Kind::Ascii, Delta), Empty, Some(Ascii(b"A")), Err(D6);
         // the shortest tail begins with NUL, and would have four bytes
-        Of::AsciiTail(Optional), Text(b"xab"), Some(Ascii(b"x\0b")), Ok((true, b"\x78\x00\xe2"));
-        Of::AsciiTail(Optional), Text(b"xab"), Some(Ascii(b"xab")), Ok((false, b""));
-        Of::AsciiTail(Optional), Text(b"xab"), None, Ok((true, b"\x80"));
-        Of::AsciiTail(Optional), Text(b"xab"), Some(Ascii(b"x")), Err(TooShort);
+        Optional(Kind::Ascii, Tail), Assigned(Ascii(b"xab")), Some(Ascii(b"x\0b")), Ok((true, b"\x78\x00\xe2"));
+        Optional(Kind::Ascii, Tail), Assigned(Ascii(b"xab")), Some(Ascii(b"xab")), Ok((false, b""));
+        Optional(Kind::Ascii, Tail), Assigned(Ascii(b"xab")), None, Ok((true, b"\x80"));
+        Optional(Kind::Ascii, Tail), Assigned(Ascii(b"xab")), Some(Ascii(b"x")), Err(TooShort);
         // a tail on another type
-        Of::UnicodeTail(Mandatory), Text(b"xab"), Some(Unicode("é")), Err(D4);
+        Mandatory(Kind::Unicode, Tail), Assigned(Ascii(b"xab")), Some(Unicode("é")), Err(D4);
         // tails of an initial value: the shortest one is empty, and would have two bytes
-        Of::TailOfAb, Empty, Some(Ascii(b"ab")), Ok((true, b"\xe2"));
+        Shape::Tail(b"ab"), Empty, Some(Ascii(b"ab")), Ok((true, b"\xe2"));
         // a longer value stands whole
-        Of::TailOfAb, Empty, Some(Ascii(b"abc")), Ok((true, b"\x61\x62\xe3"));
+        Shape::Tail(b"ab"), Empty, Some(Ascii(b"abc")), Ok((true, b"\x61\x62\xe3"));
     };
     for row in ROWS {
-        is_answered(&rt, rt.alloc(), row)?;
+        is_row(&rt, rt.alloc(), row)?;
     }
     Ok(())
 }
@@ -518,20 +371,16 @@ fn fields_that_are_written(rt: HostRuntime) -> Tried {
 fn goes_round(rt: &impl Abort, alloc: Global, count: usize) -> Tried {
     let mut bytes = vec![in alloc; 0x41; count]?;
     bytes.push(0x41)?;
-    let value = ascii(alloc, &bytes)?;
+    let value = Scalar::Ascii(ByteString::from_vec(bytes.to_vec(alloc)?));
     if let Some(last) = bytes.last_mut() {
         *last = 0xc1;
     }
-    let instr = Of::Copy(Kind::Ascii, Presence::Mandatory).part(alloc)?;
-    written_by_each(
-        rt,
-        alloc,
-        &instr,
-        &Entry::Undefined,
-        Some(&value),
-        true,
-        &bytes,
-    )?;
+    let instr = Mandatory(Kind::Ascii, Copy).instr(alloc)?;
+    let entry = Entry::Undefined;
+    if !are_such(rt, &instr, &entry) {
+        return Ok(());
+    }
+    written_by_each(rt, alloc, &instr, &entry, Some(&value), true, &bytes)?;
     is_read_back(rt, alloc, &instr, &bytes, value)
 }
 

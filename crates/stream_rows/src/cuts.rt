@@ -2,6 +2,7 @@
 
 use crate::ends::End;
 use fast_stream::{Cause, Fault};
+use test_rows::rows;
 
 /// A stream that is canonical itself, the lines of its messages, and behind each of its bytes the offset, the template
 /// and the instruction of what is missing; none where a message ends.
@@ -11,108 +12,32 @@ pub struct Cut {
     pub missing: &'static [Option<(u64, u32, u32)>],
 }
 
-pub const CUTS: &[Cut] = &[
-    Cut {
-        stream: b"\xF0\x81\x81\x41\xC2\xFE\x00\xE4",
-        lines: "1 Quote Seq=1 Sym=\"AB\" Px=100e-2 Qty=-\n",
-        missing: &[
-            Some((1, 0, 0)),
-            Some((2, 1, 1)),
-            Some((3, 1, 2)),
-            Some((3, 1, 2)),
-            Some((5, 1, 3)),
-            Some((5, 1, 3)),
-            Some((5, 1, 3)),
-            None,
-        ],
-    },
+pub const CUTS: &[Cut] = rows! { Cut { stream, lines, missing }:
+    b"\xF0\x81\x81\x41\xC2\xFE\x00\xE4", "1 Quote Seq=1 Sym=\"AB\" Px=100e-2 Qty=-\n",
+        &[Some((1, 0, 0)), Some((2, 1, 1)), Some((3, 1, 2)), Some((3, 1, 2)), Some((5, 1, 3)), Some((5, 1, 3)),
+            Some((5, 1, 3)), None];
     // string deltas
-    Cut {
-        stream: b"\xC0\x8A\x80\x47\x45\x48\xB6\x80\x82\x4D\xB6\x80\xFD\x45\xD3",
-        lines: "10 Delta S=\"GEH6\"\n10 Delta S=\"GEM6\"\n10 Delta S=\"ESM6\"\n",
-        missing: &[
-            Some((1, 0, 0)),
-            Some((2, 10, 1)),
-            Some((2, 10, 1)),
-            Some((2, 10, 1)),
-            Some((2, 10, 1)),
-            Some((2, 10, 1)),
-            None,
-            Some((8, 10, 1)),
-            Some((8, 10, 1)),
-            Some((8, 10, 1)),
-            None,
-            Some((12, 10, 1)),
-            Some((12, 10, 1)),
-            Some((12, 10, 1)),
-            None,
-        ],
-    },
+    b"\xC0\x8A\x80\x47\x45\x48\xB6\x80\x82\x4D\xB6\x80\xFD\x45\xD3",
+        "10 Delta S=\"GEH6\"\n10 Delta S=\"GEM6\"\n10 Delta S=\"ESM6\"\n",
+        &[Some((1, 0, 0)), Some((2, 10, 1)), Some((2, 10, 1)), Some((2, 10, 1)), Some((2, 10, 1)), Some((2, 10, 1)),
+            None, Some((8, 10, 1)), Some((8, 10, 1)), Some((8, 10, 1)), None, Some((12, 10, 1)), Some((12, 10, 1)),
+            Some((12, 10, 1)), None];
     // sequences
-    Cut {
-        stream: b"\xC0\x84\x80\x80\x81\x80\x83\x85\x86",
-        lines: "4 Legs L=-\n4 Legs L=[]\n4 Legs L=[{P=5} {P=6}]\n",
-        missing: &[
-            Some((1, 0, 0)),
-            Some((2, 4, 1)),
-            None,
-            Some((4, 4, 1)),
-            None,
-            Some((6, 4, 1)),
-            Some((7, 4, 2)),
-            Some((8, 4, 2)),
-            None,
-        ],
-    },
+    b"\xC0\x84\x80\x80\x81\x80\x83\x85\x86", "4 Legs L=-\n4 Legs L=[]\n4 Legs L=[{P=5} {P=6}]\n",
+        &[Some((1, 0, 0)), Some((2, 4, 1)), None, Some((4, 4, 1)), None, Some((6, 4, 1)), Some((7, 4, 2)),
+            Some((8, 4, 2)), None];
     // groups
-    Cut {
-        stream: b"\xF0\x8B\xC0\x85\x86\x80\xA0\x80",
-        lines: "11 Grp Hd={A=5} B=6\n11 Grp Hd=- B=6\n11 Grp Hd={A=5} B=6\n",
-        missing: &[
-            Some((1, 0, 0)),
-            Some((2, 11, 1)),
-            Some((3, 11, 2)),
-            Some((4, 11, 3)),
-            None,
-            None,
-            Some((7, 11, 1)),
-            None,
-        ],
-    },
+    b"\xF0\x8B\xC0\x85\x86\x80\xA0\x80", "11 Grp Hd={A=5} B=6\n11 Grp Hd=- B=6\n11 Grp Hd={A=5} B=6\n",
+        &[Some((1, 0, 0)), Some((2, 11, 1)), Some((3, 11, 2)), Some((4, 11, 3)), None, None, Some((7, 11, 1)), None];
     // Unicode
-    Cut {
-        stream: b"\xE0\x8C\x82\xC3\xA9\xA0\x81\xA8\xA0\x81",
-        lines: "12 Uni S=\"\\xc3\\xa9\"\n12 Uni S=\"\\xc3\\xa8\"\n",
-        missing: &[
-            Some((1, 0, 0)),
-            Some((2, 12, 1)),
-            Some((2, 12, 1)),
-            Some((2, 12, 1)),
-            None,
-            Some((6, 12, 1)),
-            Some((6, 12, 1)),
-            None,
-            Some((9, 12, 1)),
-            Some((9, 12, 1)),
-        ],
-    },
+    b"\xE0\x8C\x82\xC3\xA9\xA0\x81\xA8\xA0\x81", "12 Uni S=\"\\xc3\\xa9\"\n12 Uni S=\"\\xc3\\xa8\"\n",
+        &[Some((1, 0, 0)), Some((2, 12, 1)), Some((2, 12, 1)), Some((2, 12, 1)), None, Some((6, 12, 1)),
+            Some((6, 12, 1)), None, Some((9, 12, 1)), Some((9, 12, 1))];
     // a decimal in parts, and a byte vector
-    Cut {
-        stream: b"\xE0\x8F\x00\xE4\x83\x0A\xFF\x80\x81",
-        lines: "15 Fixed Px=100e-2 Raw=x0aff\n15 Fixed Px=101e-2 Raw=x0aff\n",
-        missing: &[
-            Some((1, 0, 0)),
-            Some((2, 15, 1)),
-            Some((2, 15, 1)),
-            Some((4, 15, 2)),
-            Some((4, 15, 2)),
-            Some((4, 15, 2)),
-            None,
-            Some((8, 15, 1)),
-            None,
-        ],
-    },
-];
+    b"\xE0\x8F\x00\xE4\x83\x0A\xFF\x80\x81", "15 Fixed Px=100e-2 Raw=x0aff\n15 Fixed Px=101e-2 Raw=x0aff\n",
+        &[Some((1, 0, 0)), Some((2, 15, 1)), Some((2, 15, 1)), Some((4, 15, 2)), Some((4, 15, 2)), Some((4, 15, 2)),
+            None, Some((8, 15, 1)), None];
+};
 
 /// What stands in front of a cut: the messages, their bytes and the bytes of their lines; and what is missing, if they do
 /// not end there.

@@ -2,9 +2,11 @@
 
 use crate::ends::End;
 use crate::quotes::QUOTE;
-use crate::sent::{Sent, Shown};
+use crate::sent::Sent;
+use crate::sent::Shown::{Absent, Decimal, Letters, Number, Repeated};
 use fast_stream::Cause;
 use std::alloc::{AllocError, Global};
+use test_rows::rows;
 
 /// A stream of pieces, each so many times, its messages, and its end. One that ends whole is canonical itself.
 pub struct Long {
@@ -13,113 +15,41 @@ pub struct Long {
     pub end: End,
 }
 
-const LETTERS: &[Sent] = &[Sent(
-    1,
-    &[
-        Shown::Number(1),
-        Shown::Letters(4_097),
-        Shown::Decimal(-2, 100),
-        Shown::Absent,
-    ],
-)];
+const LETTERS: &[Sent] = rows! { Sent:
+    1, &[Number(1), Letters(4_097), Decimal(-2, 100), Absent];
+};
 
-const MOST_LETTERS: &[Sent] = &[Sent(
-    1,
-    &[
-        Shown::Number(1),
-        Shown::Letters(65_535),
-        Shown::Decimal(-2, 100),
-        Shown::Absent,
-    ],
-)];
+const MOST_LETTERS: &[Sent] = rows! { Sent:
+    1, &[Number(1), Letters(65_535), Decimal(-2, 100), Absent];
+};
 
 /// Streams of maps and strings of the worked templates.
-pub const LONG: &[Long] = &[
+pub const LONG: &[Long] = rows! { Long { pieces, want, end }:
     // maps
-    Long {
-        pieces: &[(b"\x00", 255)],
-        want: &[],
-        end: End::Fault(Cause::Truncated, 1, 0, 0, 0),
-    },
-    Long {
-        pieces: &[(b"\x00", 256)],
-        want: &[],
-        end: End::Fault(Cause::Limit, 1, 0, 0, 0),
-    },
+    &[(b"\x00", 255)], &[], End::Fault(Cause::Truncated, 1, 0, 0, 0);
+    &[(b"\x00", 256)], &[], End::Fault(Cause::Limit, 1, 0, 0, 0);
     // strings, by their groups and by their characters
-    Long {
-        pieces: &[(b"\xF0\x81\x81", 1), (b"\x41", 65_539)],
-        want: &[],
-        end: End::Fault(Cause::Truncated, 1, 3, 1, 2),
-    },
-    Long {
-        pieces: &[(b"\xF0\x81\x81", 1), (b"\x41", 65_540)],
-        want: &[],
-        end: End::Fault(Cause::Limit, 1, 3, 1, 2),
-    },
-    Long {
-        pieces: &[
-            (b"\xF0\x81\x81", 1),
-            (b"\x41", 4_096),
-            (b"\xC1\xFE\x00\xE4", 1),
-        ],
-        want: LETTERS,
-        end: End::Whole,
-    },
-    Long {
-        pieces: &[
-            (b"\xF0\x81\x81", 1),
-            (b"\x41", 65_534),
-            (b"\xC1\xFE\x00\xE4", 1),
-        ],
-        want: MOST_LETTERS,
-        end: End::Whole,
-    },
-    Long {
-        pieces: &[
-            (b"\xF0\x81\x81", 1),
-            (b"\x41", 65_535),
-            (b"\xC1\xFE\x00\xE4", 1),
-        ],
-        want: &[],
-        end: End::Fault(Cause::Limit, 1, 3, 1, 2),
-    },
-];
+    &[(b"\xF0\x81\x81", 1), (b"\x41", 65_539)], &[], End::Fault(Cause::Truncated, 1, 3, 1, 2);
+    &[(b"\xF0\x81\x81", 1), (b"\x41", 65_540)], &[], End::Fault(Cause::Limit, 1, 3, 1, 2);
+    &[(b"\xF0\x81\x81", 1), (b"\x41", 4_096), (b"\xC1\xFE\x00\xE4", 1)], LETTERS, End::Whole;
+    &[(b"\xF0\x81\x81", 1), (b"\x41", 65_534), (b"\xC1\xFE\x00\xE4", 1)], MOST_LETTERS, End::Whole;
+    &[(b"\xF0\x81\x81", 1), (b"\x41", 65_535), (b"\xC1\xFE\x00\xE4", 1)], &[], End::Fault(Cause::Limit, 1, 3, 1, 2);
+};
 
 /// Streams of sequences of the worked templates.
-pub const LONG_SEQUENCES: &[Long] = &[
+pub const LONG_SEQUENCES: &[Long] = rows! { Long { pieces, want, end }:
     // nodes: 65,535 of them, and an element that is number 65,537
-    Long {
-        pieces: &[(b"\xC0\x84\x02\x00\x80", 1), (b"\x85", 32_767)],
-        want: &[Sent(4, &[Shown::Repeated(32_767, &[5])])],
-        end: End::Whole,
-    },
-    Long {
-        pieces: &[(b"\xC0\x84\x02\x00\x81", 1), (b"\x85", 32_767)],
-        want: &[],
-        end: End::Fault(Cause::Limit, 1, 32_772, 4, 2),
-    },
+    &[(b"\xC0\x84\x02\x00\x80", 1), (b"\x85", 32_767)], &[Sent(4, &[Repeated(32_767, &[5])])], End::Whole;
+    &[(b"\xC0\x84\x02\x00\x81", 1), (b"\x85", 32_767)], &[], End::Fault(Cause::Limit, 1, 32_772, 4, 2);
     // elements: as many as there may be, each empty
-    Long {
-        pieces: &[(b"\xC0\x86\x03\x7F\xFF", 1)],
-        want: &[Sent(6, &[Shown::Repeated(65_535, &[])])],
-        end: End::Whole,
-    },
-];
+    &[(b"\xC0\x86\x03\x7F\xFF", 1)], &[Sent(6, &[Repeated(65_535, &[])])], End::Whole;
+};
 
 /// Streams of a number and a sequence whose elements have no members: as many nodes as there may be, and one more.
-pub const LONG_BARE: &[Long] = &[
-    Long {
-        pieces: &[(b"\xC0\x81\x80\x03\x7F\xFE", 1)],
-        want: &[Sent(1, &[Shown::Number(0), Shown::Repeated(65_534, &[])])],
-        end: End::Whole,
-    },
-    Long {
-        pieces: &[(b"\xC0\x81\x80\x03\x7F\xFF", 1)],
-        want: &[],
-        end: End::Fault(Cause::Limit, 1, 6, 1, 2),
-    },
-];
+pub const LONG_BARE: &[Long] = rows! { Long { pieces, want, end }:
+    &[(b"\xC0\x81\x80\x03\x7F\xFE", 1)], &[Sent(1, &[Number(0), Repeated(65_534, &[])])], End::Whole;
+    &[(b"\xC0\x81\x80\x03\x7F\xFF", 1)], &[], End::Fault(Cause::Limit, 1, 6, 1, 2);
+};
 
 /// A stream of pieces, each so many times.
 pub fn stream_of(alloc: Global, pieces: &[(&[u8], usize)]) -> Result<Vec<u8>, AllocError> {

@@ -80,20 +80,23 @@ fn forms_are_refused(rt: HostRuntime) {
 
 #[test]
 fn long_forms_are_refused(rt: HostRuntime) {
-    let text = [0x41; 65_536];
-    let mut wide = text;
-    wide[65_535] = 0x80;
-    let ones = [true; 1793];
-    let rows: &[(Form, WireFault)] = rows! {
-        Form::Ascii(&text), WireFault::TooLong;
-        Form::AsciiNullable(Nullable::Value(&text)), WireFault::TooLong;
-        // a character beyond ASCII comes first
-        Form::Ascii(&wide), WireFault::Range;
-        Form::AsciiNullable(Nullable::Value(&wide)), WireFault::Range;
-        Form::Vector(&text), WireFault::TooLong;
-        Form::Map(&ones), WireFault::TooLong;
+    const ROWS: &[(Form, WireFault)] = rows! {
+        Form::Ascii(&[0x41; 65_536]), WireFault::TooLong;
+        Form::AsciiNullable(Nullable::Value(&[0x41; 65_536])), WireFault::TooLong;
+        Form::Vector(&[0x41; 65_536]), WireFault::TooLong;
+        Form::Map(&[true; 1793]), WireFault::TooLong;
     };
-    all_refused(&rt, rt.alloc(), rows);
+    all_refused(&rt, rt.alloc(), ROWS);
+}
+
+/// A character beyond ASCII comes before a text that is too long.
+#[test]
+fn wide_forms_are_refused(rt: HostRuntime) {
+    let mut wide = [0x41; 65_536];
+    wide[65_535] = 0x80;
+    is_refused(&rt, rt.alloc(), Form::Ascii(&wide), WireFault::Range);
+    let wide = Nullable::Value(wide.as_slice());
+    is_refused(&rt, rt.alloc(), Form::AsciiNullable(wide), WireFault::Range);
 }
 
 /// Integers that are longer than they need be, that are cut or have no end, and behind others. The readers in 64 bits
@@ -417,14 +420,10 @@ fn the_longest_text_of_zeros(rt: HostRuntime) -> Result<(), WireFault> {
 /// Where no value stands no memory is asked for: the answer is the same, whichever allocation is refused.
 #[test]
 fn no_memory_for_no_value(rt: HostRuntime) {
-    let zeros = [0u8; 65_540];
-    let mut closed = zeros;
-    closed[65_536] = 0x80;
-    let rows: &[(Reader, &[u8], WireFault)] = rows! {
+    const ROWS: &[(Reader, &[u8], WireFault)] = rows! {
         Reader::Ascii, b"Hey", WireFault::NeedMore;
-        Reader::Ascii, &zeros[..65_539], WireFault::NeedMore;
-        Reader::Ascii, &zeros, WireFault::TooLong;
-        Reader::Ascii, &closed, WireFault::TooLong;
+        Reader::Ascii, &[0x00; 65_539], WireFault::NeedMore;
+        Reader::Ascii, &[0x00; 65_540], WireFault::TooLong;
         Reader::AsciiNullable, b"Hey", WireFault::NeedMore;
         Reader::Vector, b"\x83\x41\x42", WireFault::NeedMore;
         Reader::Vector, b"\x82\xc3", WireFault::NeedMore;
@@ -433,20 +432,23 @@ fn no_memory_for_no_value(rt: HostRuntime) {
         Reader::VectorNullable, b"\x84\x41", WireFault::NeedMore;
         Reader::VectorNullable, b"\x04\x00\x81", WireFault::TooLong;
     };
-    for (reader, bytes, fault) in rows {
+    for (reader, bytes, fault) in ROWS {
         same(&rt, reader.fault(rt.alloc(), bytes), Some(*fault));
     }
+    let mut closed = [0x00; 65_540];
+    closed[65_536] = 0x80;
+    let fault = Reader::Ascii.fault(rt.alloc(), &closed);
+    same(&rt, fault, Some(WireFault::TooLong));
 }
 
 #[test]
 fn maps_are_refused(rt: HostRuntime) {
-    let zeros = [0u8; 256];
-    let rows: &[(&[u8], WireFault)] = rows! {
+    const ROWS: &[(&[u8], WireFault)] = rows! {
         b"\x40", WireFault::NeedMore;
-        &zeros[..255], WireFault::NeedMore;
-        &zeros, WireFault::TooLong;
+        &[0x00; 255], WireFault::NeedMore;
+        &[0x00; 256], WireFault::TooLong;
     };
-    for (bytes, fault) in rows {
+    for (bytes, fault) in ROWS {
         same(&rt, read_map(rt.alloc(), bytes, 0).err(), Some(*fault));
     }
     bits_are(&rt, &mut Bits::none(rt.alloc()), &[]);
@@ -700,15 +702,14 @@ fn refused_growths(rt: HostRuntime) -> Result<(), WireFault> {
 
 // A text of so many letters is written, sized and read, with NULL and without.
 fn long_text_agrees(rt: &impl Abort, alloc: Global, count: usize) -> Result<(), WireFault> {
-    let count = count.clamp(1, 65_535);
-    let letters = [0x41; 65_535];
-    let mut entity = letters;
-    let entity = &mut entity[..count];
-    entity[count - 1] = 0xc1;
-    let text = &letters[..count];
-    agrees(rt, alloc, Form::Ascii(text), entity)?;
-    let text = Form::AsciiNullable(Nullable::Value(text));
-    agrees(rt, alloc, text, entity)
+    let text = vec![in alloc; 0x41; count]?;
+    let mut entity = text.as_slice().to_vec(alloc)?;
+    if let Some(last) = entity.last_mut() {
+        *last = 0xc1;
+    }
+    agrees(rt, alloc, Form::Ascii(&text), &entity)?;
+    let text = Form::AsciiNullable(Nullable::Value(&text));
+    agrees(rt, alloc, text, &entity)
 }
 
 // The same of a vector of so many letters behind a length of two or three bytes, with NULL or without.
@@ -719,18 +720,15 @@ fn long_vector_agrees(
     front: &[u8],
     is_nullable: bool,
 ) -> Result<(), WireFault> {
-    let count = count.min(65_535);
-    let size = front.len().min(3);
-    let letters = [0x41; 65_535];
-    let mut vector = [0x41; 65_538];
-    vector[..size].copy_from_slice(&front[..size]);
-    let items = &letters[..count];
+    let items = vec![in alloc; 0x41; count]?;
+    let mut vector = front.to_vec(alloc)?;
+    vector.extend_from_slice(&items)?;
     let form = if is_nullable {
-        Form::VectorNullable(Nullable::Value(items))
+        Form::VectorNullable(Nullable::Value(&items))
     } else {
-        Form::Vector(items)
+        Form::Vector(&items)
     };
-    agrees(rt, alloc, form, &vector[..size + count])
+    agrees(rt, alloc, form, &vector)
 }
 
 /// Longer than a page of memory, and as long as may be.
