@@ -9,8 +9,8 @@ use Rattle.fast_pass.specs.declared.fault.CanonFault.{CanonFault}
 use Rattle.fast_pass.specs.declared.summary.Summary.{Summary}
 use Rattle.fast_pass.specs.Relays.{Making}
 use Rattle.fast_lines.specs.declared.form.Form.{Form}
-use Rattle.fast_told.specs.Told.{lines_of_set}
-use Rattle.fast_told.proofs.SameLines.{same_lines}
+use Rattle.fast_show.specs.Told.{lines_of_set}
+use Rattle.fast_show.proofs.SameLines.{same_lines}
 use Rattle.fast_command.specs.Run.{LinesOf, Shows, TellsFront, ok_line}
 
 -- ---- what is shown

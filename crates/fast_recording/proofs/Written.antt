@@ -5,8 +5,8 @@ use Rattle.fast_template.specs.Resolved.{Resolved}
 use Rattle.fast_template.specs.TemplateSets.{TemplateList, templates_in}
 use Rattle.fast_stream.specs.Nodes.{Content}
 use Rattle.fast_lines.specs.declared.form.Form.{Form}
-use Rattle.fast_told.specs.Told.{lines_of_set}
-use Rattle.fast_told.proofs.SameLines.{same_lines}
+use Rattle.fast_show.specs.Told.{lines_of_set}
+use Rattle.fast_show.proofs.SameLines.{same_lines}
 use Rattle.fast_pass.specs.Relays.{Making}
 use Rattle.fast_packets.specs.Outcomes.{Outcome, accepted, refused, sizeless}
 use Rattle.fast_recording.specs.Calls.{WritesLines, is_numbered}

@@ -1,1 +1,3 @@
+pub mod Told
+pub mod Taking
 pub mod Waiting

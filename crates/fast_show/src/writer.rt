@@ -3,9 +3,12 @@
 ghost use Rattle.std.specs.Prelude.{◌≡◌, ◌++◌, None, true, false, OnOk, OnErr};
 ghost use Rattle.fast_template.specs.TemplateSets.{templates_in};
 ghost use Rattle.fast_lines.specs.Signs.{is_led};
-ghost use Rattle.fast_told.specs.Told.{head_in, line_now, written_of};
+ghost use Rattle.fast_show.specs.Told.{head_in, line_now, written_of};
 ghost use Rattle.fast_show.specs.Waiting.{waiting_of};
 
+use crate::fields::tell_fields;
+use crate::line::Line;
+use crate::told::tell;
 use fast_dictionary::Entries;
 use fast_field::FieldFault;
 use fast_gaps::Rest;
@@ -13,7 +16,6 @@ use fast_lines::Signs;
 use fast_part::{take_exponent, take_identifier, take_length, take_mantissa};
 use fast_take::{Aside, Room};
 use fast_template::{FieldPart, Flat, Name, Presence, TemplateSet};
-use fast_told::{Line, tell, tell_fields};
 use fast_walk::{Fields, Output, Receiver};
 use fast_wire::{Bits, Level};
 use std::alloc::{AllocError, Global};
@@ -69,7 +71,7 @@ impl<'a, S: Signs> LineWriter<'a, S> {
     }
 
     // Begins the line of a message of the template of an identifier; of one that the set has not, there is no name.
-    #[tactic(auto, using(fast_told::proofs::SameLines::name_is))]
+    #[tactic(auto, using(crate::proofs::SameLines::name_is))]
     #[inline(always)]
     fn open_line(&mut self, id: u32) -> Result<(), AllocError>
         ensures line { OnOk result (line_now S.form self.new.line
@@ -125,7 +127,7 @@ impl<'a, S: Signs> LineWriter<'a, S> {
 }
 
 impl<S: Signs> Receiver for LineWriter<'_, S> {
-    ghost use Rattle.fast_told.specs.Told.{HasLines, HasTold};
+    ghost use Rattle.fast_show.specs.Told.{HasLines, HasTold};
 
     ghost has = { λ w o d. HasTold S.form (waiting_of S.form w.out.items w.rest) w.set.now w.exponent (line_now S.form w.line) o };
 
@@ -341,7 +343,7 @@ impl<S: Signs> Receiver for LineWriter<'_, S> {
 impl<S: Signs> Output for LineWriter<'_, S> {
     ghost use Rattle.std.specs.Prelude.{Some};
     ghost use Rattle.std.proofs.Common.{inl, inr};
-    ghost use Rattle.fast_told.specs.Told.{lines_of_set};
+    ghost use Rattle.fast_show.specs.Told.{lines_of_set};
     ghost use Rattle.fast_show.specs.Waiting.{left_in};
 
     ghost waiting = { λ w. waiting_of S.form w.out.items w.rest };

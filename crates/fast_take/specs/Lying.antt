@@ -1,12 +1,13 @@
 -- Where the value of a field that was taken lies. (Own.)
-use Rattle.std.specs.Prelude.{ℕ, ℤ, Bool, true, false, List, Option, Some, None}
+use Rattle.std.specs.Prelude.{◌≡◌, ℕ, ℤ, Bool, true, false, List, Option, Some, None}
 use Rattle.fast_value.specs.declared.kind.Operator.{Operator}
 use Rattle.fast_value.specs.declared.scalar.Scalar.{Scalar}
 use Rattle.fast_value.specs.declared.scalar.Scalar.TheVariants.{I32, I64}
 use Rattle.fast_template.specs.declared.resolved.FieldPart.{FieldPart}
 use Rattle.fast_dictionary.specs.declared.entry.Entry.{Entry}
 use Rattle.fast_field.specs.Found.{assigned_of}
-use Rattle.fast_take.specs.Takes.{value_aside}
+use Rattle.fast_take.specs.Takes.{is_there, value_aside}
+use Rattle.fast_take.specs.declared.took.Aside.{Aside as AsideOf}
 use Rattle.fast_take.specs.declared.took.Took.{Took}
 use Rattle.fast_take.specs.declared.took.Took.TheVariants as took
 use Rattle.fast_take.specs.declared.took.Unkept.{Unkept}
@@ -24,6 +25,18 @@ value_lying Aside i new u bytes = Some (value_aside i.kind bytes u)
 abbrev pub IsNumberAside : Unkept → Type 0
 IsNumberAside (unkept.Units s) = ⊥
 IsNumberAside u = Unit {0}
+
+-- whether what was sent is the value and no entry keeps it, by the operator and the bit
+abbrev pub is_aside : Operator → Bool → Bool
+is_aside Operator.Plain bit = true
+is_aside Operator.Default bit = bit
+is_aside o bit = false
+
+-- the value of a field that was taken is a string or a vector that no entry keeps
+pub record HasUnitsAside (o : Operator) (bit : Bool) (a : AsideOf) (t : Took) : Type 0 where
+  pub there : is_there t a ≡ true
+  pub aside : is_aside o bit ≡ true
+  pub units : IsNumberAside a.unkept → ⊥
 
 -- whether an operator leaves a value that was read in its entry
 abbrev pub is_kept : Operator → Bool

@@ -101,9 +101,10 @@ fn take_any(
 ///
 /// # Errors
 ///
-/// As `take_any`.
+/// The first fault of the field, and the entry is as it was. Memory: a growth was refused, and no more bytes were needed. An
+/// integer asks for none.
 #[inline(always)]
-pub(crate) fn take_sent(
+pub fn take_sent(
     alloc: Global,
     instr: &FieldPart,
     entry: &mut Entry,
@@ -136,7 +137,7 @@ pub(crate) fn take_sent(
 ///
 /// # Errors
 ///
-/// As `take_any`.
+/// As `take_sent` and `take_left_out`.
 #[inline(always)]
 pub fn take(
     alloc: Global,
@@ -161,6 +162,6 @@ pub fn take(
     if bit {
         take_sent(alloc, instr, entry, level, bytes, at, aside)
     } else {
-        take_left_out(alloc, instr, entry, level, bytes, at, aside)
+        take_left_out(instr.part, alloc, instr, entry, level, bytes, at, aside)
     }
 }

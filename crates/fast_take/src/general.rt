@@ -15,10 +15,10 @@ ghost use Rattle.fast_take.specs.Takes.{IsStopped, IsTook, LiesAside, best_bit, 
 use crate::took::{Aside, Took, Unkept};
 use fast_dictionary::Entry;
 use fast_field::{
-    FieldFault, FieldRefusal, Passed, find_field, find_units, pass_left_out, read_in_place,
-    write_found,
+    FieldFault, FieldRefusal, Passed, find_field, find_units, read_in_place, write_found,
 };
-use fast_template::{FieldPart, Kind, Operator, Scalar};
+use fast_relay::pass_quickly;
+use fast_template::{FieldPart, Kind, Operator, Part, Scalar};
 use fast_wire::{Level, Nullable};
 use std::alloc::Global;
 
@@ -53,13 +53,15 @@ fn read_left_out(
     }
 }
 
-/// Takes what bit 0 gives, most often without a value in between, and makes the entry the one afterwards.
+/// Takes what bit 0 gives a field that begins at `at`, most often without a value in between, and makes its entry the one
+/// afterwards. `which` is the part that the field is.
 ///
 /// # Errors
 ///
-/// As `read_left_out`.
+/// The first fault of the field, and the entry is as it was. Memory: an initial value was to be copied.
 #[inline(always)]
-pub(crate) fn take_left_out(
+pub fn take_left_out(
+    which: Part,
     alloc: Global,
     instr: &FieldPart,
     entry: &mut Entry,
@@ -68,6 +70,7 @@ pub(crate) fn take_left_out(
     at: usize,
     aside: &Aside,
 ) -> Result<Took, FieldFault>
+    requires which { which ≡ instr.now.part }
     requires place { at ≤ length bytes.now }
     requires bit { IsBitOf instr.now false }
     requires part { IsFieldPart instr.now }
@@ -75,7 +78,7 @@ pub(crate) fn take_left_out(
         (IsTook level instr.now entry.old entry.new false bytes.now at aside.now)
         (IsStopped level instr.now entry.old entry.new false bytes.now at) }
 {
-    match pass_left_out(instr, entry) {
+    match pass_quickly(which, instr, entry) {
         Passed::Present => Ok(Took::Stands(at)),
         Passed::Absent => Ok(Took::Absent(at)),
         Passed::Elsewhere => read_left_out(alloc, instr, entry, level, bytes, at, aside),

@@ -1,18 +1,19 @@
 //! The value of a field that was taken, from where it lies.
 
-ghost use Rattle.std.specs.Prelude.{◌≡◌, ◌%◌, ℕ, List, Some, IfOk, IfSome, IsTrue, IsUtf8, map};
+ghost use Rattle.std.specs.Prelude.{◌≡◌, ◌%◌, ℕ, List, Some, IfOk, IfSome, IsTrue, IsUtf8, OnErr, false, map, true};
 ghost use Rattle.std.specs.Option.{option_copied};
 ghost use Rattle.fast_wire.specs.Spans.{bytes_in};
-ghost use Rattle.fast_value.specs.Scalar.{IsScalar, is_of};
+ghost use Rattle.fast_value.specs.Scalar.{IsScalar, has_units, is_of, kind_of};
 ghost use Rattle.fast_value.specs.declared.kind.Kind as kind_type;
 ghost use Rattle.fast_value.specs.declared.kind.Kind.TheVariants.{Int32, Int64, Unicode};
 ghost use Rattle.fast_template.specs.declared.resolved.FieldPart as part_type;
 ghost use Rattle.fast_dictionary.specs.declared.entry.Entry as entry_type;
 ghost use Rattle.fast_field.specs.Found.{assigned_of};
+ghost use Rattle.fast_field.specs.Parts.{IsBitOf};
 ghost use Rattle.fast_field.specs.Sent.{units_sent};
 ghost use Rattle.fast_field.specs.Values.{of_units};
-ghost use Rattle.fast_take.specs.Lying.{IsNumberAside, is_absent as is_absent_spec, is_kept as is_kept_spec, is_other as is_other_spec, of_exponent, of_mantissa, value_lying};
-ghost use Rattle.fast_take.specs.Takes.{value_aside, value_taken, value_there};
+ghost use Rattle.fast_take.specs.Lying.{HasUnitsAside, IsNumberAside, is_absent as is_absent_spec, is_aside, is_kept as is_kept_spec, is_other as is_other_spec, of_exponent, of_mantissa, value_lying};
+ghost use Rattle.fast_take.specs.Takes.{is_there, value_aside, value_taken, value_there};
 
 use crate::took::{Aside, Took, Unkept};
 use fast_dictionary::Entry;
@@ -48,7 +49,8 @@ fn is_kept(operator: Operator) -> bool
 /// By the operator and the bit, where there is a value.
 #[inline(always)]
 fn where_there(operator: Operator, bit: bool) -> Lies
-    ensures { (i : part_type.FieldPart) (new : entry_type.Entry) (u : Unkept) (bytes : List ℕ)
+    ensures aside { result ≡ Lies.Aside → is_aside operator bit ≡ true }
+    ensures lies { (i : part_type.FieldPart) (new : entry_type.Entry) (u : Unkept) (bytes : List ℕ)
         → value_lying result i new u bytes ≡ value_there operator i new bit u bytes }
 {
     // (most fields)
@@ -98,7 +100,8 @@ fn assigned(entry: &Entry) -> Option<&Scalar>
 /// A value of its own, none of none; a number takes no memory.
 #[inline(always)]
 fn copied(alloc: Global, value: Option<&Scalar>) -> Result<Option<Scalar>, AllocError>
-    ensures { IfOk result (λ copy. copy ≡ option_copied value.entry) }
+    ensures copy { IfOk result (λ copy. copy ≡ option_copied value.entry) }
+    ensures memory { OnErr result (IfSome (option_copied value.entry) (λ v. IsTrue (has_units (kind_of v)))) }
 {
     match value {
         None => Ok(None),
@@ -234,7 +237,8 @@ impl Room {
         bytes: &[u8],
     ) -> Result<&Scalar, AllocError>
         requires { IsScalar (value_aside kind bytes.now unkept) }
-        ensures { IfOk result (λ value. value.now ≡ value_aside kind bytes.now unkept) }
+        ensures value { IfOk result (λ value. value.now ≡ value_aside kind bytes.now unkept) }
+        ensures memory { OnErr result (IsNumberAside unkept → ⊥) }
     {
         match unkept {
             Unkept::Units(span) => self.put_sent(alloc, kind, between(bytes, span)),
@@ -250,7 +254,8 @@ impl Aside {
     /// Where the value of a field lies that was taken under this bit.
     #[inline(always)]
     fn lies(&self, took: Took, operator: Operator, bit: bool) -> Lies
-        ensures { (i : part_type.FieldPart) (new : entry_type.Entry) (bytes : List ℕ)
+        ensures aside { result ≡ Lies.Aside → (is_there took self.now ≡ true) × (is_aside operator bit ≡ true) }
+        ensures lies { (i : part_type.FieldPart) (new : entry_type.Entry) (bytes : List ℕ)
             → i.operator ≡ operator
             → value_lying result i new self.now.unkept bytes ≡ value_taken i new bit bytes self.now took }
     {
@@ -318,7 +323,7 @@ impl Aside {
     ///
     /// # Errors
     ///
-    /// Memory was refused to the room.
+    /// Memory was refused to the room, of a string or a vector that no entry keeps.
     #[inline(always)]
     pub fn value<'a>(
         &self,
@@ -331,8 +336,9 @@ impl Aside {
         room: &'a mut Room,
     ) -> Result<Option<&'a Scalar>, AllocError>
         requires { IfSome (value_taken part.now entry.now bit bytes.now self.now took) IsScalar }
-        ensures { IfOk result (λ value. option_copied value
+        ensures value { IfOk result (λ value. option_copied value
             ≡ value_taken part.now entry.now bit bytes.now self.now took) }
+        ensures memory { OnErr result (HasUnitsAside part.now.operator bit self.now took) }
     {
         match self.lies(took, part.operator, bit) {
             Lies::Nowhere => Ok(None),
@@ -342,11 +348,32 @@ impl Aside {
         }
     }
 
-    /// The same as a value of its own. A number takes no memory.
+    /// The value of a field that was taken under bit 0, from where it lies.
+    #[inline(always)]
+    pub fn value_left_out<'a>(
+        &self,
+        took: Took,
+        part: &'a FieldPart,
+        entry: &'a Entry,
+    ) -> Option<&'a Scalar>
+        requires { IsBitOf part.now false }
+        ensures { (bytes : List ℕ) → option_copied result
+            ≡ value_taken part.now entry.now false bytes self.now took }
+    {
+        match self.lies(took, part.operator, false) {
+            Lies::Nowhere => None,
+            Lies::Initially => part.initial(),
+            Lies::Kept => assigned(entry),
+            // (bit 0 sends none)
+            Lies::Aside => unreachable!(),
+        }
+    }
+
+    /// The value of a field that was taken under this bit, as one of its own. A number takes no memory.
     ///
     /// # Errors
     ///
-    /// Memory was refused.
+    /// Memory was refused, of a string or a vector.
     #[inline(always)]
     pub fn copied_value(
         &self,
@@ -358,8 +385,10 @@ impl Aside {
         bytes: &[u8],
     ) -> Result<Option<Scalar>, AllocError>
         requires { IfSome (value_taken part.now entry.now bit bytes.now self.now took) IsScalar }
-        ensures { IfOk result (λ value. value
+        ensures value { IfOk result (λ value. value
             ≡ value_taken part.now entry.now bit bytes.now self.now took) }
+        ensures memory { OnErr result (IfSome (value_taken part.now entry.now bit bytes.now self.now took)
+            (λ v. IsTrue (has_units (kind_of v)))) }
     {
         match self.lies(took, part.operator, bit) {
             Lies::Nowhere => Ok(None),

@@ -17,4 +17,4 @@ copied_value-requires c =
 pub returns : goal.returns
 returns c =
     taken_as c.args.level c.args.part.now c.args.entry.now c.take.new.entry c.args.bit c.args.bytes.now c.args.at c.take.new.aside c.in_ok-took.took c.in_ok-value.value c.place.result
-    c.in_ok-took.ensures.taken c.in_ok-value.ensures c.place.ensures
+    c.in_ok-took.ensures.taken c.in_ok-value.ensures.value c.place.ensures

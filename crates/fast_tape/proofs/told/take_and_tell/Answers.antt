@@ -24,4 +24,4 @@ returns c =
     let h = c.in_ok-took.ensures.taken in
     let v = value_taken c.args.part.now c.take.new.entry c.args.bit c.args.bytes.now c.take.new.aside c.in_ok-took.took in
     let took = taken_as c.args.level c.args.part.now c.args.entry.now c.take.new.entry c.args.bit c.args.bytes.now c.args.at c.take.new.aside c.in_ok-took.took v c.place.result h refl c.place.ensures in
-    told c.args.bytes.now c.args.at c.place.result c.args.tape.now c.push_value.new.self took.0 took.1 c.in_ok-value.ensures c.in_ok-push_value.ensures
+    told c.args.bytes.now c.args.at c.place.result c.args.tape.now c.push_value.new.self took.0 took.1 c.in_ok-value.ensures.value c.in_ok-push_value.ensures

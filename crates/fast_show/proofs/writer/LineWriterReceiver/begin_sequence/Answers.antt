@@ -1,4 +1,6 @@
-use Rattle.fast_show.proofs.Common.{None, arith, refl, UInt32, Length, sequence_of, single, has_length, has_said, absent_said}
+use Rattle.fast_show.proofs.Common.{None, arith, refl, UInt32, Length, sequence_of, single}
+use Rattle.fast_show.proofs.ToldFields.{absent_said}
+use Rattle.fast_show.proofs.Writing.{has_length, has_said}
 use Rattle.fast_show.proofs.writer.LineWriterReceiver.begin_sequence.Goals as goal
 
 pub returns-in_ok-tell_absent-in-None-default-clause-goes : goal.returns-in_ok-tell_absent-in-None-default-clause-goes

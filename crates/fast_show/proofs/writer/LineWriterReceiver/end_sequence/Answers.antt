@@ -1,4 +1,4 @@
-use Rattle.fast_told.proofs.Writing.{has_elements}
+use Rattle.fast_show.proofs.Writing.{has_elements}
 use Rattle.fast_show.proofs.writer.LineWriterReceiver.end_sequence.Goals as goal
 
 pub returns-clause-has : goal.returns-clause-has

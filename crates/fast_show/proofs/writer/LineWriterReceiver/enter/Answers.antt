@@ -1,4 +1,4 @@
-use Rattle.fast_told.proofs.Writing.{has_entered}
+use Rattle.fast_show.proofs.Writing.{has_entered}
 use Rattle.fast_show.proofs.writer.LineWriterReceiver.enter.Goals as goal
 
 pub returns-clause-has : goal.returns-clause-has

@@ -1,4 +1,6 @@
-use Rattle.fast_show.proofs.Common.{None, Some, arith, refl, rules, Int32, Exponent, I32, field_in_parts, single, has_exponent, has_said, absent_said}
+use Rattle.fast_show.proofs.Common.{None, Some, arith, refl, rules, Int32, Exponent, I32, field_in_parts, single}
+use Rattle.fast_show.proofs.ToldFields.{absent_said}
+use Rattle.fast_show.proofs.Writing.{has_exponent, has_said}
 use Rattle.fast_show.proofs.writer.LineWriterReceiver.exponent.Goals as goal
 
 pub returns-in_ok-tell_absent-in-None-default-clause-goes : goal.returns-in_ok-tell_absent-in-None-default-clause-goes

@@ -1,4 +1,5 @@
-use Rattle.fast_show.proofs.Common.{refl, IfOk-weaker, whole_field, single, has_said}
+use Rattle.fast_show.proofs.Common.{refl, IfOk-weaker, whole_field, single}
+use Rattle.fast_show.proofs.Writing.{has_said}
 use Rattle.fast_show.proofs.writer.LineWriterReceiver.field.Goals as goal
 
 pub returns-clause-goes : goal.returns-clause-goes

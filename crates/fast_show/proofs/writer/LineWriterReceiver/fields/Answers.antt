@@ -1,4 +1,5 @@
-use Rattle.fast_show.proofs.Common.{None, Result, Ok, Err, IfOk, ap, refl, Fields, bare_next, HasTold, line_now, waiting_of, takes_none}
+use Rattle.fast_show.proofs.Common.{None, Result, Ok, Err, IfOk, ap, refl, Fields, bare_next, HasTold, line_now, waiting_of}
+use Rattle.fast_show.proofs.Taking.{takes_none}
 use Rattle.fast_show.proofs.writer.LineWriterReceiver.fields.Goals as goal
 
 -- what is said of an answer that came, of two clauses

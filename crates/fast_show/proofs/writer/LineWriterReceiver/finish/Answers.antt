@@ -1,4 +1,5 @@
-use Rattle.fast_show.proofs.Common.{◌++◌, ap, ap₂, sym, ◌∙◌, templates_in, written_of, ending, has_finished}
+use Rattle.fast_show.proofs.Common.{◌++◌, ap, ap₂, sym, ◌∙◌, templates_in, written_of, ending}
+use Rattle.fast_show.proofs.Writing.{has_finished}
 use Rattle.fast_show.proofs.writer.LineWriterReceiver.finish.Goals as goal
 
 pub returns-clause-stands : goal.returns-clause-stands

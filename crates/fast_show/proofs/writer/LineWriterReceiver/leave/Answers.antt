@@ -1,4 +1,5 @@
-use Rattle.fast_show.proofs.Common.{in_group, has_ended}
+use Rattle.fast_show.proofs.Common.{in_group}
+use Rattle.fast_show.proofs.Writing.{has_ended}
 use Rattle.fast_show.proofs.writer.LineWriterReceiver.leave.Goals as goal
 
 pub returns-clause-has : goal.returns-clause-has

@@ -1,4 +1,5 @@
-use Rattle.fast_show.proofs.Common.{written_of, ◌≡◌, ◌++◌, rules, decimal_text, has_mantissa}
+use Rattle.fast_show.proofs.Common.{written_of, ◌≡◌, ◌++◌, rules, decimal_text}
+use Rattle.fast_show.proofs.Writing.{has_mantissa}
 use Rattle.fast_show.proofs.writer.LineWriterReceiver.mantissa.Goals as goal
 
 pub returns-clause-goes : goal.returns-clause-goes

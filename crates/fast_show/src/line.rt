@@ -1,0 +1,410 @@
+//! The line of a message that is open.
+
+ghost use Rattle.std.specs.Prelude.{◌≤◌, length};
+
+use fast_gaps::{Gaps, Rest};
+use fast_lines::{Page, Piece, Signs, UNITS, all_stand, lay_scalar, lay_units, push_scalar};
+use fast_template::{FieldPart, Name, Scalar};
+use std::alloc::{AllocError, Global};
+
+/// A line of more bytes than this is long: long names and texts are left out of it as gaps, and told when it is handed on.
+const LONG: usize = 1_048_576;
+
+/// A name of no more bytes than these is written nevertheless: the gap would take as many.
+const SHORT_NAME: usize = 80;
+
+/// What is written of the line of a message, and the gaps in it.
+#[derive(Drop)]
+pub(crate) struct Line {
+    text: Page,
+    // what is no short piece, before it is appended to the text
+    long: Vec<u8>,
+    // a short piece, while it is laid out; it stays here, so that none is cleared for each
+    piece: Piece,
+    // whether what stands between two is due in front of what is next
+    led: bool,
+    gaps: Gaps,
+    ghost within: { gaps.closed ≤ length text },
+}
+
+impl Line {
+    ghost use Rattle.std.specs.Prelude.{◌≡◌, ◌<◌, ◌≤◌, Some, None, ◌++◌, ◌∷◌, [], true, false, codes, length, IfOk, OnOk};
+    ghost use Rattle.std.specs.Option.{option_copied};
+    ghost use Rattle.fast_gaps.specs.Filled.{left_of};
+    ghost use Rattle.fast_show.specs.Told.{Appends, PutsIn, Says, line_now, written_of};
+    ghost use Rattle.fast_lines.specs.Lines.{decimal_text, scalar_text};
+    ghost use Rattle.fast_lines.specs.Pieces.{laid};
+    ghost use Rattle.std.specs.List.{flat_map};
+    ghost use Rattle.fast_lines.specs.Signs.{ending, head_text, is_led, label_text, lead, quoted, unit_text};
+    ghost use Rattle.fast_lines.specs.declared.form.Form.{Form};
+
+    /// Of nothing. Takes no memory.
+    #[inline(always)]
+    pub(crate) fn new(alloc: Global) -> Line
+        ensures { (form : Form) → written_of form result ≡ [] }
+    {
+        Line {
+            text: Page::new(alloc),
+            long: Vec::new(alloc),
+            piece: Piece::new(),
+            led: true,
+            gaps: Gaps::new(alloc),
+        }
+    }
+
+    /// Whether it has gaps.
+    #[inline(always)]
+    pub(crate) fn has_gaps(&self) -> bool
+        ensures { result ≡ false → (form : Form) → written_of form self.now ≡ self.now.text }
+    {
+        !self.gaps.is_empty()
+    }
+
+    /// What is written; where it has no gaps, the line.
+    #[inline(always)]
+    pub(crate) fn as_slice(&self) -> &[u8]
+        ensures { result.now ≡ self.now.text }
+    {
+        self.text.as_slice()
+    }
+
+    /// All of it, to be handed on.
+    pub(crate) fn into_rest(self) -> Rest
+        ensures { (form : Form) → left_of form result ≡ written_of form self }
+    {
+        let Line {
+            text,
+            long,
+            gaps,
+            ..
+        } = self;
+        Rest::of(text, gaps, long)
+    }
+
+    /// Begins a line with what stands in front of the fields of a message of a template.
+    #[inline(always)]
+    pub(crate) fn begin<S: Signs>(
+        &mut self,
+        signs: S,
+        id: u32,
+        name: &str,
+    ) -> Result<(), AllocError>
+        ensures { OnOk result (line_now S.form self.new
+            ≡ record { text = head_text S.form id name.now; led = is_led S.form }) }
+    {
+        self.gaps.clear();
+        self.text.clear();
+        self.led = signs.is_led();
+        match signs.lay_head(id, name, &mut self.piece) {
+            Some(start) => self.text.put_piece(&self.piece, start),
+            None => self.put_head(signs, id, name),
+        }
+    }
+
+    // Appends what stands in front of the fields, where it is no short piece.
+    #[inline(never)]
+    fn put_head<S: Signs>(&mut self, signs: S, id: u32, name: &str) -> Result<(), AllocError>
+        ensures text { OnOk result ((form : Form) → Appends form self.old (head_text S.form id name.now) self.new) }
+        ensures led { self.new.led ≡ self.old.led }
+    {
+        self.long.clear();
+        signs.push_head(id, name, &mut self.long)?;
+        self.put_long()
+    }
+
+    // Appends a text.
+    #[tactic(auto, using(fast_gaps::proofs::Filled::filled_behind))]
+    #[inline(always)]
+    fn put(&mut self, text: &[u8]) -> Result<(), AllocError>
+        ensures text { OnOk result ((form : Form) → Appends form self.old text.now self.new) }
+        ensures led { self.new.led ≡ self.old.led }
+    {
+        self.text.put(text)?;
+        Ok(())
+    }
+
+    // Appends what is no short piece.
+    #[tactic(auto, using(fast_gaps::proofs::Filled::filled_behind))]
+    fn put_long(&mut self) -> Result<(), AllocError>
+        ensures text { OnOk result ((form : Form) → Appends form self.old self.old.long.items self.new) }
+        ensures led { self.new.led ≡ self.old.led }
+    {
+        self.text.put(&self.long)?;
+        Ok(())
+    }
+
+    // Whether it is long.
+    fn is_long(&self) -> bool {
+        self.text.len() > LONG
+    }
+
+    // Leaves a gap for what stands in front of a value.
+    fn leave_label(&mut self, name: &Name) -> Result<(), AllocError>
+        ensures text { OnOk result ((form : Form) → Appends form self.old (label_text form name.now) self.new) }
+        ensures led { self.new.led ≡ self.old.led }
+    {
+        self.gaps.leave_label(self.text.len(), name)?;
+        Ok(())
+    }
+
+    // Leaves a gap for a text of more than a few units; answers whether it did.
+    fn leave_text(&mut self, part: &FieldPart, value: &Scalar) -> Result<bool, AllocError>
+        ensures left { IfOk result (λ b. b ≡ true → (form : Form) → Appends form self.old (scalar_text form value.now) self.new) }
+        ensures none { IfOk result (λ b. b ≡ false → (form : Form) → written_of form self.new
+            ≡ written_of form self.old) }
+        ensures led { self.new.led ≡ self.old.led }
+    {
+        if self.gaps.leave_text(self.text.len(), part, value)? {
+            return Ok(true);
+        }
+        Ok(false)
+    }
+
+    // Appends the piece, which begins here.
+    #[tactic(auto, using(fast_gaps::proofs::Filled::filled_behind))]
+    #[inline(always)]
+    fn put_piece(&mut self, start: usize) -> Result<(), AllocError>
+        requires { start ≤ 64 }
+        ensures text { OnOk result ((form : Form) → Appends form self.old (laid self.old.piece.bytes start) self.new) }
+        ensures led { self.new.led ≡ self.old.led }
+    {
+        self.text.put_piece(&self.piece, start)?;
+        Ok(())
+    }
+
+    // Appends what stands between two where it is due.
+    #[inline(always)]
+    fn lead<S: Signs>(&mut self, signs: S) -> Result<(), AllocError>
+        ensures text { OnOk result (Appends S.form self.old (lead S.form self.old.led) self.new) }
+        ensures led { self.new.led ≡ self.old.led }
+    {
+        if self.led {
+            self.put(signs.between())
+        } else {
+            Ok(())
+        }
+    }
+
+    /// Appends what stands in front of a value, behind what stands between two where it is due.
+    #[inline(always)]
+    pub(crate) fn label<S: Signs>(&mut self, signs: S, name: &Name) -> Result<(), AllocError>
+        ensures { OnOk result (PutsIn S.form (lead S.form self.old.led ++ label_text S.form name.now) true self.old self.new) }
+    {
+        match signs.lay_label(name.as_str(), &mut self.piece, Piece::END) {
+            None => self.label_long(signs, name),
+            Some(start) => self.append(signs, start),
+        }
+    }
+
+    // The same of any length, one after the other; in a line that is long a long name is left out.
+    #[inline(never)]
+    fn label_long<S: Signs>(&mut self, signs: S, name: &Name) -> Result<(), AllocError>
+        ensures { OnOk result (PutsIn S.form (lead S.form self.old.led ++ label_text S.form name.now) true self.old self.new) }
+    {
+        self.lead(signs)?;
+        self.led = true;
+        if self.is_long() && name.as_str().len() > SHORT_NAME {
+            return self.leave_label(name);
+        }
+        self.long.clear();
+        signs.push_label(name.as_str(), &mut self.long)?;
+        self.put_long()
+    }
+
+    /// Appends the label of a field and its value, or what stands for one that is absent.
+    #[inline(never)]
+    pub(crate) fn tell<S: Signs>(
+        &mut self,
+        signs: S,
+        name: &Name,
+        part: &FieldPart,
+        value: Option<&Scalar>,
+    ) -> Result<(), AllocError>
+        ensures { OnOk result (Says S.form name.now (option_copied value.entry) self.old self.new) }
+    {
+        match lay_scalar(signs, value, &mut self.piece) {
+            None => self.tell_long(signs, name, part, value),
+            Some(start) => match signs.lay_label(name.as_str(), &mut self.piece, start) {
+                None => self.tell_long(signs, name, part, value),
+                Some(start) => self.append(signs, start),
+            },
+        }
+    }
+
+    // The same of any length, one after the other.
+    #[inline(never)]
+    fn tell_long<S: Signs>(
+        &mut self,
+        signs: S,
+        name: &Name,
+        part: &FieldPart,
+        value: Option<&Scalar>,
+    ) -> Result<(), AllocError>
+        ensures { OnOk result (Says S.form name.now (option_copied value.entry) self.old self.new) }
+    {
+        self.label(signs, name)?;
+        match value {
+            Some(value) => self.value_long(signs, part, value),
+            None => self.put(signs.absent()),
+        }
+    }
+
+    // Appends a value; in a line that is long a text is left out.
+    fn value_long<S: Signs>(
+        &mut self,
+        signs: S,
+        part: &FieldPart,
+        value: &Scalar,
+    ) -> Result<(), AllocError>
+        ensures text { OnOk result (Appends S.form self.old (scalar_text S.form value.now) self.new) }
+        ensures led { self.new.led ≡ self.old.led }
+    {
+        if self.is_long() && self.leave_text(part, value)? {
+            return Ok(());
+        }
+        match value {
+            Scalar::Ascii(text) => self.put_quoted(signs, text.as_slice()),
+            Scalar::Unicode(text) => self.put_quoted(signs, text.as_bytes()),
+            _ => {
+                self.long.clear();
+                push_scalar(signs, value, &mut self.long)?;
+                self.put_long()
+            }
+        }
+    }
+
+    // Appends a string in its quotes.
+    #[tactic(auto, using(fast_lines::proofs::Written::appended_more))]
+    fn put_quoted<S: Signs>(&mut self, signs: S, text: &[u8]) -> Result<(), AllocError>
+        ensures text { OnOk result (Appends S.form self.old (quoted S.form text.now) self.new) }
+        ensures led { self.new.led ≡ self.old.led }
+    {
+        self.put(b"\"")?;
+        self.put_text(signs, text)?;
+        self.put(b"\"")?;
+        Ok(())
+    }
+
+    // Appends a string without its quotes; where it stands as it is, at once.
+    #[tactic(auto, using(fast_lines::proofs::Written::plain_text))]
+    #[inline(always)]
+    fn put_text<S: Signs>(&mut self, signs: S, text: &[u8]) -> Result<(), AllocError>
+        ensures text { OnOk result (Appends S.form self.old (flat_map (unit_text S.form) text.now) self.new) }
+        ensures led { self.new.led ≡ self.old.led }
+    {
+        if all_stand(text) {
+            self.put(text)?;
+            return Ok(());
+        }
+        self.put_units(signs, text)
+    }
+
+    // The same, piece by piece.
+    fn put_units<S: Signs>(&mut self, signs: S, text: &[u8]) -> Result<(), AllocError>
+        ensures text { OnOk result (Appends S.form self.old (flat_map (unit_text S.form) text.now) self.new) }
+        ensures led { self.new.led ≡ self.old.led }
+    {
+        let mut at = 0;
+        while text.len() - at >= UNITS {
+            let start = lay_units(signs, &text[at..at + UNITS], &mut self.piece);
+            self.put_piece(start)?;
+            at += UNITS;
+        }
+        let start = lay_units(signs, &text[at..], &mut self.piece);
+        self.put_piece(start)?;
+        Ok(())
+    }
+
+    /// Appends the label of what is absent, and what stands for it.
+    #[inline(never)]
+    pub(crate) fn tell_absent<S: Signs>(&mut self, signs: S, name: &Name) -> Result<(), AllocError>
+        ensures { OnOk result (Says S.form name.now None self.old self.new) }
+    {
+        self.label(signs, name)?;
+        self.put(signs.absent())
+    }
+
+    // Appends the piece, which begins here with a label, behind what stands between two where it is due.
+    #[inline(always)]
+    fn append<S: Signs>(&mut self, signs: S, start: usize) -> Result<(), AllocError>
+        requires { (0 < start) × (start ≤ 64) }
+        ensures { OnOk result (PutsIn S.form (lead S.form self.old.led ++ laid self.old.piece.bytes start) true self.old self.new) }
+    {
+        if !self.led {
+            self.led = true;
+            return self.put_piece(start);
+        }
+        match signs.between() {
+            [byte] => {
+                let start = self.piece.lay_byte(start, *byte);
+                self.put_piece(start)
+            }
+            between => {
+                self.put(between)?;
+                self.put_piece(start)
+            }
+        }
+    }
+
+    /// Appends a decimal, behind its label.
+    #[inline(always)]
+    pub(crate) fn push_decimal(&mut self, mantissa: i64, exponent: i32) -> Result<(), AllocError>
+        ensures text { OnOk result ((form : Form) → Appends form self.old (decimal_text mantissa exponent) self.new) }
+        ensures led { self.new.led ≡ self.old.led }
+    {
+        let start = self.piece.lay_decimal(mantissa, exponent);
+        self.put_piece(start)
+    }
+
+    /// Appends a brace, behind what stands between two where it is due; behind the brace it is not.
+    #[inline(always)]
+    pub(crate) fn open_brace<S: Signs>(&mut self, signs: S) -> Result<(), AllocError>
+        ensures { OnOk result (PutsIn S.form (lead S.form self.old.led ++ codes "{") false self.old self.new) }
+    {
+        self.lead(signs)?;
+        self.open(b'{')
+    }
+
+    /// Appends a label and a bracket or a brace, behind which nothing is due.
+    #[inline(always)]
+    pub(crate) fn open_under<S: Signs>(
+        &mut self,
+        signs: S,
+        name: &Name,
+        bracket: u8,
+    ) -> Result<(), AllocError>
+        ensures { OnOk result (PutsIn S.form ((lead S.form self.old.led ++ label_text S.form name.now) ++ bracket ∷ [])
+            false self.old self.new) }
+    {
+        self.label(signs, name)?;
+        self.open(bracket)
+    }
+
+    // Appends a bracket or a brace, behind which nothing is due.
+    #[inline(always)]
+    fn open(&mut self, bracket: u8) -> Result<(), AllocError>
+        ensures { OnOk result ((form : Form) → PutsIn form (bracket ∷ []) false self.old self.new) }
+    {
+        self.put(&[bracket])?;
+        self.led = false;
+        Ok(())
+    }
+
+    /// Appends the bracket or the brace at the end, behind which what stands between two is due.
+    #[inline(always)]
+    pub(crate) fn close(&mut self, bracket: u8) -> Result<(), AllocError>
+        ensures { OnOk result ((form : Form) → PutsIn form (bracket ∷ []) true self.old self.new) }
+    {
+        self.put(&[bracket])?;
+        self.led = true;
+        Ok(())
+    }
+
+    /// Appends what ends the line.
+    #[inline(always)]
+    pub(crate) fn end<S: Signs>(&mut self, signs: S) -> Result<(), AllocError>
+        ensures { OnOk result (Appends S.form self.old (ending S.form) self.new) }
+    {
+        self.put(signs.ending())
+    }
+}

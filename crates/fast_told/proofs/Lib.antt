@@ -1,6 +1,0 @@
-mod Common
-pub mod SameLines
-mod Telling
-pub mod ToldFields
-pub mod Taking
-pub mod Writing
