@@ -27,8 +27,8 @@ pub use Rattle.fast_machine.proofs.Followings.{all_carried, follows_behind, has_
 pub use Rattle.fast_machine.proofs.Runs.{carried_of}
 pub use Rattle.fast_machine.specs.Following.{FollowsAt, IsCutAt, Refused, mode_of}
 pub use Rattle.fast_machine.specs.Standing.{Carried}
-pub use Rattle.fast_messages.specs.Built.{IsBuilt, IsNextBuilt, with_whole}
-pub use Rattle.fast_messages.specs.declared.builder.Builder.{Builder}
+pub use Rattle.fast_decoder.specs.Built.{IsBuilt, IsNextBuilt, with_whole}
+pub use Rattle.fast_decoder.specs.declared.builder.Builder.{Builder}
 pub use Rattle.fast_decoder.specs.Calls.{IsSameStream, ReadsOn, reader_of}
 pub use Rattle.fast_decoder.specs.Inputs.{Causes, Follows, HasReached, IsCaused, IsFaultOf, OnFault, Reader, Reads, RefusedBy, Refuses, Repeats, Stands, told_by, waiting_in}
 pub use Rattle.fast_decoder.specs.declared.decoder.Decoder.{Decoder}

@@ -1,2 +1,3 @@
+pub mod Built
 pub mod Calls
 pub mod Inputs

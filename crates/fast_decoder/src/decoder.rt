@@ -10,9 +10,9 @@ ghost use Rattle.fast_machine.specs.Following.{IsHeld, Refused};
 ghost use Rattle.fast_machine.specs.Progress.{IsUnended};
 ghost use Rattle.fast_walk.specs.Traversals.{ServesAll};
 
+use crate::builder::Builder;
 use fast_dictionary::Entries;
 use fast_machine::Machine;
-use fast_messages::Builder;
 use fast_stream::{Cause, Fault, Message, Mode};
 use fast_template::TemplateSet;
 use std::alloc::Global;

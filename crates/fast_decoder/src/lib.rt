@@ -1,16 +1,18 @@
 //! Messages from a stream, which comes in chunks or from a reader.
 //!
-//! What a stream carries, where it has no reading, the machine that goes over its pieces and the builder of its messages
-//! stand in `fast_stream`, `fast_machine` and `fast_messages`, and what a caller needs of them can be named here too.
-//! `specs/Inputs` says what a reader gave and what the stream of messages answered.
+//! What a stream carries, where it has no reading, and the machine that goes over its pieces stand in `fast_stream` and
+//! `fast_machine`, and what a caller needs of them can be named here too. [`Builder`] is the receiver that keeps the nodes of the
+//! message that is open, and the messages that have ended (`specs/Built`). `specs/Inputs` says what a reader gave and what the
+//! stream of messages answered.
 #![tactic(auto)]
 
+mod builder;
 mod decoder;
 mod input;
 
+pub use builder::{Builder, Outer};
 pub use decoder::Decoder;
 pub use fast_machine::Machine;
-pub use fast_messages::{Builder, Outer};
 pub use fast_stream::{Cause, Fault, Framing, Message, Mode, Node, Place};
 pub use fast_walk::Receiver;
 pub use fast_wire::Level;

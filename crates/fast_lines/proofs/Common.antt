@@ -1,5 +1,5 @@
 -- What the proofs of this crate cite from elsewhere, passed on from one place. Declares nothing.
-pub use Rattle.std.proofs.Common.{Bool, Err, List, None, Ok, Option, Result, Some, [], ap, append_assoc, ap₂, arith, codes, cond, decimal, drop, eqb, false, get_or, inl, inr, length, length-drop, map, negsuc, option_map, pos, refl, replicate, rules, slice_index, subst, suc, sym, take, take-take, true, ℕ, ◌%◌, ◌*◌, ◌++◌, ◌+◌, ◌-◌, ◌/◌, ◌<◌, ◌^◌, ◌∙◌, ◌∷◌, ◌≡◌, ◌≢◌, ◌≤◌}
+pub use Rattle.std.proofs.Common.{Bool, Err, List, None, Ok, Option, Result, Some, [], ap, append_assoc, ap₂, arith, codes, cond, decimal, drop, eqb, false, get_or, inl, inr, length, length-drop, map, negsuc, option_map, pos, refl, replicate, rules, slice_index, subst, suc, sym, take, take-take, true, zero, ℕ, ◌%◌, ◌&&◌, ◌*◌, ◌++◌, ◌+◌, ◌-◌, ◌/◌, ◌<◌, ◌^◌, ◌∙◌, ◌∷◌, ◌≡◌, ◌≢◌, ◌≤◌}
 pub use Rattle.std.proofs.Math.Seq.{drop-append-add, drop-append_seam, take-append-add, take-length}
 pub use Rattle.std.proofs.lemmas.Bool.{and_parts, cases_lt}
 pub use Rattle.std.proofs.lemmas.Bool.Decides.{nat_tests}
@@ -14,7 +14,7 @@ pub use Rattle.std.specs.Global.{Global, Vec}
 pub use Rattle.std.specs.List.{flat_map, list_all}
 pub use Rattle.std.specs.declared.alloc.AllocError.{AllocError}
 pub use Rattle.std.specs.formers.vec.Vec.{mapped}
-pub use lib.Dec.{ltb}
+pub use lib.Dec.{T, ltb}
 pub use lib.Lanes.{chunk, mask_l, put_chunk, top, zip2}
 pub use mathlib.Core.Former.{this}
 pub use mir.Syntax.{w8}
@@ -33,8 +33,8 @@ pub use Rattle.fast_template.specs.declared.resolved.Flat.TheVariants.{rolls-Seq
 pub use Rattle.fast_stream.specs.Nodes.{Content, Item, Items, elements_of, item_of, items_in, items_of, node_step, sequence_elements}
 pub use Rattle.fast_stream.specs.declared.message.Node.{Node, fold_out-Node}
 pub use Rattle.fast_stream.specs.declared.message.Node.TheVariants.{Sequence, outs-Sequence}
+pub use Rattle.fast_lines.specs.Digits.{eight_digits, four_digits, two_digits}
 pub use Rattle.fast_lines.specs.Lines.{bracketed, elements_text, joined, label, line_by, member_text, members_text, node_text, sequence_text, value_text}
-pub use Rattle.fast_lines.specs.Pieces.{laid}
 pub use Rattle.fast_lines.specs.Signs.{between, is_plain, quoted, unit_text}
 pub use Rattle.fast_lines.specs.Written.{Adds, Extends, Shows, Writes}
 pub use Rattle.fast_lines.specs.declared.form.Form.{Form}

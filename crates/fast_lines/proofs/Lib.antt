@@ -3,4 +3,5 @@ mod Lanes
 pub mod Written
 mod Nested
 mod LineRows
-mod Pieces
+mod Laid
+mod Decimals

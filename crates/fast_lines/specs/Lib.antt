@@ -1,4 +1,4 @@
 pub mod Lines
 pub mod Signs
 pub mod Written
-pub mod Pieces
+pub mod Digits

@@ -3,9 +3,10 @@
 ghost use Rattle.fast_lines.specs.declared.form.Form.TheVariants.{Text, Json};
 
 use crate::bytes::{push, push_byte, push_hex, push_unsigned};
-use crate::piece::Piece;
+use crate::digits::lay_unsigned;
 use crate::signs::{Escape, Signs};
 use crate::strings::{lay_quoted, push_quoted, stands};
+use crate::tail::{LONGEST, lay_byte, lay_hex, lay_hex_pair, lay_if, lay_text};
 use std::alloc::AllocError;
 
 /// How a message is written as a line.
@@ -29,13 +30,13 @@ impl Escape for TextSigns {
     ghost form = { Text };
 
     #[inline(always)]
-    fn lay_unit(self, byte: u8, piece: &mut Piece, start: usize) -> usize {
+    fn lay_unit(self, byte: u8, bytes: &mut [u8], at: usize) -> usize {
         if stands(byte) {
-            return piece.lay_byte(start, byte);
+            return lay_byte(bytes, at, byte);
         }
-        let start = piece.lay_hex_pair(start, byte);
-        let start = piece.lay_byte(start, b'x');
-        piece.lay_byte(start, b'\\')
+        let at = lay_byte(bytes, at, b'\\');
+        let at = lay_byte(bytes, at, b'x');
+        lay_hex_pair(bytes, at, byte)
     }
 }
 
@@ -66,11 +67,9 @@ impl Signs for TextSigns {
     }
 
     #[inline(always)]
-    fn lay_vector(self, bytes: &[u8], piece: &mut Piece, start: usize) -> Option<usize> {
-        match piece.lay_hex(start, bytes) {
-            Some(start) => Some(piece.lay_byte(start, b'x')),
-            None => None,
-        }
+    fn lay_vector(self, vector: &[u8], bytes: &mut [u8], at: usize) -> Option<usize> {
+        let at = lay_byte(bytes, at, b'x');
+        lay_hex(bytes, at, vector)
     }
 
     #[inline(always)]
@@ -80,8 +79,14 @@ impl Signs for TextSigns {
     }
 
     #[inline(always)]
-    fn lay_label(self, name: &str, piece: &mut Piece, start: usize) -> Option<usize> {
-        piece.lay_before(start, name.as_bytes(), b'=')
+    fn lay_label(self, led: bool, name: &str, bytes: &mut [u8], at: usize) -> Option<usize> {
+        let name = name.as_bytes();
+        if name.len() > LONGEST {
+            return None;
+        }
+        let at = lay_if(bytes, at, b' ', led);
+        let at = lay_text(bytes, at, name);
+        Some(lay_byte(bytes, at, b'='))
     }
 
     #[inline(always)]
@@ -92,14 +97,14 @@ impl Signs for TextSigns {
     }
 
     #[inline(always)]
-    fn lay_head(self, id: u32, name: &str, piece: &mut Piece) -> Option<usize> {
-        match piece.lay_last(name.as_bytes()) {
-            Some(start) => {
-                let start = piece.lay_byte(start, b' ');
-                Some(piece.lay_unsigned(start, u64::from(id)))
-            }
-            None => None,
+    fn lay_head(self, id: u32, name: &str, bytes: &mut [u8], at: usize) -> Option<usize> {
+        let name = name.as_bytes();
+        if name.len() > LONGEST {
+            return None;
         }
+        let at = lay_unsigned(bytes, at, u64::from(id));
+        let at = lay_byte(bytes, at, b' ');
+        Some(lay_text(bytes, at, name))
     }
 }
 
@@ -107,17 +112,13 @@ impl Escape for JsonSigns {
     ghost form = { Json };
 
     #[inline(always)]
-    fn lay_unit(self, byte: u8, piece: &mut Piece, start: usize) -> usize {
+    fn lay_unit(self, byte: u8, bytes: &mut [u8], at: usize) -> usize {
         if byte < 0x20 || byte == 0x7F {
-            let start = piece.lay_hex_pair(start, byte);
-            return piece.lay(start, b"\\u00");
+            let at = lay_text(bytes, at, b"\\u00");
+            return lay_hex_pair(bytes, at, byte);
         }
-        let start = piece.lay_byte(start, byte);
-        if byte == b'"' || byte == b'\\' {
-            piece.lay_byte(start, b'\\')
-        } else {
-            start
-        }
+        let at = lay_if(bytes, at, b'\\', byte == b'"' || byte == b'\\');
+        lay_byte(bytes, at, byte)
     }
 }
 
@@ -149,13 +150,10 @@ impl Signs for JsonSigns {
     }
 
     #[inline(always)]
-    fn lay_vector(self, bytes: &[u8], piece: &mut Piece, start: usize) -> Option<usize> {
-        if start == 0 {
-            return None;
-        }
-        let start = piece.lay_byte(start, b'"');
-        match piece.lay_hex(start, bytes) {
-            Some(start) => Some(piece.lay_byte(start, b'"')),
+    fn lay_vector(self, vector: &[u8], bytes: &mut [u8], at: usize) -> Option<usize> {
+        let at = lay_byte(bytes, at, b'"');
+        match lay_hex(bytes, at, vector) {
+            Some(at) => Some(lay_byte(bytes, at, b'"')),
             None => None,
         }
     }
@@ -167,12 +165,12 @@ impl Signs for JsonSigns {
     }
 
     #[inline(always)]
-    fn lay_label(self, name: &str, piece: &mut Piece, start: usize) -> Option<usize> {
-        if start == 0 {
-            return None;
+    fn lay_label(self, led: bool, name: &str, bytes: &mut [u8], at: usize) -> Option<usize> {
+        let at = lay_if(bytes, at, b',', led);
+        match lay_quoted(self, name.as_bytes(), bytes, at) {
+            Some(at) => Some(lay_byte(bytes, at, b':')),
+            None => None,
         }
-        let start = piece.lay_byte(start, b':');
-        lay_quoted(self, name.as_bytes(), piece, start)
     }
 
     #[inline(always)]
@@ -185,7 +183,7 @@ impl Signs for JsonSigns {
     }
 
     #[inline(always)]
-    fn lay_head(self, _id: u32, _name: &str, _piece: &mut Piece) -> Option<usize> {
+    fn lay_head(self, _id: u32, _name: &str, _bytes: &mut [u8], _at: usize) -> Option<usize> {
         None
     }
 }

@@ -1,7 +1,6 @@
 //! Messages of any template set as lines, and what a check says.
 
-ghost use Rattle.std.specs.Prelude.{◌≡◌, ◌++◌, ◌≤◌, [], Some, None, IfSome, map};
-ghost use Rattle.fast_lines.specs.Pieces.{laid};
+ghost use Rattle.std.specs.Prelude.{◌≡◌, ◌++◌, ◌≤◌, ◌+◌, [], Some, None, IfSome, map, length, take};
 ghost use Rattle.std.specs.Option.{option_copied};
 ghost use Rattle.fast_template.specs.Resolved.{instruction_of, list_of, resolved_of};
 ghost use Rattle.fast_stream.specs.Nodes.{single, item_of, items_in, elements_of, content_of};
@@ -12,10 +11,11 @@ ghost use Rattle.fast_lines.specs.Written.{Writes, Shows};
 ghost use Rattle.fast_lines.specs.declared.lines.ShowFault.TheVariants as fault;
 
 use crate::bytes::{push, push_byte, push_decimal, push_sign, push_signed, push_unsigned};
+use crate::digits::{lay_decimal, lay_signed, lay_unsigned};
 use crate::form::{Form, JsonSigns, TextSigns};
-use crate::piece::Piece;
 use crate::signs::Signs;
 use crate::strings::{lay_quoted, push_quoted};
+use crate::tail::lay_text;
 use fast_field::is_spellable;
 use fast_stream::{Message, Node};
 use fast_template::{Flat, FlatTemplate, Kind, Presence, Scalar, TemplateSet};
@@ -62,26 +62,34 @@ pub fn push_scalar<S: Signs>(signs: S, value: &Scalar, out: &mut Vec<u8>) -> Res
     }
 }
 
-/// Lays a value of any type, or what stands for none, at the end of a piece, and answers where that begins then; none where
-/// the value is not short.
+/// Lays a value of any type, or what stands for none, at a place, and answers the place behind it; none where the value is
+/// not short.
 #[inline(always)]
-pub fn lay_scalar<S: Signs>(signs: S, value: Option<&Scalar>, piece: &mut Piece) -> Option<usize>
-    ensures room { IfSome result (λ start. start ≤ 64) }
-    ensures laid { IfSome result (λ start. laid piece.new.bytes start
-        ≡ said_text S.form (option_copied value.entry)) }
+pub(crate) fn lay_scalar<S: Signs>(
+    signs: S,
+    value: Option<&Scalar>,
+    bytes: &mut [u8],
+    at: usize,
+) -> Option<usize>
+    requires { at + 66 ≤ length bytes.old }
+    ensures place { IfSome result (λ next. (at ≤ next) × (next ≤ at + 66)) }
+    ensures laid { IfSome result (λ next. take next bytes.new
+        ≡ take at bytes.old ++ said_text S.form (option_copied value.entry)) }
+    ensures before { take at bytes.new ≡ take at bytes.old }
+    ensures length { length bytes.new ≡ length bytes.old }
 {
     match value {
-        None => Some(piece.lay(Piece::END, signs.absent())),
-        Some(Scalar::U32(number)) => Some(piece.lay_unsigned(Piece::END, u64::from(*number))),
-        Some(Scalar::I32(number)) => Some(piece.lay_signed(Piece::END, i64::from(*number))),
-        Some(Scalar::U64(number)) => Some(piece.lay_unsigned(Piece::END, *number)),
-        Some(Scalar::I64(number)) => Some(piece.lay_signed(Piece::END, *number)),
+        None => Some(lay_text(bytes, at, signs.absent())),
+        Some(Scalar::U32(number)) => Some(lay_unsigned(bytes, at, u64::from(*number))),
+        Some(Scalar::I32(number)) => Some(lay_signed(bytes, at, i64::from(*number))),
+        Some(Scalar::U64(number)) => Some(lay_unsigned(bytes, at, *number)),
+        Some(Scalar::I64(number)) => Some(lay_signed(bytes, at, *number)),
         Some(Scalar::Decimal { exponent, mantissa }) => {
-            Some(piece.lay_decimal(*mantissa, *exponent))
+            Some(lay_decimal(bytes, at, *mantissa, *exponent))
         }
-        Some(Scalar::Ascii(text)) => lay_quoted(signs, text.as_slice(), piece, Piece::END),
-        Some(Scalar::Unicode(text)) => lay_quoted(signs, text.as_bytes(), piece, Piece::END),
-        Some(Scalar::Bytes(bytes)) => signs.lay_vector(bytes.as_slice(), piece, Piece::END),
+        Some(Scalar::Ascii(text)) => lay_quoted(signs, text.as_slice(), bytes, at),
+        Some(Scalar::Unicode(text)) => lay_quoted(signs, text.as_bytes(), bytes, at),
+        Some(Scalar::Bytes(vector)) => signs.lay_vector(vector.as_slice(), bytes, at),
     }
 }
 

@@ -1,10 +1,17 @@
 //! The text of a line that is open, with room behind it.
 
-ghost use Rattle.std.specs.Prelude.{◌≡◌, ◌≤◌, ◌+◌, ◌++◌, [], ℕ, List, length, take, OnOk, OnErr};
-ghost use Rattle.fast_lines.specs.Pieces.{laid};
+ghost use Rattle.std.specs.Prelude.{◌≡◌, ◌≤◌, ◌+◌, ◌++◌, [], ℕ, List, true, false, length, take, OnOk, OnErr};
+ghost use Rattle.std.specs.List.{flat_map};
+ghost use Rattle.std.specs.Option.{option_copied};
+ghost use Rattle.fast_lines.specs.Lines.{decimal_text, said_text};
+ghost use Rattle.fast_lines.specs.Signs.{head_text, label_text, lead, unit_text};
 ghost use Rattle.fast_lines.specs.Written.{Writes};
 
-use crate::piece::Piece;
+use crate::digits::lay_decimal;
+use crate::lines::lay_scalar;
+use crate::signs::{Escape, Signs};
+use crate::strings::lay_units;
+use fast_template::Scalar;
 use std::alloc::{AllocError, Global};
 use std::marker::Model;
 
@@ -54,6 +61,9 @@ fn make_room(bytes: &mut Vec<u8>, end: usize, count: usize) -> Result<(), AllocE
         Ok(())
     }
 }
+
+/// So much room is seen to for what is laid out at once: a label and a short value.
+const ROOM: usize = 136;
 
 impl Page {
     /// Of nothing. Takes no memory.
@@ -107,19 +117,110 @@ impl Page {
         Ok(())
     }
 
-    /// Appends a piece that begins here.
+    /// Sees that there is room for what is laid out at once. What is written stays.
     ///
     /// # Errors
     ///
     /// As `put`.
     #[inline(always)]
-    pub fn put_piece(&mut self, piece: &Piece, start: usize) -> Result<(), AllocError>
-        requires { start ≤ 64 }
-        ensures { Writes (laid piece.now.bytes start) result self.old self.new }
+    pub fn see_room(&mut self) -> Result<(), AllocError>
+        ensures { self.new ≡ self.old }
     {
-        make_room(&mut self.bytes, self.end, Piece::END)?;
-        piece.put_at(start, &mut self.bytes, self.end);
-        self.end += Piece::END - start;
+        make_room(&mut self.bytes, self.end, ROOM)
+    }
+
+    /// Appends the label of a name, behind what stands between two where that is due, and a value or what stands for none;
+    /// answers whether it did, and appends nothing where one of both is not short, or there is too little room. It takes no
+    /// memory.
+    #[inline(always)]
+    pub fn put_field<S: Signs>(
+        &mut self,
+        signs: S,
+        led: bool,
+        name: &str,
+        value: Option<&Scalar>,
+    ) -> bool
+        ensures done { result ≡ true → self.new ≡ self.old
+            ++ ((lead S.form led ++ label_text S.form name.now) ++ said_text S.form (option_copied value.entry)) }
+        ensures left { result ≡ false → self.new ≡ self.old }
+    {
+        if self.bytes.len() - self.end < ROOM {
+            return false;
+        }
+        match signs.lay_label(led, name, &mut self.bytes, self.end) {
+            None => false,
+            Some(at) => match lay_scalar(signs, value, &mut self.bytes, at) {
+                None => false,
+                Some(end) => {
+                    self.end = end;
+                    true
+                }
+            },
+        }
+    }
+
+    /// The same of the label alone.
+    #[inline(always)]
+    pub fn put_label<S: Signs>(&mut self, signs: S, led: bool, name: &str) -> bool
+        ensures done { result ≡ true → self.new ≡ self.old ++ (lead S.form led ++ label_text S.form name.now) }
+        ensures left { result ≡ false → self.new ≡ self.old }
+    {
+        if self.bytes.len() - self.end < ROOM {
+            return false;
+        }
+        match signs.lay_label(led, name, &mut self.bytes, self.end) {
+            None => false,
+            Some(end) => {
+                self.end = end;
+                true
+            }
+        }
+    }
+
+    /// The same of what stands in front of the fields of a message.
+    #[inline(always)]
+    pub fn put_head<S: Signs>(&mut self, signs: S, id: u32, name: &str) -> bool
+        ensures done { result ≡ true → self.new ≡ self.old ++ head_text S.form id name.now }
+        ensures left { result ≡ false → self.new ≡ self.old }
+    {
+        if self.bytes.len() - self.end < ROOM {
+            return false;
+        }
+        match signs.lay_head(id, name, &mut self.bytes, self.end) {
+            None => false,
+            Some(end) => {
+                self.end = end;
+                true
+            }
+        }
+    }
+
+    /// Appends a decimal.
+    ///
+    /// # Errors
+    ///
+    /// As `put`.
+    #[inline(always)]
+    pub fn put_decimal(&mut self, mantissa: i64, exponent: i32) -> Result<(), AllocError>
+        ensures { Writes (decimal_text mantissa exponent) result self.old self.new }
+    {
+        make_room(&mut self.bytes, self.end, ROOM)?;
+        self.end = lay_decimal(&mut self.bytes, self.end, mantissa, exponent);
+        Ok(())
+    }
+
+    /// Appends a string of few bytes without its quotes.
+    ///
+    /// # Errors
+    ///
+    /// As `put`.
+    #[inline(always)]
+    pub fn put_units<S: Escape>(&mut self, escape: S, text: &[u8]) -> Result<(), AllocError>
+        requires { length text.now ≤ 10 }
+        ensures { Writes (flat_map (unit_text S.form) text.now) result self.old self.new }
+    {
+        make_room(&mut self.bytes, self.end, ROOM)?;
+        self.end = lay_units(escape, text, &mut self.bytes, self.end);
         Ok(())
     }
 }

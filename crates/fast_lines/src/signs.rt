@@ -1,12 +1,10 @@
 //! The signs of a form of line.
 
-ghost use Rattle.std.specs.Prelude.{◌≡◌, ◌<◌, ◌≤◌, ◌+◌, ◌++◌, IfSome};
-ghost use Rattle.fast_lines.specs.Pieces.{laid};
+ghost use Rattle.std.specs.Prelude.{◌≡◌, ◌≤◌, ◌+◌, ◌++◌, length, take, IfSome};
 ghost use Rattle.fast_lines.specs.declared.form.Form.{Form as FormOf};
-ghost use Rattle.fast_lines.specs.Signs.{absent_sign, between, ending, head_text, is_led, label_text, unit_text, vector_text};
+ghost use Rattle.fast_lines.specs.Signs.{absent_sign, between, ending, head_text, is_led, label_text, lead, unit_text, vector_text};
 ghost use Rattle.fast_lines.specs.Written.{Writes};
 
-use crate::piece::Piece;
 use std::alloc::AllocError;
 
 /// How the bytes of a string stand in a form of line.
@@ -14,11 +12,12 @@ pub trait Escape: Copy {
     // Which form it is.
     ghost form: { FormOf };
 
-    /// Lays a byte of a string, as it is or escaped, in front of a piece that begins here, and answers where it begins then.
-    fn lay_unit(self, byte: u8, piece: &mut Piece, start: usize) -> usize
-        requires { (6 ≤ start) × (start ≤ 64) }
-        ensures place { (result ≤ start) × (start ≤ result + 6) }
-        ensures laid { laid piece.new.bytes result ≡ unit_text form byte ++ laid piece.old.bytes start };
+    /// Lays a byte of a string, as it is or escaped, at a place, and answers the place behind it.
+    fn lay_unit(self, byte: u8, bytes: &mut [u8], at: usize) -> usize
+        requires { at + 6 ≤ length bytes.old }
+        ensures place { (at ≤ result) × (result ≤ at + 6) }
+        ensures laid { take result bytes.new ≡ take at bytes.old ++ unit_text form byte }
+        ensures length { length bytes.new ≡ length bytes.old };
 }
 
 /// The signs of a form of line, which is known where the program is made: a line of text asks nothing of the other form.
@@ -47,13 +46,14 @@ pub trait Signs: Escape {
     fn push_vector(self, bytes: &[u8], out: &mut Vec<u8>) -> Result<(), AllocError>
         ensures { Writes (vector_text Self.form bytes.now) result out.old.items out.new.items };
 
-    /// Lays a byte vector in hex digits in front of a piece that begins here, and answers where it begins then; none where
-    /// the vector is not short.
-    fn lay_vector(self, bytes: &[u8], piece: &mut Piece, start: usize) -> Option<usize>
-        requires { start ≤ 64 }
-        ensures room { IfSome result (λ next. next ≤ 64) }
-        ensures laid { IfSome result (λ next. laid piece.new.bytes next
-            ≡ vector_text Self.form bytes.now ++ laid piece.old.bytes start) };
+    /// Lays a byte vector in hex digits at a place, and answers the place behind it; none where the vector is not short.
+    fn lay_vector(self, vector: &[u8], bytes: &mut [u8], at: usize) -> Option<usize>
+        requires { at + 66 ≤ length bytes.old }
+        ensures place { IfSome result (λ next. (at ≤ next) × (next ≤ at + 66)) }
+        ensures laid { IfSome result (λ next. take next bytes.new
+            ≡ take at bytes.old ++ vector_text Self.form vector.now) }
+        ensures before { take at bytes.new ≡ take at bytes.old }
+        ensures length { length bytes.new ≡ length bytes.old };
 
     /// Appends what stands in front of the value of a field of a name.
     ///
@@ -63,13 +63,15 @@ pub trait Signs: Escape {
     fn push_label(self, name: &str, out: &mut Vec<u8>) -> Result<(), AllocError>
         ensures { Writes (label_text Self.form name.now) result out.old.items out.new.items };
 
-    /// Lays what stands in front of the value of a field of a name in front of a piece that begins here, and answers where
-    /// it begins then; none where the name is not short.
-    fn lay_label(self, name: &str, piece: &mut Piece, start: usize) -> Option<usize>
-        requires { start ≤ 64 }
-        ensures room { IfSome result (λ next. (0 < next) × (next ≤ 64)) }
-        ensures laid { IfSome result (λ next. laid piece.new.bytes next
-            ≡ label_text Self.form name.now ++ laid piece.old.bytes start) };
+    /// Lays what stands in front of the value of a field of a name, behind what stands between two where that is due, at a
+    /// place, and answers the place behind it; none where the name is not short.
+    fn lay_label(self, led: bool, name: &str, bytes: &mut [u8], at: usize) -> Option<usize>
+        requires { at + 68 ≤ length bytes.old }
+        ensures place { IfSome result (λ next. (at ≤ next) × (next ≤ at + 68)) }
+        ensures laid { IfSome result (λ next. take next bytes.new
+            ≡ take at bytes.old ++ (lead Self.form led ++ label_text Self.form name.now)) }
+        ensures before { take at bytes.new ≡ take at bytes.old }
+        ensures length { length bytes.new ≡ length bytes.old };
 
     /// Appends what stands in front of the fields of a message of a template.
     ///
@@ -79,9 +81,12 @@ pub trait Signs: Escape {
     fn push_head(self, id: u32, name: &str, out: &mut Vec<u8>) -> Result<(), AllocError>
         ensures { Writes (head_text Self.form id name.now) result out.old.items out.new.items };
 
-    /// Lays the same at the end of a piece, and answers where it begins then; none where it is not short.
-    fn lay_head(self, id: u32, name: &str, piece: &mut Piece) -> Option<usize>
-        ensures room { IfSome result (λ start. start ≤ 64) }
-        ensures laid { IfSome result (λ start. laid piece.new.bytes start
-            ≡ head_text Self.form id name.now) };
+    /// Lays the same at a place, and answers the place behind it; none where it is not short.
+    fn lay_head(self, id: u32, name: &str, bytes: &mut [u8], at: usize) -> Option<usize>
+        requires { at + 85 ≤ length bytes.old }
+        ensures place { IfSome result (λ next. (at ≤ next) × (next ≤ at + 85)) }
+        ensures laid { IfSome result (λ next. take next bytes.new
+            ≡ take at bytes.old ++ head_text Self.form id name.now) }
+        ensures before { take at bytes.new ≡ take at bytes.old }
+        ensures length { length bytes.new ≡ length bytes.old };
 }

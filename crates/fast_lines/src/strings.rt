@@ -1,14 +1,13 @@
 //! Strings put behind an output, their bytes as they are or escaped.
 
-ghost use Rattle.std.specs.Prelude.{◌≡◌, ◌<◌, ◌≤◌, ◌+◌, ◌++◌, ◌∷◌, ℕ, true, length, slice_index, IfSome};
-ghost use Rattle.fast_lines.specs.Pieces.{laid};
+ghost use Rattle.std.specs.Prelude.{◌≡◌, ◌<◌, ◌≤◌, ◌+◌, ◌++◌, ◌∷◌, [], ℕ, true, length, slice_index, take, IfSome};
 ghost use Rattle.std.specs.List.{flat_map, list_all};
 ghost use Rattle.fast_lines.specs.Signs.{is_plain, quoted, unit_text};
 ghost use Rattle.fast_lines.specs.Written.{Writes};
 
 use crate::bytes::{push, push_byte};
-use crate::piece::Piece;
 use crate::signs::Escape;
+use crate::tail::{LONGEST, lay_byte, lay_text};
 use std::alloc::AllocError;
 use std::simd::prelude::*;
 
@@ -83,20 +82,20 @@ pub fn all_stand(text: &[u8]) -> bool
     each_stands(text)
 }
 
-/// Lays a string of few bytes without its quotes at the end of a piece, and answers where it begins then.
+/// Lays a string of few bytes without its quotes at a place, and answers the place behind it.
 #[inline(always)]
-pub fn lay_units<S: Escape>(escape: S, text: &[u8], piece: &mut Piece) -> usize
-    requires { length text.now ≤ 10 }
-    ensures place { result ≤ 64 }
-    ensures laid { laid piece.new.bytes result ≡ flat_map (unit_text S.form) text.now }
+pub(crate) fn lay_units<S: Escape>(escape: S, text: &[u8], bytes: &mut [u8], at: usize) -> usize
+    requires count { length text.now ≤ 10 }
+    requires room { at + 60 ≤ length bytes.old }
+    ensures place { (at ≤ result) × (result ≤ at + 60) }
+    ensures laid { take result bytes.new ≡ take at bytes.old ++ flat_map (unit_text S.form) text.now }
+    ensures length { length bytes.new ≡ length bytes.old }
 {
-    let mut start = Piece::END;
-    let mut left = text.len();
-    while left > 0 {
-        left -= 1;
-        start = escape.lay_unit(text[left], piece, start);
+    let mut next = at;
+    for byte in text {
+        next = escape.lay_unit(*byte, bytes, next);
     }
-    start
+    next
 }
 
 /// Appends a string without its quotes, piece by piece.
@@ -104,15 +103,15 @@ pub fn lay_units<S: Escape>(escape: S, text: &[u8], piece: &mut Piece) -> usize
 fn push_units<S: Escape>(escape: S, text: &[u8], out: &mut Vec<u8>) -> Result<(), AllocError>
     ensures { Writes (flat_map (unit_text S.form) text.now) result out.old.items out.new.items }
 {
-    let mut piece = Piece::new();
+    let mut piece = [0; 60];
     let mut at = 0;
     while text.len() - at >= UNITS {
-        let start = lay_units(escape, &text[at..at + UNITS], &mut piece);
-        push(piece.as_slice(start), out)?;
+        let end = lay_units(escape, &text[at..at + UNITS], &mut piece, 0);
+        push(&piece[..end], out)?;
         at += UNITS;
     }
-    let start = lay_units(escape, &text[at..], &mut piece);
-    push(piece.as_slice(start), out)
+    let end = lay_units(escape, &text[at..], &mut piece, 0);
+    push(&piece[..end], out)
 }
 
 /// Appends a string without its quotes; mostly it stands as it is, and goes there at once.
@@ -139,45 +138,46 @@ pub fn push_quoted<S: Escape>(escape: S, text: &[u8], out: &mut Vec<u8>) -> Resu
     push_byte(b'"', out)
 }
 
-/// Lays a string of one byte in its quotes in front of a piece that begins here; none as below.
+/// Lays a string of one byte in its quotes; none as below.
 #[inline(always)]
-fn lay_quoted_byte(byte: u8, piece: &mut Piece, start: usize) -> Option<usize>
-    requires { start ≤ 64 }
-    ensures room { IfSome result (λ next. (0 < next) × (next ≤ 64)) }
+fn lay_quoted_byte(byte: u8, bytes: &mut [u8], at: usize) -> Option<usize>
+    requires { at + 3 ≤ length bytes.old }
+    ensures place { IfSome result (λ next. next ≡ at + 3) }
     ensures stands { IfSome result (λ next. is_plain byte ≡ true) }
-    ensures laid { IfSome result (λ next. laid piece.new.bytes next
-        ≡ 34 ∷ (byte ∷ (34 ∷ laid piece.old.bytes start))) }
+    ensures laid { IfSome result (λ next. take next bytes.new ≡ take at bytes.old ++ (34 ∷ (byte ∷ (34 ∷ [])))) }
+    ensures before { take at bytes.new ≡ take at bytes.old }
+    ensures length { length bytes.new ≡ length bytes.old }
 {
-    if start < 4 || !stands(byte) {
+    if !stands(byte) {
         return None;
     }
-    let start = piece.lay_byte(start, b'"');
-    let start = piece.lay_byte(start, byte);
-    Some(piece.lay_byte(start, b'"'))
+    let at = lay_byte(bytes, at, b'"');
+    let at = lay_byte(bytes, at, byte);
+    Some(lay_byte(bytes, at, b'"'))
 }
 
-/// Lays a string in its quotes in front of a piece that begins here, and answers where it begins then; none where it is
-/// not short, or does not stand as it is.
+/// Lays a string in its quotes at a place, and answers the place behind it; none where it is not short, or does not stand
+/// as it is.
 #[inline(always)]
 pub(crate) fn lay_quoted<S: Escape>(
     _escape: S,
     text: &[u8],
-    piece: &mut Piece,
-    start: usize,
+    bytes: &mut [u8],
+    at: usize,
 ) -> Option<usize>
-    requires { start ≤ 64 }
-    ensures room { IfSome result (λ next. (0 < next) × (next ≤ 64)) }
-    ensures laid { IfSome result (λ next. laid piece.new.bytes next
-        ≡ quoted S.form text.now ++ laid piece.old.bytes start) }
+    requires { at + 66 ≤ length bytes.old }
+    ensures place { IfSome result (λ next. (at ≤ next) × (next ≤ at + 66)) }
+    ensures laid { IfSome result (λ next. take next bytes.new ≡ take at bytes.old ++ quoted S.form text.now) }
+    ensures before { take at bytes.new ≡ take at bytes.old }
+    ensures length { length bytes.new ≡ length bytes.old }
 {
     if let [byte] = text {
-        return lay_quoted_byte(*byte, piece, start);
+        return lay_quoted_byte(*byte, bytes, at);
     }
-    if !all_stand(text) {
+    if text.len() > LONGEST || !all_stand(text) {
         return None;
     }
-    match piece.lay_before(start, text, b'"') {
-        Some(start) => Some(piece.lay_byte(start, b'"')),
-        None => None,
-    }
+    let at = lay_byte(bytes, at, b'"');
+    let at = lay_text(bytes, at, text);
+    Some(lay_byte(bytes, at, b'"'))
 }

@@ -3,7 +3,7 @@
 ghost use Rattle.std.specs.Prelude.{◌≤◌, length};
 
 use fast_gaps::{Gaps, Rest};
-use fast_lines::{Page, Piece, Signs, UNITS, all_stand, lay_scalar, lay_units, push_scalar};
+use fast_lines::{Page, Signs, UNITS, all_stand, push_scalar};
 use fast_template::{FieldPart, Name, Scalar};
 use std::alloc::{AllocError, Global};
 
@@ -17,10 +17,8 @@ const SHORT_NAME: usize = 80;
 #[derive(Drop)]
 pub(crate) struct Line {
     text: Page,
-    // what is no short piece, before it is appended to the text
+    // what is not short, before it is appended to the text
     long: Vec<u8>,
-    // a short piece, while it is laid out; it stays here, so that none is cleared for each
-    piece: Piece,
     // whether what stands between two is due in front of what is next
     led: bool,
     gaps: Gaps,
@@ -33,7 +31,6 @@ impl Line {
     ghost use Rattle.fast_gaps.specs.Filled.{left_of};
     ghost use Rattle.fast_show.specs.Told.{Appends, PutsIn, Says, line_now, written_of};
     ghost use Rattle.fast_lines.specs.Lines.{decimal_text, scalar_text};
-    ghost use Rattle.fast_lines.specs.Pieces.{laid};
     ghost use Rattle.std.specs.List.{flat_map};
     ghost use Rattle.fast_lines.specs.Signs.{ending, head_text, is_led, label_text, lead, quoted, unit_text};
     ghost use Rattle.fast_lines.specs.declared.form.Form.{Form};
@@ -46,7 +43,6 @@ impl Line {
         Line {
             text: Page::new(alloc),
             long: Vec::new(alloc),
-            piece: Piece::new(),
             led: true,
             gaps: Gaps::new(alloc),
         }
@@ -95,18 +91,19 @@ impl Line {
         self.gaps.clear();
         self.text.clear();
         self.led = signs.is_led();
-        match signs.lay_head(id, name, &mut self.piece) {
-            Some(start) => self.text.put_piece(&self.piece, start),
-            None => self.put_head(signs, id, name),
+        if self.text.put_head(signs, id, name) {
+            return Ok(());
         }
+        self.put_head(signs, id, name)
     }
 
-    // Appends what stands in front of the fields, where it is no short piece.
+    // The same of any length, and where there was too little room.
     #[inline(never)]
     fn put_head<S: Signs>(&mut self, signs: S, id: u32, name: &str) -> Result<(), AllocError>
         ensures text { OnOk result ((form : Form) → Appends form self.old (head_text S.form id name.now) self.new) }
         ensures led { self.new.led ≡ self.old.led }
     {
+        self.text.see_room()?;
         self.long.clear();
         signs.push_head(id, name, &mut self.long)?;
         self.put_long()
@@ -123,7 +120,7 @@ impl Line {
         Ok(())
     }
 
-    // Appends what is no short piece.
+    // Appends what is not short.
     #[tactic(auto, using(fast_gaps::proofs::Filled::filled_behind))]
     fn put_long(&mut self) -> Result<(), AllocError>
         ensures text { OnOk result ((form : Form) → Appends form self.old self.old.long.items self.new) }
@@ -160,18 +157,6 @@ impl Line {
         Ok(false)
     }
 
-    // Appends the piece, which begins here.
-    #[tactic(auto, using(fast_gaps::proofs::Filled::filled_behind))]
-    #[inline(always)]
-    fn put_piece(&mut self, start: usize) -> Result<(), AllocError>
-        requires { start ≤ 64 }
-        ensures text { OnOk result ((form : Form) → Appends form self.old (laid self.old.piece.bytes start) self.new) }
-        ensures led { self.new.led ≡ self.old.led }
-    {
-        self.text.put_piece(&self.piece, start)?;
-        Ok(())
-    }
-
     // Appends what stands between two where it is due.
     #[inline(always)]
     fn lead<S: Signs>(&mut self, signs: S) -> Result<(), AllocError>
@@ -190,17 +175,19 @@ impl Line {
     pub(crate) fn label<S: Signs>(&mut self, signs: S, name: &Name) -> Result<(), AllocError>
         ensures { OnOk result (PutsIn S.form (lead S.form self.old.led ++ label_text S.form name.now) true self.old self.new) }
     {
-        match signs.lay_label(name.as_str(), &mut self.piece, Piece::END) {
-            None => self.label_long(signs, name),
-            Some(start) => self.append(signs, start),
+        if self.text.put_label(signs, self.led, name.as_str()) {
+            self.led = true;
+            return Ok(());
         }
+        self.label_long(signs, name)
     }
 
-    // The same of any length, one after the other; in a line that is long a long name is left out.
+    // The same of any length, and where there was too little room; in a line that is long a long name is left out.
     #[inline(never)]
     fn label_long<S: Signs>(&mut self, signs: S, name: &Name) -> Result<(), AllocError>
         ensures { OnOk result (PutsIn S.form (lead S.form self.old.led ++ label_text S.form name.now) true self.old self.new) }
     {
+        self.text.see_room()?;
         self.lead(signs)?;
         self.led = true;
         if self.is_long() && name.as_str().len() > SHORT_NAME {
@@ -222,16 +209,14 @@ impl Line {
     ) -> Result<(), AllocError>
         ensures { OnOk result (Says S.form name.now (option_copied value.entry) self.old self.new) }
     {
-        match lay_scalar(signs, value, &mut self.piece) {
-            None => self.tell_long(signs, name, part, value),
-            Some(start) => match signs.lay_label(name.as_str(), &mut self.piece, start) {
-                None => self.tell_long(signs, name, part, value),
-                Some(start) => self.append(signs, start),
-            },
+        if self.text.put_field(signs, self.led, name.as_str(), value) {
+            self.led = true;
+            return Ok(());
         }
+        self.tell_long(signs, name, part, value)
     }
 
-    // The same of any length, one after the other.
+    // The same of any length, one after the other, and where there was too little room.
     #[inline(never)]
     fn tell_long<S: Signs>(
         &mut self,
@@ -242,6 +227,7 @@ impl Line {
     ) -> Result<(), AllocError>
         ensures { OnOk result (Says S.form name.now (option_copied value.entry) self.old self.new) }
     {
+        self.text.see_room()?;
         self.label(signs, name)?;
         match value {
             Some(value) => self.value_long(signs, part, value),
@@ -306,12 +292,10 @@ impl Line {
     {
         let mut at = 0;
         while text.len() - at >= UNITS {
-            let start = lay_units(signs, &text[at..at + UNITS], &mut self.piece);
-            self.put_piece(start)?;
+            self.text.put_units(signs, &text[at..at + UNITS])?;
             at += UNITS;
         }
-        let start = lay_units(signs, &text[at..], &mut self.piece);
-        self.put_piece(start)?;
+        self.text.put_units(signs, &text[at..])?;
         Ok(())
     }
 
@@ -324,36 +308,14 @@ impl Line {
         self.put(signs.absent())
     }
 
-    // Appends the piece, which begins here with a label, behind what stands between two where it is due.
-    #[inline(always)]
-    fn append<S: Signs>(&mut self, signs: S, start: usize) -> Result<(), AllocError>
-        requires { (0 < start) × (start ≤ 64) }
-        ensures { OnOk result (PutsIn S.form (lead S.form self.old.led ++ laid self.old.piece.bytes start) true self.old self.new) }
-    {
-        if !self.led {
-            self.led = true;
-            return self.put_piece(start);
-        }
-        match signs.between() {
-            [byte] => {
-                let start = self.piece.lay_byte(start, *byte);
-                self.put_piece(start)
-            }
-            between => {
-                self.put(between)?;
-                self.put_piece(start)
-            }
-        }
-    }
-
     /// Appends a decimal, behind its label.
     #[inline(always)]
     pub(crate) fn push_decimal(&mut self, mantissa: i64, exponent: i32) -> Result<(), AllocError>
         ensures text { OnOk result ((form : Form) → Appends form self.old (decimal_text mantissa exponent) self.new) }
         ensures led { self.new.led ≡ self.old.led }
     {
-        let start = self.piece.lay_decimal(mantissa, exponent);
-        self.put_piece(start)
+        self.text.put_decimal(mantissa, exponent)?;
+        Ok(())
     }
 
     /// Appends a brace, behind what stands between two where it is due; behind the brace it is not.

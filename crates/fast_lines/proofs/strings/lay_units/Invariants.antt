@@ -1,12 +1,9 @@
-use Rattle.fast_lines.proofs.Common.{◌≡◌, ◌≤◌, ◌+◌, ◌*◌, ◌-◌, length, drop, flat_map, laid, unit_text}
+use Rattle.fast_lines.proofs.Common.{◌≡◌, ◌≤◌, ◌+◌, ◌*◌, ◌++◌, length, take, flat_map, unit_text}
 use Rattle.fast_lines.proofs.strings.lay_units.Given as goal
 
-abbrev pub invariant-loop-left : goal.invariant-loop-left
-invariant-loop-left g l =
-    (l.left ≤ length l.text)
-    × (l.start ≤ 64)
-    × (64 ≤ l.start + 6 * (length l.text - l.left))
-    × (laid l.piece.bytes l.start ≡ flat_map (unit_text g.S.Escape.form) (drop l.left l.text))
-
-abbrev pub decreases-loop-left : goal.decreases-loop-left
-decreases-loop-left g l = l.left
+abbrev pub invariant-loop-byte : goal.invariant-loop-byte
+invariant-loop-byte g l =
+    (l.at ≤ l.next)
+    × (l.next ≤ l.at + 6 * l.byte-index)
+    × (take l.next l.bytes ≡ take l.at l.fn.bytes ++ flat_map (unit_text g.S.Escape.form) (take l.byte-index l.text))
+    × (length l.bytes ≡ length l.fn.bytes)

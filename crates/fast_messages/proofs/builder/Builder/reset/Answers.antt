@@ -1,5 +1,0 @@
-use Rattle.std.proofs.Common.{rules}
-use Rattle.fast_messages.proofs.builder.Builder.reset.Goals as goal
-
-pub returns : goal.returns
-returns c = search rules
