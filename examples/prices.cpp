@@ -179,16 +179,14 @@ class Prices {
 };
 
 void of_recording(const Bytes &recording, Prices &prices) {
-  for (size_t at = 0; at < recording.size();) {
-    size_t size = 0;
-    bool is_last = false;
-    while (!is_last && at < recording.size()) {
-      size = size << 7 | (recording[at] & 0x7f);
-      is_last = recording[at++] & 0x80;
-    }
-    if (!is_last || size > recording.size() - at) throw std::runtime_error("the recording is cut");
-    prices.packet(recording.data() + at, size);
-    at += size;
+  fastcat_counts packet;
+  fastcat_answer answer;
+  for (size_t at = 0; at < recording.size(); at += packet.bytes) {
+    if (fastcat_packet_size(0, recording.data() + at, recording.size() - at, &packet, &answer) != FASTCAT_DONE)
+      throw std::runtime_error(std::string("a size is refused: ") + fastcat_cause_name(answer.cause));
+    at += packet.used;
+    if (packet.bytes > recording.size() - at) throw std::runtime_error("the recording is cut");
+    prices.packet(recording.data() + at, packet.bytes);
   }
 }
 

@@ -13,25 +13,14 @@ import sys
 import fastcat
 
 templates = fastcat.Templates(pathlib.Path(sys.argv[1]))
-recording = pathlib.Path(sys.argv[2]).read_bytes()
-
-
-def packets(recording):
-    at = 0
-    while at < len(recording):
-        size, is_last = 0, False
-        while not is_last:
-            size, is_last, at = size << 7 | recording[at] & 0x7F, recording[at] >= 0x80, at + 1
-        yield recording[at : at + size]
-        at += size
-
+recording = pathlib.Path(sys.argv[2])
 
 # %% What the messages of each template have
 columns = {name: [field.name for field in templates.fields(name)] for name in templates.names}
 entries = [name for name in columns if "GroupMDEntries" in columns[name]]
 
 # %% Messages are dicts, as they come
-messages = list(fastcat.messages(templates, packets(recording), packets=True))
+messages = list(fastcat.messages(templates, recording, packets=True))
 
 
 # %% A row for each entry

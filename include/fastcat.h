@@ -328,6 +328,12 @@ uint32_t fastcat_reader_feed(struct fastcat_reader *reader, const uint8_t *chunk
 uint32_t fastcat_reader_packet(struct fastcat_reader *reader, const uint8_t *packet, size_t length,
                                struct fastcat_counts *waiting, struct fastcat_answer *answer);
 
+/* Reads the size that a recording begins with, in the mode 0 or FASTCAT_STRICT: packet->used is how many bytes the size takes, and
+ * packet->bytes how many the packet has behind it, for fastcat_reader_packet. A size is refused as a stream is, in message 1 at
+ * offset 0: as FASTCAT_TRUNCATED where it is not whole, and of no bytes. Ten bytes are enough. */
+uint32_t fastcat_packet_size(uint32_t mode, const uint8_t *recording, size_t length, struct fastcat_counts *packet,
+                             struct fastcat_answer *answer);
+
 /* Puts the messages that wait, all or none, into the front of the rooms, and forgets them; where the rooms are too short, taken
  * says how much waits. A number that a string begins at is a place in these bytes. Rooms of 131,072 nodes, and of 1 MiB and
  * most_bytes, are always enough. */

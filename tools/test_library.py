@@ -4,6 +4,7 @@ and of the files of examples/."""
 import collections.abc
 import copy
 import ctypes
+import dataclasses
 import decimal
 import gc
 import io
@@ -12,6 +13,7 @@ import json
 import os
 import pathlib
 import pickle
+import random
 import re
 import resource
 import shutil
@@ -607,6 +609,15 @@ def packets_of(recording):
         at += size
 
 
+def changed(chance, recording):
+    """A recording with bytes put in the place of others, and maybe cut."""
+    given = bytearray(recording)
+    for _ in range(chance.choice((0, 1, 1, 2))):
+        at, left_out, put = chance.randrange(len(given)), chance.choice((0, 1, 1, 2)), chance.choice((0, 1, 1, 2))
+        given[at : at + left_out] = bytes(chance.choices((0, 1, 0x7F, 0x80, 0x81, 0xC0, 0xFF), k=put))
+    return bytes(given[: chance.choice((len(given), chance.randrange(len(given) + 1)))])
+
+
 def as_line(value):
     """A value of a message as `json.loads` has it."""
     if isinstance(value, dict):
@@ -660,13 +671,97 @@ class Reading(unittest.TestCase):
         self.assertEqual(str(outcome(list, library.messages(WORKED, [ONE[:-1]], packets=True))),
                          "refused Truncated packet=1 message=1 offset=5 template=1 instruction=3")
 
+    def test_recordings(self):
+        """Bytes and files are a recording, from which packets are taken however it comes."""
+        recording, wanted = data("moex.packets"), messages(text("moex.jsonl"))
+        with tempfile.TemporaryDirectory() as folder, library.Templates(EXAMPLES / "moex.json") as read:
+            file = pathlib.Path(folder, "recording")
+            file.write_bytes(recording)
+            for size in (1, 2, 7, 65536):
+                with open(file, "rb") as opened, open(file, "rb", buffering=0) as raw:
+                    for given in (recording, bytearray(recording), memoryview(recording), file, opened, raw, io.BytesIO(recording)):
+                        with self.subTest(given=type(given), size=size):
+                            told = list(library.messages(read, given, packets=True, chunk=size))
+                            self.assertEqual(as_line(told), wanted)
+        self.assertEqual(list(library.messages(WORKED, b"", packets=True)), [])
+
+    def test_packets_as_they_come(self):
+        """The messages of a packet are there once its last byte is."""
+        ours, theirs = os.pipe()
+        with open(ours, "rb") as given, open(theirs, "wb", buffering=0) as sender:
+            read = library.messages(WORKED, given, packets=True)
+            for number in (1, 2):
+                sender.write(b"\x88" + ONE)
+                self.assertEqual(next(read)["packet"], number)
+            sender.write(b"\x88" + ONE + b"\x83")
+            self.assertEqual(next(read)["packet"], 3)
+            sender.close()
+            self.assertEqual(str(outcome(next, read)), "refused Truncated packet=4 message=1 offset=28 template=0 instruction=0")
+
+    def test_recordings_that_are_refused(self):
+        """The packets before a fault come first, and the messages before it; its offset is that in the recording."""
+        packet = b"\x88" + ONE
+        # (what stands behind two packets, how many of its messages are told, and the refusal)
+        for behind, strict, count, wanted in (
+            (b"\x80" + packet, False, 0, "D12 packet=3 message=1 offset=18 template=0 instruction=0"),
+            (b"\x00\x80", True, 0, "R6 packet=3 message=1 offset=18 template=0 instruction=0"),
+            (b"\x04\x00\x80", False, 0, "Limit packet=3 message=1 offset=18 template=0 instruction=0"),
+            (bytes(10), True, 0, "Limit packet=3 message=1 offset=18 template=0 instruction=0"),
+            # (the recording ends in a size, behind it, in a message and between two)
+            (b"\x01", False, 0, "Truncated packet=3 message=1 offset=18 template=0 instruction=0"),
+            (b"\x88", False, 0, "Truncated packet=3 message=1 offset=19 template=0 instruction=0"),
+            (packet[:-1], False, 0, "Truncated packet=3 message=1 offset=24 template=1 instruction=3"),
+            (b"\x89" + ONE, False, 1, "Truncated packet=3 message=2 offset=27 template=0 instruction=0"),
+            (b"\x89" + ONE[:1] + b"\xff", False, 0, "D9 packet=3 message=1 offset=20 template=0 instruction=0"),
+            # (a packet ends in a message, and the recording goes on)
+            (b"\x87" + ONE[:-1] + packet, False, 0, "BlockEnd packet=3 message=1 offset=24 template=1 instruction=3"),
+            (b"\x89" + ONE + b"\x80" + packet, False, 1, "BlockEnd packet=3 message=2 offset=28 template=1 instruction=3"),
+            (b"\x8a" + ONE + b"\xc0\xff", False, 1, "D9 packet=3 message=2 offset=28 template=0 instruction=0"),
+        ):
+            for size in (1, 65536):
+                with self.subTest(behind=behind.hex(), size=size):
+                    read = library.messages(WORKED, packet * 2 + behind, packets=True, strict=strict, chunk=size)
+                    self.assertEqual([next(read)["packet"] for _ in range(2 + count)], [1, 2, 3][: 2 + count])
+                    error = outcome(next, read)
+                    self.assertEqual(str(error), "refused " + wanted)
+                    self.assertEqual((error.answer.packets, error.answer.messages, error.answer.read), (2, count, 0))
+        error = outcome(list, library.messages(WORKED, packet * 2, packets=True, most_bytes=1))
+        self.assertEqual((error.status, error.packet, error.message, error.offset), (library.Status.MESSAGE_TOO_LARGE, 1, 1, 0))
+        for given in (packet, b""):
+            error = outcome(list, library.messages(WORKED, given, packets=True, blocks=True))
+            self.assertIs(error.status, library.Status.UNKNOWN_MODE)
+
+    def test_recordings_that_were_changed(self):
+        """Messages and refusals are those of the lines, whatever the recording."""
+        chance, refused = random.Random(77), 0
+        worked = (b"\x88" + ONE) * 3 + b"\x8b" + ONE + b"\x80\x80\x81"
+        for name, recording in (("moex", data("moex.packets")), ("worked", worked)):
+            with library.Templates(EXAMPLES / f"{name}.json") as read:
+                for turn in range(400):
+                    given, strict = changed(chance, recording), chance.random() < 0.5
+                    try:
+                        lines, wanted = library.show(read, given, strict, packets=True, json=True), None
+                    except library.FastcatError as error:
+                        lines, wanted = str(error.written, "utf-8"), dataclasses.replace(error.answer, written=0)
+                    told, answer = [], None
+                    try:
+                        size = chance.choice((1, 3, 65536))
+                        for message in library.messages(read, given, packets=True, strict=strict, chunk=size):
+                            told.append(message)
+                    except library.FastcatError as error:
+                        answer, refused = error.answer, refused + 1
+                    self.assertEqual((as_line(told), answer), (messages(lines), wanted), (name, turn))
+        self.assertGreater(refused, 400)
+
     def test_what_is_no_packets(self):
-        with open(EXAMPLES / "moex.packets", "rb") as file:
-            for given in (ONE, bytearray(ONE), "f0", EXAMPLES / "moex.packets", file, io.BytesIO(ONE), 5):
-                with self.subTest(given=type(given)), self.assertRaisesRegex(TypeError, "packets one after the other are wanted"):
+        with socket.socket() as unconnected:
+            for given in ("f0", 5, None, unconnected):
+                wanted = "a recording or packets one after the other are wanted"
+                with self.subTest(given=type(given)), self.assertRaisesRegex(TypeError, wanted):
                     list(library.messages(WORKED, given, packets=True))
-        with self.assertRaisesRegex(TypeError, "^packet: bytes are wanted"):
-            list(library.messages(WORKED, ["f0"], packets=True))
+        for given, what in ((["f0"], "packet"), (io.StringIO("f0"), "recording")):
+            with self.assertRaisesRegex(TypeError, f"^{what}: bytes are wanted"):
+                list(library.messages(WORKED, given, packets=True))
 
     def test_a_message_that_is_too_large(self):
         self.assertEqual(len(list(library.messages(WORKED, ONE * 2, most_bytes=2))), 2)
@@ -795,11 +890,20 @@ class Reading(unittest.TestCase):
 
     def test_memory_is_flat(self):
         pieces = itertools.chain([ONE], itertools.repeat(bytes.fromhex("808081") * 20_000, 20))
-        read = library.messages(WORKED, pieces)
-        next(read)
-        before = resource.getrusage(resource.RUSAGE_SELF).ru_maxrss
-        self.assertEqual(sum(1 for _ in read), 400_000)
-        self.assertLess(resource.getrusage(resource.RUSAGE_SELF).ru_maxrss - before, 20_000)
+        # (a packet has 42,005 bytes, of the same messages)
+        packet = b"\x02\x48\x95" + ONE + bytes.fromhex("808081") * 13_999
+        with tempfile.TemporaryFile() as recording:
+            for _ in range(28):
+                recording.write(packet)
+            recording.seek(0)
+            for read, count in (
+                (library.messages(WORKED, pieces), 400_001),
+                (library.messages(WORKED, recording, packets=True), 392_000),
+            ):
+                next(read)
+                before = resource.getrusage(resource.RUSAGE_SELF).ru_maxrss
+                self.assertEqual(sum(1 for _ in read), count - 1)
+                self.assertLess(resource.getrusage(resource.RUSAGE_SELF).ru_maxrss - before, 20_000)
 
 
 class Xml(unittest.TestCase):

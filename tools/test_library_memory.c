@@ -115,15 +115,14 @@ static void fields(void) {
   expect(held == before, "all is freed behind fields");
 }
 
-/* Each allocation refused in turn, a reader is made and fed, and works behind a reset. One block lasts of a reader, and the
- * templates. */
+/* Each allocation refused in turn, a reader is made and fed, and works behind a reset. */
 static void reading(void) {
   struct fastcat_set set = {0};
   struct fastcat_answer a;
   struct fastcat_counts counts;
   struct fastcat_node nodes[8];
   uint8_t bytes[8];
-  size_t turns = 0;
+  size_t first = held, turns = 0;
   expect(fastcat_set_new(templates, templates_length, &set, &a) == FASTCAT_DONE, "a set of readers");
   for (uint32_t status = FASTCAT_NO_MEMORY; status != FASTCAT_DONE; turns++) {
     struct fastcat_reader reader = {0};
@@ -144,10 +143,11 @@ static void reading(void) {
       left = SIZE_MAX;
     }
     fastcat_reader_free(&reader);
-    expect(held <= before + 1 && works(&set), "one block lasts");
+    expect(held == before && works(&set), "a reader is freed");
   }
   expect(turns > 5, "allocations of a reader are refused");
   fastcat_set_free(&set);
+  expect(held == first, "all is freed behind readers");
 }
 
 /* Each allocation refused in turn, a writer is made and put to; refused, it has nothing of the message, which is put then. */
@@ -158,7 +158,7 @@ static void writing(void) {
   struct fastcat_answer a;
   struct fastcat_counts counts;
   uint8_t room[16];
-  size_t turns = 0;
+  size_t first = held, turns = 0;
   expect(fastcat_set_new(templates, templates_length, &set, &a) == FASTCAT_DONE, "a set of writers");
   for (uint32_t status = FASTCAT_NO_MEMORY; status != FASTCAT_DONE; turns++) {
     struct fastcat_writer writer = {0};
@@ -178,10 +178,11 @@ static void writing(void) {
       left = SIZE_MAX;
     }
     fastcat_writer_free(&writer);
-    expect(held <= before + 1 && works(&set), "one block lasts");
+    expect(held == before && works(&set), "a writer is freed");
   }
   expect(turns > 5, "allocations of a writer are refused");
   fastcat_set_free(&set);
+  expect(held == first, "all is freed behind writers");
 }
 
 int main(int count, char **words) {

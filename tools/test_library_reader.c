@@ -141,15 +141,14 @@ static uint64_t messages_of(struct fastcat_reader *reader, const uint8_t *stream
 }
 
 static void streams(struct fastcat_set *set, const uint8_t *stream, size_t length) {
-  static const size_t steps[] = {1, 2, 3, 7, 1 << 20};
   struct fastcat_answer answer;
   struct fastcat_reader reader = {0};
   struct fastcat_counts waiting;
   expect(fastcat_set_check(set, 0, stream, length, &answer) == FASTCAT_DONE, "check");
   const uint64_t messages = answer.messages;
   expect(fastcat_reader_new(set, 0, 0, &reader) == FASTCAT_DONE && !is_empty(&reader), "a reader");
-  for (size_t i = 0; i < sizeof steps / sizeof *steps; i++) {
-    expect(messages_of(&reader, stream, length, steps[i]) == messages, "as many messages as check counts");
+  for (size_t step = 1; step <= length; step++) {
+    expect(messages_of(&reader, stream, length, step) == messages, "as many messages as check counts");
     expect(fastcat_reader_reset(&reader) == FASTCAT_DONE, "a reset");
   }
   /* A packet is a stream of its own, and can come again. */
@@ -224,6 +223,76 @@ static void too_large(struct fastcat_set *set) {
                answer.status == FASTCAT_MESSAGE_TOO_LARGE && answer.message == 1 && answer.cause == FASTCAT_NO_CAUSE &&
                waiting.messages == 0, "a message that is too large");
   expect(fastcat_reader_finish(&reader, &answer) == FASTCAT_MESSAGE_TOO_LARGE, "it is kept");
+  fastcat_reader_free(&reader);
+}
+
+/* Sizes of packets, as docs/FORMAT.md says it under "Recordings": of each its bytes, and what is told of it in a mode. */
+static const struct {
+  uint32_t mode;
+  size_t length;
+  uint8_t bytes[12];
+  uint32_t status, cause;
+  uint64_t used, size;
+} sized[] = {
+    {0, 1, {0x81}, FASTCAT_DONE, 0, 1, 1},
+    {FASTCAT_STRICT, 3, {0xff, 0x80, 0x80}, FASTCAT_DONE, 0, 1, 127},
+    {FASTCAT_STRICT, 2, {0x01, 0x80}, FASTCAT_DONE, 0, 2, 128},
+    {FASTCAT_STRICT, 3, {0x03, 0x7f, 0xff}, FASTCAT_DONE, 0, 3, 65535},
+    {0, 3, {0x04, 0x00, 0x80}, FASTCAT_STREAM_REFUSED, FASTCAT_LIMIT, 0, 0},
+    {0, 10, {0x7f, 0x7f, 0x7f, 0x7f, 0x7f, 0x7f, 0x7f, 0x7f, 0x7f, 0xff}, FASTCAT_STREAM_REFUSED, FASTCAT_LIMIT, 0, 0},
+    {0, 1, {0x80}, FASTCAT_STREAM_REFUSED, FASTCAT_D12, 0, 0},
+    {0, 2, {0x00, 0x80}, FASTCAT_STREAM_REFUSED, FASTCAT_D12, 0, 0},
+    {FASTCAT_STRICT, 2, {0x00, 0x80}, FASTCAT_STREAM_REFUSED, FASTCAT_R6, 0, 0},
+    {0, 2, {0x00, 0x85}, FASTCAT_DONE, 0, 2, 5},
+    {FASTCAT_STRICT, 2, {0x00, 0x85}, FASTCAT_STREAM_REFUSED, FASTCAT_R6, 0, 0},
+    {0, 11, {0, 0, 0, 0, 0, 0, 0, 0, 0, 0x88, 0xff}, FASTCAT_DONE, 0, 10, 8},
+    {0, 11, {0, 0, 0, 0, 0, 0, 0, 0, 0, 0, 0x88}, FASTCAT_STREAM_REFUSED, FASTCAT_LIMIT, 0, 0},
+    {FASTCAT_STRICT, 10, {0}, FASTCAT_STREAM_REFUSED, FASTCAT_LIMIT, 0, 0},
+    {FASTCAT_STRICT, 9, {0}, FASTCAT_STREAM_REFUSED, FASTCAT_TRUNCATED, 0, 0},
+    {0, 2, {0x03, 0x7f}, FASTCAT_STREAM_REFUSED, FASTCAT_TRUNCATED, 0, 0},
+    {0, 0, {0}, FASTCAT_STREAM_REFUSED, FASTCAT_TRUNCATED, 0, 0},
+    {FASTCAT_BLOCKS, 1, {0x81}, FASTCAT_UNKNOWN_MODE, 0, 0, 0},
+    {FASTCAT_PACKETS, 1, {0x81}, FASTCAT_UNKNOWN_MODE, 0, 0, 0},
+};
+
+static void sizes_of_packets(void) {
+  for (size_t i = 0; i < sizeof sized / sizeof *sized; i++) {
+    struct fastcat_counts packet;
+    struct fastcat_answer answer, wanted = {0};
+    /* (no more than the length is looked at) */
+    uint8_t *bytes = malloc(sized[i].length + 1);
+    if (!bytes) exit(2);
+    memcpy(bytes, sized[i].bytes, sized[i].length);
+    bytes = realloc(bytes, sized[i].length ? sized[i].length : 1);
+    memset(&packet, 0xaa, sizeof packet);
+    memset(&answer, 0xaa, sizeof answer);
+    wanted.status = sized[i].status;
+    wanted.cause = sized[i].cause;
+    wanted.message = sized[i].status == FASTCAT_STREAM_REFUSED;
+    expect(fastcat_packet_size(sized[i].mode, bytes, sized[i].length, &packet, &answer) == sized[i].status &&
+               memcmp(&answer, &wanted, sizeof answer) == 0, "what is answered of a size");
+    expect(packet.used == sized[i].used && packet.bytes == sized[i].size && packet.messages == 0 && packet.nodes == 0, "a size");
+    free(bytes);
+  }
+}
+
+/* A recording is read packet by packet. */
+static void recordings(struct fastcat_set *set) {
+  static const uint8_t recording[] = {0x88, 0xf0, 0x81, 0x81, 0x41, 0xc2, 0xfe, 0x00, 0xe4, 0x00, 0x88, 0xf0, 0x81, 0x81,
+                                      0x41, 0xc2, 0xfe, 0x00, 0xe4, 0x80};
+  struct fastcat_reader reader = {0};
+  struct fastcat_counts packet, waiting;
+  struct fastcat_answer answer;
+  size_t at = 0;
+  uint64_t messages = 0;
+  expect(fastcat_reader_new(set, 0, 0, &reader) == FASTCAT_DONE, "a reader");
+  while (fastcat_packet_size(0, recording + at, sizeof recording - at, &packet, &answer) == FASTCAT_DONE) {
+    at += (size_t)packet.used;
+    expect(fastcat_reader_packet(&reader, recording + at, (size_t)packet.bytes, &waiting, &answer) == FASTCAT_DONE, "its packet");
+    messages += take(&reader, &waiting);
+    at += (size_t)packet.bytes;
+  }
+  expect(messages == 2 && at == 19 && answer.cause == FASTCAT_D12, "two packets, and a size of zero");
   fastcat_reader_free(&reader);
 }
 
@@ -518,6 +587,8 @@ int main(int count, char **words) {
       much(&set);
       kinds(&set);
       refused(&set);
+      sizes_of_packets();
+      recordings(&set);
     }
     fastcat_set_free(&set);
     free(templates);

@@ -184,7 +184,7 @@ if BUILT:
 
         def test_packets(self):
             packets = list(test_library.packets_of(test_library.data("moex.packets")))
-            for given in (packets, [*packets, b"\xc0"]):
+            for given in (packets, [*packets, b"\xc0"], test_library.data("moex.packets") + b"\x82\xc0"):
                 one, other = (self.read_by(it.Decoder, TOP / "examples/moex.json", given, packets=True) for it in (_values, _nodes))
                 self.assertEqual(one, other)
 

@@ -111,6 +111,7 @@ def load() -> ctypes.CDLL:
         # (by an address, so that a chunk is fed on from any place)
         "fastcat_reader_feed": reader + [ctypes.c_void_p, ctypes.c_size_t] + counts + answer,
         "fastcat_reader_packet": reader + [ctypes.c_void_p, ctypes.c_size_t] + counts + answer,
+        "fastcat_packet_size": [ctypes.c_uint32] + slice_in + counts + answer,
         "fastcat_reader_take": reader + room + room + counts,
         "fastcat_reader_finish": reader + answer,
         "fastcat_reader_reset": reader,

@@ -4,14 +4,14 @@ from __future__ import annotations
 
 import collections.abc
 import ctypes
-import dataclasses
 import os
 import threading
 from typing import Any, Iterable, Iterator, Literal, Union
 
-from ._answers import FastcatError, Status
+from ._answers import Cause, Status
 from ._calls import mode_of
-from ._library import RawAnswer, RawCounts, RawReader, answer_of, library
+from ._library import RawAnswer, RawCounts, RawReader, library
+from ._recordings import Packet, error_of, packets_in
 from ._templates import Field, Templates, Text, bytes_of
 from ._values import NODE, Layout, exact_decimal
 
@@ -85,7 +85,7 @@ class Reader:
         finally:
             library.fastcat_set_free(ctypes.byref(share))
         if status != Status.DONE:
-            raise error_of(RawAnswer(status=status), None)
+            raise error_of(RawAnswer(status=status))
         self._decoder = Decoder(layouts, exact_decimal if decimals == "Decimal" else None, is_pairs)
 
     def feed(self, chunk: bytes | bytearray | memoryview) -> Iterator[dict[str, Any]]:
@@ -93,7 +93,7 @@ class Reader:
 
         Raises `FastcatError` behind the messages before a fault, and at each later call until a reset.
         """
-        return self._read(library.fastcat_reader_feed, bytes_of("chunk", chunk), None, False)
+        return self._read(library.fastcat_reader_feed, bytes_of("chunk", chunk), None)
 
     def packet(self, data: bytes | bytearray | memoryview, number: int | None = None) -> Iterator[dict[str, Any]]:
         """The messages of a packet, which is a stream of its own, from undefined entries. With a number they say it first, as
@@ -101,30 +101,39 @@ class Reader:
 
         Raises `FastcatError` behind the messages before a fault; the next packet may be read then.
         """
-        return self._read(library.fastcat_reader_packet, bytes_of("packet", data), number, True)
+        return self._packet(Packet(number), bytes_of("packet", data))
 
-    def _read(self, call: Any, data: bytes, packet: int | None, is_packet: bool) -> Iterator[dict[str, Any]]:
+    def _packet(self, packet: Packet, data: bytes) -> Iterator[dict[str, Any]]:
+        return self._read(library.fastcat_reader_packet, data, packet)
+
+    def _read(self, call: Any, data: bytes, packet: Packet | None) -> Iterator[dict[str, Any]]:
         if self._is_open:
             raise RuntimeError("the messages of the last chunk are not all taken")
         self._is_open = True
         counts, answer = RawCounts(), RawAnswer()
         address, at = ctypes.c_char_p(data), 0
         start = ctypes.cast(address, ctypes.c_void_p).value or 0
+        number, ended = packet.number if packet is not None else None, 0
         while True:
             with self._lock:
                 status = call(ctypes.byref(self._reader), start + at, len(data) - at, ctypes.byref(counts), ctypes.byref(answer))
                 at += counts.used
-                read = self._take(counts, packet) if counts.messages else ()
+                ended += counts.messages
+                read = self._take(counts, number) if counts.messages else ()
             yield from read
             if status != Status.DONE or at >= len(data):
                 break
             # (of a packet the rest is fed)
             call = library.fastcat_reader_feed
         self._is_open = False
-        if status == Status.DONE and is_packet:
+        if status == Status.DONE and packet is not None:
             status = self._finish(answer)
+            if status == Status.DONE and not packet.is_whole:
+                # (a message has ended, and its packet has not)
+                status = Status.STREAM_REFUSED
+                answer = RawAnswer(status=status, cause=Cause.Truncated, messages=ended, message=ended + 1, offset=len(data))
         if status != Status.DONE:
-            raise error_of(answer, packet)
+            raise error_of(answer, packet or Packet())
 
     def _take(self, waiting: RawCounts, packet: int | None) -> list[dict[str, Any]]:
         """The messages that wait."""
@@ -137,7 +146,7 @@ class Reader:
             ctypes.byref(self._reader), self._nodes, len(self._nodes) // NODE.size, self._bytes, len(self._bytes), ctypes.byref(taken)
         )
         if status != Status.DONE:
-            raise error_of(RawAnswer(status=status), None)
+            raise error_of(RawAnswer(status=status))
         return self._decoder.decode(self._nodes, taken.nodes, self._bytes, taken.bytes, packet)
 
     def _finish(self, answer: RawAnswer) -> int:
@@ -151,14 +160,14 @@ class Reader:
         """
         answer = RawAnswer()
         if self._finish(answer) != Status.DONE:
-            raise error_of(answer, None)
+            raise error_of(answer)
 
     def reset(self) -> None:
         """The beginning of a new stream, from undefined entries. What waits is forgotten."""
         with self._lock:
             status = library.fastcat_reader_reset(ctypes.byref(self._reader))
         if status != Status.DONE:
-            raise error_of(RawAnswer(status=status), None)
+            raise error_of(RawAnswer(status=status))
         self._is_open = False
 
     def close(self) -> None:
@@ -174,13 +183,6 @@ class Reader:
 
     def __exit__(self, *error: object) -> None:
         self.close()
-
-
-def error_of(raw: RawAnswer, packet: int | None) -> FastcatError:
-    answer = answer_of(raw)
-    if packet is not None:
-        answer = dataclasses.replace(answer, packet=packet, packets=packet - 1)
-    return FastcatError(answer)
 
 
 def chunks_of(stream: Source, size: int) -> Iterator[bytes | bytearray | memoryview]:
@@ -202,12 +204,15 @@ def chunks_of(stream: Source, size: int) -> Iterator[bytes | bytearray | memoryv
         raise TypeError(f"stream: bytes, a path, a file, a socket or pieces are wanted, not {type(stream).__name__}")
 
 
-def packets_of(stream: Any) -> Iterable[bytes | bytearray | memoryview]:
-    """Packets one after the other. A file would be lines, and bytes numbers."""
-    is_whole = isinstance(stream, (bytes, bytearray, memoryview, str, os.PathLike)) or hasattr(stream, "read") or hasattr(stream, "recv")
-    if is_whole or not isinstance(stream, collections.abc.Iterable):
-        raise TypeError(f"stream: packets one after the other are wanted, not {type(stream).__name__}")
-    return stream
+def packets_of(stream: Source, size: int, mode: int) -> Iterator[tuple[Packet, bytes]]:
+    """The packets of a recording, or of an iterable."""
+    is_file = isinstance(stream, os.PathLike) or hasattr(stream, "read1") or hasattr(stream, "read")
+    if is_file or isinstance(stream, (bytes, bytearray, memoryview)):
+        yield from packets_in(chunks_of(stream, size), mode)
+    elif isinstance(stream, collections.abc.Iterable) and not isinstance(stream, str) and not hasattr(stream, "recv"):
+        yield from ((Packet(number), bytes_of("packet", data)) for number, data in enumerate(stream, 1))
+    else:
+        raise TypeError(f"stream: a recording or packets one after the other are wanted, not {type(stream).__name__}")
 
 
 def messages(
@@ -223,17 +228,19 @@ def messages(
     chunk: int = 65536,
 ) -> Iterator[dict[str, Any]]:
     """The messages of a stream: of bytes, of a file by its path or as it is open, of a socket, or of pieces one after the other.
-    With `packets` it is an iterable of packets, each a stream of its own, and messages say their packet's number first, from 1,
-    as `packet`.
+    With `packets` bytes and a file are a recording, of packets each behind its size, and an iterable is packets, as datagrams are.
+    Each is a stream of its own, and messages say their packet's number first, from 1, as `packet`; so do errors, whose offset is
+    that in the recording, or of an iterable in the packet.
 
-    Nothing of the stream is held but the chunk that is read, and a message that is not whole. `Reader` tells of messages.
+    Nothing of the stream is held but the chunk that is read, and a message or a packet that is not whole. `Reader` tells of
+    messages.
 
     Raises `FastcatError` behind the messages before a fault.
     """
     with Reader(templates, strict=strict, blocks=blocks, decimals=decimals, fields=fields, most_bytes=most_bytes) as reader:
         if packets:
-            for number, packet in enumerate(packets_of(stream), 1):
-                yield from reader.packet(packet, number)
+            for packet, data in packets_of(stream, chunk, mode_of(strict, blocks, False)):
+                yield from reader._packet(packet, data)
             return
         for piece in chunks_of(stream, chunk):
             yield from reader.feed(piece)

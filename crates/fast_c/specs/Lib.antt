@@ -1,4 +1,5 @@
 pub mod Fields
 pub mod Reading
 pub mod Sets
+pub mod Sizes
 pub mod Writing

@@ -1,5 +1,5 @@
 -- What calls with the reader behind a handle did, and what C is answered of them.
-use Rattle.std.specs.Prelude.{◌≡◌, ◌≢◌, ◌≤◌, ◌<◌, ◌↔◌, ◌+◌, ◌++◌, [], ℕ, List, Option, Some, None, Result, Ok, Err, IfOk, IfErr, IfSome, IfNone, IsSome, OnOk, length, take, drop, true, false}
+use Rattle.std.specs.Prelude.{◌≡◌, ◌≢◌, ◌≤◌, ◌<◌, ◌↔◌, ◌+◌, nat_eq, nat_lt, if◌then◌else◌, ◌++◌, [], ℕ, List, Option, Some, None, Result, Ok, Err, IfOk, IfErr, IfSome, IfNone, IsSome, OnOk, length, take, drop, true, false}
 use Rattle.std.specs.FinMap as finite
 use Rattle.fast_template.specs.TemplateSets.{TemplateList, templates_in}
 use Rattle.fast_dictionary.specs.declared.slots.SlotEntries.{SlotEntries}
@@ -43,12 +43,16 @@ HeldReader Does Stays old new None = (new ≡ old) × Stays
 
 -- ---- the calls
 
+-- the most bytes of strings that a message may have, where 0 says nothing
+abbrev pub most_bytes_of : ℕ → ℕ
+most_bytes_of said = if nat_eq said 0 then 67108864 else if nat_lt said 4294967295 then said else 4294967295
+
 -- A reader of a set is behind the handle, at the beginning of a stream; or it stays as it was.
-abbrev pub KeepsReader : ℕ → Option Kept → Option Kept → TemplateList → Done → Type 0
-KeepsReader word old new set (Ok counts) = (counts ≡ no_counts) × ((r : ReaderOf) × (new ≡ Some (Kept.Lent (Some (Lent.Reader r)))) × (r.machine.traversal.set.now ≡ set) × (stream_mode_of word ≡ Some (mode_of r.machine)) × Reads r [] [] [])
-KeepsReader word old new set (Err Refusal.Mode) = (stream_mode_of word ≡ None) × (new ≡ old)
-KeepsReader word old new set (Err Refusal.Memory) = new ≡ old
-KeepsReader word old new set (Err r) = ⊥
+abbrev pub KeepsReader : ℕ → ℕ → Option Kept → Option Kept → TemplateList → Done → Type 0
+KeepsReader word most old new set (Ok counts) = (counts ≡ no_counts) × ((r : ReaderOf) × (new ≡ Some (Kept.Lent (Some (Lent.Reader r)))) × (r.machine.traversal.set.now ≡ set) × (stream_mode_of word ≡ Some (mode_of r.machine)) × (r.machine.receiver.«open».most_bytes ≡ most_bytes_of most) × Reads r [] [] [])
+KeepsReader word most old new set (Err Refusal.Mode) = (stream_mode_of word ≡ None) × (new ≡ old)
+KeepsReader word most old new set (Err Refusal.Memory) = new ≡ old
+KeepsReader word most old new set (Err r) = ⊥
 
 -- Bytes were fed.
 pub record Feeds (chunk : List ℕ) (old new : ReaderOf) (done : Result ℕ TapeFault) : Type 0 where
@@ -57,6 +61,8 @@ pub record Feeds (chunk : List ℕ) (old new : ReaderOf) (done : Result ℕ Tape
   pub clear : IfOk done (λ n. new.machine.fault ≡ None)
   pub refused : IfErr done (λ f. f ≢ TapeFault.StreamTooLong → fault_kept new ≡ Some f)
   pub too_long : IfErr done (λ f. f ≡ TapeFault.StreamTooLong → (new ≡ old) × (stream_limit < old.machine.fed + length chunk))
+  pub long : old.machine.fault ≡ None → stream_limit < old.machine.fed + length chunk → done ≡ Err TapeFault.StreamTooLong
+  pub fed : IfOk done (λ n. new.machine.fed ≡ old.machine.fed + n)
   pub within : IfOk done (λ n. n ≤ length chunk)
   pub stops : IfOk done (λ n. n < length chunk → is_full new.machine.receiver ≡ true)
   pub moves : IfOk done (λ n. is_full old.machine.receiver ≡ false → 0 < length chunk → 0 < n)
@@ -68,6 +74,7 @@ pub record ReadsPacket (packet : List ℕ) (old new : ReaderOf) (done : Result �
   pub whole : IfOk done (λ n. n ≡ length packet → (messages waiting : List Content) → Reads new packet messages waiting
       → Carries (mode_of new.machine) (templates_in new.machine.traversal.set.now) packet messages)
   pub refused : IfErr done (λ f. f ≢ TapeFault.StreamTooLong → fault_kept new ≡ Some f)
+  pub too_long : (done ≡ Err TapeFault.StreamTooLong) ↔ (stream_limit < length packet)
   pub within : IfOk done (λ n. n ≤ length packet)
   pub stops : IfOk done (λ n. n < length packet → is_full new.machine.receiver ≡ true)
   pub same : IsSameStream old.machine new.machine
@@ -93,6 +100,7 @@ pub record Finishes (old new : ReaderOf) (done : Result (Unit {0}) TapeFault) : 
 -- A new stream was begun.
 pub record Resets (old new : ReaderOf) (done : Unit {0}) : Type 0 where
   pub fault : new.machine.fault ≡ None
+  pub fed : new.machine.fed ≡ 0
   pub undefined : ghosts.contents new.machine.entries ≡ finite.empty
   pub reads : Reads new [] [] []
   pub same : IsSameStream old.machine new.machine

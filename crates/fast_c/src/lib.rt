@@ -13,6 +13,7 @@ mod reader_exports;
 mod readers;
 mod set_exports;
 mod sets;
+mod sizes;
 mod writer_exports;
 mod writers;
 
@@ -32,6 +33,7 @@ pub use set_exports::{
     fastcat_set_canon, fastcat_set_check, fastcat_set_free, fastcat_set_new, fastcat_set_share,
     fastcat_set_show, fastcat_set_write,
 };
+pub use sizes::fastcat_packet_size;
 pub use writer_exports::{
     fastcat_writer_free, fastcat_writer_new, fastcat_writer_put, fastcat_writer_reset,
     fastcat_writer_take,

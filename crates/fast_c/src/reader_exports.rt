@@ -27,7 +27,7 @@ pub extern "C" fn fastcat_reader_new(
     most_bytes: u64,
     reader: &mut Handle,
 ) -> u32
-    ensures answer { (done : Done) × WithKept (KeepsReader mode reader.old.value reader.new.value)
+    ensures answer { (done : Done) × WithKept (KeepsReader mode most_bytes reader.old.value reader.new.value)
         (reader.new.value ≡ reader.old.value) set.old.value done × (result ≡ (answer_of done).status) }
     ensures same { set.new.value ≡ set.old.value }
 {

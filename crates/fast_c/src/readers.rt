@@ -1,7 +1,7 @@
 //! What is done with the reader behind a handle.
 
 ghost use Rattle.std.specs.Prelude.{◌≡◌, option_map};
-ghost use Rattle.fast_c.specs.Reading.{Feeds, Finishes, HeldReader, KeepsReader, LentReader, ReadsPacket, Resets, Takes, counted as counted_lem, refusal_of as refusal_of_lem, status_done as status_done_lem, status_taken as status_taken_lem, taken_told as taken_told_lem, told as told_lem, used_of as used_of_lem, waiting_in as waiting_in_lem, waiting_lent as waiting_lent_lem};
+ghost use Rattle.fast_c.specs.Reading.{Feeds, Finishes, HeldReader, KeepsReader, LentReader, ReadsPacket, Resets, Takes, counted as counted_lem, most_bytes_of as most_bytes_of_lem, refusal_of as refusal_of_lem, status_done as status_done_lem, status_taken as status_taken_lem, taken_told as taken_told_lem, told as told_lem, used_of as used_of_lem, waiting_in as waiting_in_lem, waiting_lent as waiting_lent_lem};
 ghost use Rattle.fast_c.specs.Sets.{WithKept};
 
 use crate::counts::NodeCounts;
@@ -18,13 +18,15 @@ type Held = Option<Box<Kept>>;
 const MOST_BYTES: u32 = 64 << 20;
 
 /// The most bytes of strings that a message may have; 0 says nothing.
-fn most_bytes_of(word: u64) -> u32 {
+fn most_bytes_of(word: u64) -> u32
+    ensures { result ≡ most_bytes_of_lem word }
+{
     if word == 0 {
-        return MOST_BYTES;
-    }
-    match u32::try_from(word) {
-        Ok(most) => most,
-        Err(_) => u32::MAX,
+        MOST_BYTES
+    } else if word < u32::MAX as u64 {
+        word as u32
+    } else {
+        u32::MAX
     }
 }
 
@@ -36,7 +38,7 @@ pub(crate) fn keep_reader(
     most_bytes: u64,
     reader: &mut Handle,
 ) -> Result<Counts, Refusal>
-    ensures { WithKept (KeepsReader word reader.old.value reader.new.value) (reader.new.value ≡ reader.old.value)
+    ensures { WithKept (KeepsReader word most_bytes reader.old.value reader.new.value) (reader.new.value ≡ reader.old.value)
         (option_map (λ b. b.value) held.now) result }
 {
     let Some(set) = set_in(held) else {
