@@ -335,6 +335,14 @@ pub(crate) fn take_judged(
     }
 }
 
+/// Whether what was sent may be NULL or a string, by its first byte: a group that says something begins no NULL.
+#[inline(always)]
+fn may_be_respelled(instr: &FieldPart, bytes: &[u8], at: usize) -> bool
+    requires { at ≤ length bytes.now }
+{
+    instr.kind == Kind::Ascii || at < bytes.len() && bytes[at] % 128 == 0
+}
+
 /// Takes NULL, or an ASCII string that was sent as a difference, where the best form is told at once, and makes its entry the one
 /// afterwards. None: nothing has changed.
 #[inline(always)]
@@ -352,9 +360,12 @@ pub(crate) fn take_respelled(
     ensures { MatchOption result (entry.new ≡ entry.old)
         (IsTook level instr.now entry.old entry.new true bytes.now at aside.new) }
 {
+    if !may_be_respelled(instr, bytes, at) || !reads_as_usual(level, instr, bytes, at) {
+        return None;
+    }
     // a byte that is put there later asks for no memory
     aside.made.clear();
-    if !reads_as_usual(level, instr, bytes, at) || aside.made.push(0).is_err() {
+    if aside.made.push(0).is_err() {
         return None;
     }
     let best = find_best(alloc, instr, entry, bytes, at)?;
