@@ -7,7 +7,8 @@ usage: bench/nodes.py [TEMPLATES STREAM LIMIT]..
 line of the table has, by valgrind and without what reading the templates takes: the instructions for each node that a caller
 in C takes (bench/nodes.c), and those for each node of `fastcat.messages` in Python, with _nodes.c and without, and of
 `json.loads` over the lines of the same messages, without those that make the lines. Behind it stands what one message of
-62,000 bytes takes that repeats a string of 60,000 characters 2,000 times: bytes of strings, and memory in C and in Python.
+62,000 bytes takes that repeats a string of 60,000 characters 2,000 times: bytes of strings, and memory in C, besides what a
+short message takes (a program's own pages come in as they are first used), and in Python.
 
 The status is 1 where C takes more instructions a node than LIMIT, where Python with _nodes.c takes more than two thirds of
 those of `json.loads`, or where the message takes more than a megabyte.
@@ -26,9 +27,9 @@ REPEATS = {"templates": [{"name": "Repeats", "id": 1, "instructions": [
     {"kind": "sequence", "name": "Rows", "instructions": [{"kind": "string", "name": "Text", "operator": "copy"}]}]}]}
 
 
-def repeats():
-    """A message of 2,000 elements, of which the first has a string, and the others have it again."""
-    return b"\xc0\x81" + speed.unsigned(2000) + b"\xc0" + speed.text("x" * 60_000) + b"\x80" * 1999
+def repeats(elements, characters):
+    """A message of so many elements, of which the first has a string, and the others have it again."""
+    return b"\xc0\x81" + speed.unsigned(elements) + b"\xc0" + speed.text("x" * characters) + b"\x80" * (elements - 1)
 
 
 def instructions(words, environment):
@@ -100,12 +101,18 @@ def line_of(folder, name, templates, stream, limit):
 
 def repeated(folder):
     program, with_c, _ = built(folder)
-    templates, stream = f"{folder}/repeats.json", f"{folder}/repeats.fast"
-    with open(templates, "w") as one, open(stream, "wb") as two:
+    templates, stream, short = (f"{folder}/{name}" for name in ("repeats.json", "repeats.fast", "short.fast"))
+    with open(templates, "w") as one, open(stream, "wb") as two, open(short, "wb") as three:
         json.dump(REPEATS, one)
-        two.write(repeats())
-    told = subprocess.run([program, templates, stream, "read"], capture_output=True, text=True, check=True).stdout
-    _, nodes, strings, in_c = map(int, told.split())
+        two.write(repeats(2000, 60_000))
+        three.write(repeats(2, 10))
+
+    def told(path):
+        ran = subprocess.run([program, templates, path, "read"], capture_output=True, text=True, check=True)
+        return map(int, ran.stdout.split())
+
+    _, nodes, strings, in_c = told(stream)
+    in_c -= [*told(short)][3]
     words = [sys.executable, __file__, "--python", templates, stream, os.devnull, "read"]
     found = {**os.environ, "PYTHONPATH": with_c, "FASTCAT_LIBRARY": f"{speed.TOP}/lib/libfastcat.so"}
     in_python = int(subprocess.run(words, capture_output=True, text=True, check=True, env=found).stdout)
