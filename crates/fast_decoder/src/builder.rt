@@ -129,7 +129,7 @@ impl Receiver for Builder {
         at: usize,
     ) -> Result<(u32, usize), FieldFault> {
         let aside = &mut self.aside;
-        let (id, next) = take_identifier(alloc, entries, identifier, bit, level, bytes, at, aside)?;
+        let (id, next) = take_identifier(entries, identifier, bit, level, bytes, at, aside)?;
         self.template = id;
         self.nodes = Vec::new(alloc);
         self.outer = Vec::new(alloc);
@@ -143,6 +143,11 @@ impl Receiver for Builder {
             fields,
         })?;
         Ok(())
+    }
+
+    #[inline(always)]
+    fn reset_entries<E: Entries>(&mut self, entries: &mut E) {
+        entries.reset_into(&mut self.aside.spare);
     }
 
     fn back(&mut self, alloc: Global) {
@@ -173,7 +178,6 @@ impl Receiver for Builder {
 
     fn exponent<E: Entries>(
         &mut self,
-        alloc: Global,
         _name: &Name,
         _presence: Presence,
         entries: &mut E,
@@ -184,7 +188,7 @@ impl Receiver for Builder {
         at: usize,
     ) -> Result<(bool, usize), FieldFault> {
         let aside = &mut self.aside;
-        match take_exponent(alloc, entries, part, bit, level, bytes, at, aside)? {
+        match take_exponent(entries, part, bit, level, bytes, at, aside)? {
             (None, next) => {
                 self.nodes
                     .push(Node::Absent)
@@ -200,7 +204,6 @@ impl Receiver for Builder {
 
     fn mantissa<E: Entries>(
         &mut self,
-        alloc: Global,
         entries: &mut E,
         part: &FieldPart,
         bit: bool,
@@ -209,7 +212,7 @@ impl Receiver for Builder {
         at: usize,
     ) -> Result<usize, FieldFault> {
         let aside = &mut self.aside;
-        let (mantissa, next) = take_mantissa(alloc, entries, part, bit, level, bytes, at, aside)?;
+        let (mantissa, next) = take_mantissa(entries, part, bit, level, bytes, at, aside)?;
         let exponent = self.exponent;
         self.nodes
             .push(Node::Value(Scalar::Decimal { exponent, mantissa }))
@@ -230,7 +233,7 @@ impl Receiver for Builder {
         at: usize,
     ) -> Result<(Option<u32>, usize), FieldFault> {
         let aside = &mut self.aside;
-        match take_length(alloc, entries, part, bit, level, bytes, at, aside)? {
+        match take_length(entries, part, bit, level, bytes, at, aside)? {
             (None, next) => {
                 self.nodes
                     .push(Node::Absent)

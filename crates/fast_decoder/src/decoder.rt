@@ -143,7 +143,7 @@ impl<'a, E: Entries> Decoder<'a, E> {
         self.machine.finish()
     }
 
-    /// Begins a new stream, with all entries undefined. Takes no memory.
+    /// Begins a new stream, with all entries undefined. Fails for no want of memory.
     pub fn reset(&mut self)
         ensures set { self.new.machine.traversal.set ≡ self.old.machine.traversal.set }
         ensures mode { mode_of self.new.machine ≡ mode_of self.old.machine }

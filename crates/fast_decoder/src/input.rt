@@ -195,7 +195,7 @@ impl<'a, R: ByteInput, E: Entries> MessageInputStream<'a, R, E> {
     }
 
     /// Begins a new stream with what the reader has left, with all entries undefined: drops what waits, and counts
-    /// the reads from 0. Takes no memory.
+    /// the reads from 0. Fails for no want of memory.
     pub fn reset(&mut self)
         ensures reader { self.new.reader ≡ self.old.reader }
         ensures turns { self.new.turns ≡ self.old.turns }

@@ -9,6 +9,7 @@ ghost use Rattle.fast_dictionary.specs.contracts.entry.Entry as entry_type;
 ghost use Rattle.fast_dictionary.specs.declared.entry.Entry.TheVariants.{Undefined};
 
 use crate::entry::{Entry, EntryRef};
+use crate::spare::Spare;
 use fast_template::Key;
 use std::alloc::{AllocError, Global};
 
@@ -68,6 +69,14 @@ pub trait Entries: Drop {
     fn reset(&mut self)
         ensures cleared { contents self.new ≡ map.empty }
         ensures same_keys { serves self.new ≡ serves self.old };
+
+    /// Makes every entry undefined, and keeps the memory of their strings where entries are reset often.
+    fn reset_into(&mut self, _spare: &mut Spare)
+        ensures cleared { contents self.new ≡ map.empty }
+        ensures same_keys { serves self.new ≡ serves self.old }
+    {
+        self.reset();
+    }
 
     /// The same entries once more.
     ///

@@ -5,8 +5,10 @@ mod entries;
 mod entry;
 mod map;
 mod slots;
+mod spare;
 
 pub use entries::Entries;
 pub use entry::{Entry, EntryRef};
 pub use map::MapEntries;
 pub use slots::SlotEntries;
+pub use spare::Spare;

@@ -8,8 +8,10 @@ ghost use Rattle.fast_dictionary.specs.Slots.{AllUndefined, AreBelow, HaveOwnSlo
 
 use crate::entries::Entries;
 use crate::entry::{Entry, EntryRef};
+use crate::spare::Spare;
 use fast_template::{Key, TemplateSet};
 use std::alloc::{AllocError, Global};
+use std::mem;
 
 /// Entries of the keys of one template set, in a vector by slot.
 ///
@@ -67,6 +69,10 @@ impl Entries for SlotEntries<'_> {
         undefine(&mut self.entries);
     }
 
+    fn reset_into(&mut self, spare: &mut Spare) {
+        undefine_into(&mut self.entries, spare);
+    }
+
     fn copy(&self, alloc: Global) -> Result<Self, AllocError> {
         let entries = copies(&self.entries, alloc)?;
         Ok(SlotEntries {
@@ -83,6 +89,16 @@ fn undefine(entries: &mut Vec<Entry>)
 {
     for slot in 0..entries.len() {
         entries[slot] = Entry::Undefined;
+    }
+}
+
+// The same, and keeps the memory of their strings.
+fn undefine_into(entries: &mut Vec<Entry>, spare: &mut Spare)
+    ensures undefined { AllUndefined entries.new.items }
+    ensures len { vec_len entries.new ≡ vec_len entries.old }
+{
+    for slot in 0..entries.len() {
+        spare.keep_entry(mem::replace(&mut entries[slot], Entry::Undefined));
     }
 }
 

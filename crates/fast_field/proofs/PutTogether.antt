@@ -1,7 +1,7 @@
 -- What was sent and units of a base, put together.
-use Rattle.fast_field.proofs.Common.{◌≡◌, ℕ, ◌+◌, ◌-◌, ◌%◌, ◌<◌, ◌≤◌, ◌⊎◌, true, List, ◌++◌, length, get_or, set, refl, ap, ◌∙◌, inl, inr, arith, length-append, nat_lt, get_or-append_right, set-append_right, length-map, groups, Fails, tail_text, Kind, FieldFault, OrRefused, limited_value, units_sent, lt-ltb}
+use Rattle.fast_field.proofs.Common.{◌≡◌, ℕ, ◌+◌, ◌-◌, ◌%◌, ◌<◌, ◌≤◌, ◌⊎◌, true, List, ◌++◌, length, get_or, set, refl, ap, ◌∙◌, inl, inr, arith, length-append, nat_lt, get_or-append_right, set-append_right, length-map, groups, Fails, tail_text, Kind, FieldFault, OrRefused, limited_value, unit_value, units_sent, lt-ltb}
 use Rattle.fast_wire.specs.Spans.{IsTail}
-use Rattle.fast_field.proofs.ValueFaults.{never, few_made}
+use Rattle.fast_field.proofs.ValueFaults.{never, few_made, unit_made}
 
 -- the characters of the last bytes of an entity, where the stop bit was taken off the last
 pub last_cleared : (front tail items : List ℕ) (size x : ℕ) → IsTail tail → items ≡ front ++ tail → 0 < length tail → size ≡ length items → x ≡ get_or items (size - 1) x → set items (size - 1) (x % 128) ≡ front ++ groups tail
@@ -24,6 +24,9 @@ sent_length k sent = refl
 
 pub no_memory : (e : FieldFault) (k : Kind) (units : List ℕ) → e ≡ FieldFault.Memory → Fails OrRefused e (limited_value k units)
 no_memory e k units refused = inr (refused, never (limited_value k units) (few_made k units))
+
+pub no_copy : (e : FieldFault) (k : Kind) (units : List ℕ) → e ≡ FieldFault.Memory → Fails OrRefused e (unit_value k units)
+no_copy e k units refused = inr (refused, never (unit_value k units) (unit_made k units))
 
 pub no_room : (e : FieldFault) (k : Kind) (a b : List ℕ) (m n : ℕ) → length a ≡ m → length b ≡ n → (e ≡ FieldFault.Memory) ⊎ ((e ≡ FieldFault.Limit) × (65535 < m + n)) → Fails OrRefused e (limited_value k (a ++ b))
 unfolding limited_value

@@ -10,9 +10,10 @@ ghost use Rattle.fast_field.specs.Planning.{left_out_of};
 ghost use Rattle.fast_field.specs.Found.{CanLie, IsLeftOut, value_found};
 
 use crate::found::Found;
-use fast_dictionary::{Entry, EntryRef};
+use fast_dictionary::{Entry, EntryRef, Spare};
 use fast_template::{FieldPart, Operator, Scalar};
 use std::alloc::{AllocError, Global};
+use std::mem;
 
 /// Whether a value that bit 0 gives is the one that the entry has, and leaves it.
 #[inline(always)]
@@ -96,7 +97,7 @@ pub fn next_entry(
 /// initial one is copied, and one that is there stays. An absent one is passed to the caller.
 #[inline(always)]
 fn assign(
-    alloc: Global,
+    spare: &mut Spare,
     instr: &FieldPart,
     entry: &mut Entry,
     found: Found,
@@ -113,12 +114,12 @@ fn assign(
         Found::Absent => return Ok(Found::Absent),
         Found::Initial => match &instr.initial {
             None => return Ok(Found::Absent),
-            Some(initial) => initial.value().copy(alloc)?,
+            Some(initial) => spare.copy(initial.value())?,
         },
         Found::Kept => return Ok(Found::Kept),
         Found::Value(value) => value,
     };
-    *entry = Entry::Assigned(value);
+    spare.keep_entry(mem::replace(entry, Entry::Assigned(value)));
     Ok(Found::Kept)
 }
 
@@ -126,7 +127,7 @@ fn assign(
 /// leaves is not touched. Memory only for the copy of an initial value; the entry is then as it was.
 #[inline(always)]
 pub(crate) fn settle(
-    alloc: Global,
+    spare: &mut Spare,
     instr: &FieldPart,
     entry: &mut Entry,
     found: Found,
@@ -140,11 +141,11 @@ pub(crate) fn settle(
 {
     match instr.operator {
         Operator::Plain | Operator::Constant | Operator::Default => Ok(found),
-        Operator::Delta => assign(alloc, instr, entry, found),
+        Operator::Delta => assign(spare, instr, entry, found),
         Operator::Copy | Operator::Increment | Operator::Tail => {
-            let found = assign(alloc, instr, entry, found)?;
+            let found = assign(spare, instr, entry, found)?;
             if let Found::Absent = found {
-                *entry = Entry::Empty;
+                spare.keep_entry(mem::replace(entry, Entry::Empty));
             }
             Ok(found)
         }

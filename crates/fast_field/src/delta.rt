@@ -29,10 +29,9 @@ use crate::whole::{
     exponent_within, mantissa_within, read_integer, read_mantissa_entity, size_part, size_signed,
     value_of_integer, write_part, write_signed,
 };
-use fast_dictionary::EntryRef;
+use fast_dictionary::{EntryRef, Spare};
 use fast_template::{FieldPart, Kind, Presence, Scalar};
 use fast_wire::{Level, Nullable, WireFault};
-use std::alloc::Global;
 
 /// The number that a delta makes of one of at most 64 bits.
 #[inline(always)]
@@ -164,7 +163,7 @@ fn removed_units(removal: Removal) -> usize
 /// The base with a new part where units were removed, as a value. Limit: it has too many units.
 #[inline(always)]
 fn changed(
-    alloc: Global,
+    spare: &mut Spare,
     kind: Kind,
     removal: Removal,
     base: &[u8],
@@ -177,15 +176,15 @@ fn changed(
         (units_sent kind part.now))) }
 {
     match removal {
-        Removal::AtEnd(removed) => { sent_behind(alloc, kind, &base[..base.len() - removed], part) }
-        Removal::InFront(removed) => sent_in_front(alloc, kind, part, &base[removed..]),
+        Removal::AtEnd(removed) => { sent_behind(spare, kind, &base[..base.len() - removed], part) }
+        Removal::InFront(removed) => sent_in_front(spare, kind, part, &base[removed..]),
     }
 }
 
 /// Reads a new part, and puts it where units were removed.
 #[tactic(auto, using(crate::proofs::CallSteps::call_steps), unfolding(crate::specs::FieldReading::new_part_behind))]
 fn read_new_part(
-    alloc: Global,
+    spare: &mut Spare,
     kind: Kind,
     removal: Removal,
     base: &[u8],
@@ -202,7 +201,7 @@ fn read_new_part(
         return Err(FieldFault::D7);
     }
     let (span, next) = find_part(kind, level, bytes, at)?;
-    let value = changed(alloc, kind, removal, base, &bytes[span.start..span.end])?;
+    let value = changed(spare, kind, removal, base, &bytes[span.start..span.end])?;
     Ok((Some(value), next))
 }
 
@@ -210,7 +209,7 @@ fn read_new_part(
 /// and the place after it: FAST 1.1, Field Operators, Delta Operator. Memory only for the value.
 #[tactic(auto, using(crate::proofs::CallSteps::call_steps), unfolding(crate::specs::FieldReading::unit_delta_at))]
 fn read_unit_delta(
-    alloc: Global,
+    spare: &mut Spare,
     instr: &FieldPart,
     kept: EntryRef,
     level: Level,
@@ -230,7 +229,7 @@ fn read_unit_delta(
                 return Err(FieldFault::D7);
             };
             let base = base_units(base_of_delta(instr, kept)?);
-            read_new_part(alloc, instr.kind, removal, base, level, bytes, next)
+            read_new_part(spare, instr.kind, removal, base, level, bytes, next)
         }
     }
 }
@@ -239,7 +238,7 @@ fn read_unit_delta(
 #[tactic(auto, unfolding(crate::specs::FieldReading::delta_at))]
 #[inline(always)]
 pub(crate) fn read_delta(
-    alloc: Global,
+    spare: &mut Spare,
     instr: &FieldPart,
     kept: EntryRef,
     level: Level,
@@ -257,7 +256,7 @@ pub(crate) fn read_delta(
         }
         Kind::Decimal => read_decimal_delta(instr, kept, level, bytes, at),
         Kind::Ascii | Kind::Unicode | Kind::Bytes => {
-            read_unit_delta(alloc, instr, kept, level, bytes, at)
+            read_unit_delta(spare, instr, kept, level, bytes, at)
         }
     }
 }

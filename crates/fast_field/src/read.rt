@@ -20,7 +20,7 @@ use crate::found::Found;
 use crate::passed::pass_found;
 use crate::tail::read_tail;
 use crate::whole::{exponent_within, read_whole};
-use fast_dictionary::{Entry, EntryRef};
+use fast_dictionary::{Entry, EntryRef, Spare};
 use fast_template::{FieldPart, Operator, Part, Scalar};
 use fast_wire::Level;
 use std::alloc::Global;
@@ -32,7 +32,7 @@ pub(crate) const LENGTH_LIMIT: i128 = 65_535;
 #[tactic(auto, using(crate::proofs::CallSteps::call_steps), unfolding(crate::specs::FieldReading::row_at, crate::specs::FieldReading::whole_at, crate::specs::FieldReading::predicted_at))]
 #[inline(always)]
 fn read_row(
-    alloc: Global,
+    spare: &mut Spare,
     instr: &FieldPart,
     kept: EntryRef,
     bit: bool,
@@ -58,7 +58,7 @@ fn read_row(
         }
         Operator::Plain | Operator::Default | Operator::Copy | Operator::Increment => {
             let (value, next) = read_whole(
-                alloc,
+                spare,
                 instr.part,
                 instr.kind,
                 instr.presence,
@@ -69,11 +69,11 @@ fn read_row(
             Ok((Found::own(value), next))
         }
         Operator::Delta => {
-            let (value, next) = read_delta(alloc, instr, kept, level, bytes, at)?;
+            let (value, next) = read_delta(spare, instr, kept, level, bytes, at)?;
             Ok((Found::own(value), next))
         }
         Operator::Tail => {
-            let (value, next) = read_tail(alloc, instr, kept, level, bytes, at)?;
+            let (value, next) = read_tail(spare, instr, kept, level, bytes, at)?;
             Ok((Found::own(value), next))
         }
     }
@@ -106,7 +106,7 @@ fn check_part(instr: &FieldPart, kept: EntryRef, found: &Found) -> Result<(), Fi
 #[tactic(auto, using(crate::proofs::CallSteps::call_steps), unfolding(crate::specs::FieldReading::field_at))]
 #[inline(always)]
 pub fn find_field(
-    alloc: Global,
+    spare: &mut Spare,
     instr: &FieldPart,
     kept: EntryRef,
     bit: bool,
@@ -124,7 +124,7 @@ pub fn find_field(
         → field_at level instr.now (entry_of kept.entry) bit (drop at bytes.now ++ more)
         ≡ Ok (value_found instr.now (entry_of kept.entry) x.0, drop x.1 bytes.now ++ more)) }
 {
-    let (found, next) = read_row(alloc, instr, kept, bit, level, bytes, at)?;
+    let (found, next) = read_row(spare, instr, kept, bit, level, bytes, at)?;
     check_part(instr, kept, &found)?;
     Ok((found, next))
 }
@@ -137,7 +137,7 @@ pub fn find_field(
 /// As `find_field`, and the entry is as it was. Memory: also where an initial value was to be copied.
 #[inline(never)]
 pub fn read_in_place(
-    alloc: Global,
+    spare: &mut Spare,
     instr: &FieldPart,
     entry: &mut Entry,
     bit: bool,
@@ -161,8 +161,8 @@ pub fn read_in_place(
             return Ok((found, at));
         }
     }
-    let (found, next) = find_field(alloc, instr, entry.view(), bit, level, bytes, at)?;
-    let found = settle(alloc, instr, entry, found)?;
+    let (found, next) = find_field(spare, instr, entry.view(), bit, level, bytes, at)?;
+    let found = settle(spare, instr, entry, found)?;
     Ok((found, next))
 }
 
@@ -182,7 +182,8 @@ fn read_copied(
     ensures gives { Gives OrRefused (λ x. (x.0, drop x.2 bytes.now))
         result (field_at level instr.now (entry_of kept.entry) bit (drop at bytes.now)) }
 {
-    let (found, place) = find_field(alloc, instr, kept, bit, level, bytes, at)?;
+    let mut spare = Spare::new(alloc);
+    let (found, place) = find_field(&mut spare, instr, kept, bit, level, bytes, at)?;
     let entry = next_entry(alloc, instr, kept, found.value(instr, kept))?;
     let value = found.into_value(alloc, instr, kept)?;
     Ok((value, entry, place))

@@ -7,16 +7,17 @@ ghost use Rattle.fast_wire.specs.Nullable.{IsNullOr};
 ghost use Rattle.fast_wire.specs.Reading.{Gives};
 ghost use Rattle.fast_wire.specs.Spans.{IsBetween, IsTail, nullable_in};
 ghost use Rattle.fast_field.specs.Calls.{AnswersAt, OrRefused};
-ghost use Rattle.fast_field.specs.FieldReading.{limited_value, part_at, units_at};
+ghost use Rattle.fast_field.specs.FieldReading.{limited_value, part_at, unit_value, units_at};
 ghost use Rattle.fast_field.specs.Sent.{IsSent, IsSentIn, units_in, units_sent};
 ghost use Rattle.fast_field.specs.declared.fault.FieldFault.TheVariants as field_fault;
 
 use crate::fault::FieldFault;
 use crate::whole::{judge_units, value_of_units};
+use fast_dictionary::Spare;
 use fast_template::{Kind, Presence, Scalar};
 use fast_value::UNIT_LIMIT;
 use fast_wire::{Level, Nullable, Span};
-use std::alloc::{AllocError, Global};
+use std::alloc::AllocError;
 
 /// Finds characters or bytes in the form that has no NULL, of Unicode its bytes, and the place after them. It
 /// takes no memory.
@@ -99,7 +100,7 @@ fn append_sent(kind: Kind, sent: &[u8], units: &mut Vec<u8>) -> Result<(), Alloc
 
 /// Room for so many units, and so many behind them. Limit: they are too many.
 #[inline(always)]
-fn room(alloc: Global, front: usize, back: usize) -> Result<Vec<u8>, FieldFault>
+fn room(spare: &mut Spare, front: usize, back: usize) -> Result<Vec<u8>, FieldFault>
     ensures ok { IfOk result (λ units. (units.items ≡ []) × (front + back ≤ 65535)) }
     ensures err { IfErr result (λ e. (e ≡ field_fault.Memory)
         ⊎ ((e ≡ field_fault.Limit) × (65535 < front + back))) }
@@ -107,13 +108,26 @@ fn room(alloc: Global, front: usize, back: usize) -> Result<Vec<u8>, FieldFault>
     if front > UNIT_LIMIT || back > UNIT_LIMIT - front {
         return Err(FieldFault::Limit);
     }
-    Ok(Vec::with_capacity(alloc, front + back)?)
+    let mut units = spare.take();
+    units.reserve(front + back)?;
+    Ok(units)
+}
+
+/// What was sent, as a value.
+#[tactic(auto, using(crate::proofs::CallSteps::call_steps, crate::proofs::PutTogether::no_copy, std::proofs::lemmas::Result::err_from_is_err_and))]
+pub(crate) fn sent_whole(spare: &mut Spare, kind: Kind, sent: &[u8]) -> Result<Scalar, FieldFault>
+    requires { IsSent kind sent.now }
+    ensures { Gives OrRefused (λ v. v) result (unit_value kind (units_sent kind sent.now)) }
+{
+    let mut units = spare.take();
+    append_sent(kind, sent, &mut units)?;
+    value_of_units(kind, units)
 }
 
 /// What was sent behind units of the base, as a value. Limit: they are too many.
 #[tactic(auto, using(crate::proofs::CallSteps::call_steps, crate::proofs::PutTogether::no_memory, std::proofs::lemmas::Result::err_from_is_err_and), unfolding(crate::specs::FieldReading::limited_value))]
 pub(crate) fn sent_behind(
-    alloc: Global,
+    spare: &mut Spare,
     kind: Kind,
     front: &[u8],
     sent: &[u8],
@@ -122,7 +136,7 @@ pub(crate) fn sent_behind(
     ensures { Gives OrRefused (λ v. v)
         result (limited_value kind (front.now ++ units_sent kind sent.now)) }
 {
-    let mut units = room(alloc, front.len(), sent.len())?;
+    let mut units = room(spare, front.len(), sent.len())?;
     units.extend_from_slice(front)?;
     append_sent(kind, sent, &mut units)?;
     value_of_units(kind, units)
@@ -131,7 +145,7 @@ pub(crate) fn sent_behind(
 /// What was sent in front of units of the base, as a value. Limit: they are too many.
 #[tactic(auto, using(crate::proofs::CallSteps::call_steps, crate::proofs::PutTogether::no_memory, std::proofs::lemmas::Result::err_from_is_err_and), unfolding(crate::specs::FieldReading::limited_value))]
 pub(crate) fn sent_in_front(
-    alloc: Global,
+    spare: &mut Spare,
     kind: Kind,
     sent: &[u8],
     back: &[u8],
@@ -140,7 +154,7 @@ pub(crate) fn sent_in_front(
     ensures { Gives OrRefused (λ v. v)
         result (limited_value kind (units_sent kind sent.now ++ back.now)) }
 {
-    let mut units = room(alloc, sent.len(), back.len())?;
+    let mut units = room(spare, sent.len(), back.len())?;
     append_sent(kind, sent, &mut units)?;
     units.extend_from_slice(back)?;
     value_of_units(kind, units)

@@ -18,15 +18,14 @@ use crate::fault::FieldFault;
 use crate::pieces::Pieces;
 use crate::string::{find_units, sent_behind};
 use crate::whole::size_units;
-use fast_dictionary::EntryRef;
+use fast_dictionary::{EntryRef, Spare};
 use fast_template::{FieldPart, Kind, Presence, Scalar};
 use fast_wire::{Level, Nullable};
-use std::alloc::Global;
 
 /// The base, the tail that was sent in place of its end.
 #[tactic(auto, using(crate::proofs::CallSteps::call_steps), unfolding(crate::specs::FieldReading::ended_value))]
 fn ended(
-    alloc: Global,
+    spare: &mut Spare,
     instr: &FieldPart,
     kept: EntryRef,
     tail: &[u8],
@@ -38,14 +37,14 @@ fn ended(
 {
     let base = base_units(base_of_tail(instr, kept)?);
     let left = base.len().saturating_sub(tail.len());
-    sent_behind(alloc, instr.kind, &base[..left], tail)
+    sent_behind(spare, instr.kind, &base[..left], tail)
 }
 
 /// Reads a tail that begins at `at`, and answers the value that it makes, none where it is NULL, and the place after it.
 /// Memory only for the value.
 #[tactic(auto, using(crate::proofs::CallSteps::call_steps), unfolding(crate::specs::FieldReading::tail_at))]
 pub(crate) fn read_tail(
-    alloc: Global,
+    spare: &mut Spare,
     instr: &FieldPart,
     kept: EntryRef,
     level: Level,
@@ -62,7 +61,7 @@ pub(crate) fn read_tail(
         Nullable::Null => Ok((None, next)),
         Nullable::Value(span) => {
             let tail = &bytes[span.start..span.end];
-            Ok((Some(ended(alloc, instr, kept, tail)?), next))
+            Ok((Some(ended(spare, instr, kept, tail)?), next))
         }
     }
 }

@@ -14,9 +14,10 @@ ghost use Rattle.fast_field.specs.Chosen.{AppendsOne, CanBeUnits, CanBeWhole, Ha
 ghost use Rattle.fast_field.specs.FieldReading.{entity_limit, integer_usually_at, mantissa_entity_at, overlong_fault, decimal_spelled_at, in_field, integer_at, integer_spelled_at, integer_value, mantissa_behind, part_at, range_fault, spelled_at, unit_value, units_at, units_spelled_at};
 
 use crate::fault::FieldFault;
+use crate::string::{find_units, sent_whole};
+use fast_dictionary::Spare;
 use fast_template::{ByteString, Kind, Part, Presence, Scalar, UnicodeText};
 use fast_wire::{Level, Nullable, WireFault};
-use std::alloc::Global;
 
 /// A number without a sign; one that has more than 64 bits is read once more.
 #[tactic(auto, using(crate::proofs::CallSteps::call_steps), unfolding(crate::specs::FieldReading::integer_at))]
@@ -194,54 +195,6 @@ pub fn read_integer(
     }
 }
 
-/// Characters or bytes in the form that has no NULL, of Unicode its bytes, copied once.
-#[tactic(auto, using(crate::proofs::CallSteps::call_steps), unfolding(crate::specs::FieldReading::part_at))]
-#[inline(always)]
-pub(crate) fn read_part(
-    alloc: Global,
-    kind: Kind,
-    level: Level,
-    bytes: &[u8],
-    at: usize,
-) -> Result<(Vec<u8>, usize), FieldFault>
-    requires { at ≤ length bytes.now }
-    ensures place { IfOk result (λ x. (at < x.1) × (x.1 ≤ length bytes.now)) }
-    ensures gives { GivesAt OrRefused (part_at level kind) (λ v. v.items) bytes.now at result }
-{
-    judge_units(level, kind, Presence::Mandatory, bytes, at)?;
-    match kind {
-        Kind::Ascii => Ok(fast_wire::read_ascii(alloc, bytes, at)?),
-        _ => Ok(fast_wire::read_vector(alloc, bytes, at)?),
-    }
-}
-
-/// Characters or bytes in the form of a presence, of Unicode its bytes, copied once.
-#[tactic(auto, using(crate::proofs::CallSteps::call_steps), unfolding(crate::specs::FieldReading::units_at, crate::specs::FieldReading::part_at))]
-pub(crate) fn read_units(
-    alloc: Global,
-    kind: Kind,
-    presence: Presence,
-    level: Level,
-    bytes: &[u8],
-    at: usize,
-) -> Result<(Nullable<Vec<u8>>, usize), FieldFault>
-    requires { at ≤ length bytes.now }
-    ensures place { IfOk result (λ x. (at < x.1) × (x.1 ≤ length bytes.now)) }
-    ensures gives { GivesAt OrRefused (units_at level kind presence) items_of bytes.now at result }
-{
-    judge_units(level, kind, presence, bytes, at)?;
-    match presence {
-        Presence::Mandatory => {
-            let (units, next) = read_part(alloc, kind, Level::Usual, bytes, at)?;
-            Ok((Nullable::Value(units), next))
-        }
-        Presence::Optional => match kind {
-            Kind::Ascii => Ok(fast_wire::read_ascii_nullable(alloc, bytes, at)?),
-            _ => Ok(fast_wire::read_vector_nullable(alloc, bytes, at)?),
-        },
-    }
-}
-
 /// What is answered for a number out of its type's bounds: of a part of a decimal it is the decimal that is out
 /// of range.
 #[inline(always)]
@@ -388,7 +341,7 @@ fn read_number(
 /// after it. Memory only for the copy.
 #[tactic(auto, using(crate::proofs::CallSteps::call_steps), unfolding(crate::specs::FieldReading::units_spelled_at))]
 fn read_string(
-    alloc: Global,
+    spare: &mut Spare,
     kind: Kind,
     presence: Presence,
     level: Level,
@@ -400,10 +353,13 @@ fn read_string(
     ensures gives { GivesAt OrRefused (units_spelled_at level kind presence)
         (λ v. v) bytes.now at result }
 {
-    let (units, next) = read_units(alloc, kind, presence, level, bytes, at)?;
-    match units {
+    let (sent, next) = find_units(kind, presence, level, bytes, at)?;
+    match sent {
         Nullable::Null => Ok((None, next)),
-        Nullable::Value(units) => Ok((Some(value_of_units(kind, units)?), next)),
+        Nullable::Value(span) => {
+            let sent = &bytes[span.start..span.end];
+            Ok((Some(sent_whole(spare, kind, sent)?), next))
+        }
     }
 }
 
@@ -411,7 +367,7 @@ fn read_string(
 #[tactic(auto, unfolding(crate::specs::FieldReading::spelled_at))]
 #[inline(always)]
 pub(crate) fn read_whole(
-    alloc: Global,
+    spare: &mut Spare,
     part: Part,
     kind: Kind,
     presence: Presence,
@@ -429,7 +385,7 @@ pub(crate) fn read_whole(
         }
         Kind::Decimal => read_decimal(presence, level, bytes, at),
         Kind::Ascii | Kind::Unicode | Kind::Bytes => {
-            read_string(alloc, kind, presence, level, bytes, at)
+            read_string(spare, kind, presence, level, bytes, at)
         }
     }
 }

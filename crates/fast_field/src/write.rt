@@ -16,7 +16,7 @@ use crate::fault::FieldRefusal;
 use crate::found::Found;
 use crate::pieces::{Pieces, write_pieces};
 use crate::plan::choose;
-use fast_dictionary::{Entry, EntryRef};
+use fast_dictionary::{Entry, EntryRef, Spare};
 use fast_template::{FieldPart, Scalar};
 use std::alloc::Global;
 
@@ -128,7 +128,7 @@ pub fn write_in_place(
 /// As `write_in_place`; Memory: an initial value was to be copied.
 #[inline(always)]
 pub fn write_found(
-    alloc: Global,
+    spare: &mut Spare,
     instr: &FieldPart,
     entry: &mut Entry,
     found: Found,
@@ -152,7 +152,7 @@ pub fn write_found(
 {
     let start = out.len();
     let bit = append_best(instr, entry.view(), found.value(instr, entry.view()), out)?;
-    match settle(alloc, instr, entry, found) {
+    match settle(spare, instr, entry, found) {
         Ok(found) => Ok((found, bit)),
         Err(_) => {
             out.truncate(start);

@@ -39,7 +39,7 @@ fn take_value(
     requires entry { HoldsScalar entry.old }
     ensures { TakesFrom (λ value. value) level part.now bit bytes.now at entry.old entry.new result }
 {
-    let took = take(alloc, part, entry, bit, level, bytes, at, aside)?;
+    let took = take(part, entry, bit, level, bytes, at, aside)?;
     let value = aside.copied_value(alloc, took, part, entry, bit, bytes)?;
     Ok((value, took.place()))
 }
@@ -77,7 +77,6 @@ pub fn take_part<E: Entries>(
 /// Takes a number without sign of 32 bits, and makes its entry the one afterwards.
 #[inline(always)]
 fn take_count(
-    alloc: Global,
     part: &FieldPart,
     entry: &mut Entry,
     bit: bool,
@@ -94,14 +93,13 @@ fn take_count(
     ensures taken { TakesFrom length_of level part.now bit bytes.now at entry.old entry.new result }
     ensures there { part.now.presence ≡ Mandatory → IfOk result (λ x. x.0 ≢ None) }
 {
-    let took = take(alloc, part, entry, bit, level, bytes, at, aside)?;
+    let took = take(part, entry, bit, level, bytes, at, aside)?;
     Ok((aside.count_in(took, part, entry, bit), took.place()))
 }
 
 /// The same of an exponent.
 #[inline(always)]
 fn take_exponent_of(
-    alloc: Global,
     part: &FieldPart,
     entry: &mut Entry,
     bit: bool,
@@ -117,14 +115,13 @@ fn take_exponent_of(
     requires entry { HoldsScalar entry.old }
     ensures { TakesFrom exponent_of level part.now bit bytes.now at entry.old entry.new result }
 {
-    let took = take(alloc, part, entry, bit, level, bytes, at, aside)?;
+    let took = take(part, entry, bit, level, bytes, at, aside)?;
     Ok((aside.exponent_in(took, part, entry, bit), took.place()))
 }
 
 /// The same of a mantissa.
 #[inline(always)]
 fn take_mantissa_of(
-    alloc: Global,
     part: &FieldPart,
     entry: &mut Entry,
     bit: bool,
@@ -141,7 +138,7 @@ fn take_mantissa_of(
     ensures taken { TakesFrom of_mantissa level part.now bit bytes.now at entry.old entry.new result }
     ensures there { part.now.presence ≡ Mandatory → IfOk result (λ x. x.0 ≢ None) }
 {
-    let took = take(alloc, part, entry, bit, level, bytes, at, aside)?;
+    let took = take(part, entry, bit, level, bytes, at, aside)?;
     Ok((aside.mantissa_in(took, part, entry, bit), took.place()))
 }
 
@@ -152,7 +149,6 @@ fn take_mantissa_of(
 /// As `take_part`.
 #[inline(always)]
 pub fn take_identifier<E: Entries>(
-    alloc: Global,
     entries: &mut E,
     identifier: &FieldPart,
     bit: bool,
@@ -171,7 +167,7 @@ pub fn take_identifier<E: Entries>(
     ensures same_keys { E.serves entries.new ≡ E.serves entries.old }
 {
     let entry = entries.entry_mut(&identifier.key)?;
-    match take_count(alloc, identifier, entry, bit, level, bytes, at, aside)? {
+    match take_count(identifier, entry, bit, level, bytes, at, aside)? {
         (Some(id), next) => Ok((id, next)),
         (None, _next) => unreachable!(),
     }
@@ -184,7 +180,6 @@ pub fn take_identifier<E: Entries>(
 /// As `take_part`.
 #[inline(always)]
 pub fn take_length<E: Entries>(
-    alloc: Global,
     entries: &mut E,
     part: &FieldPart,
     bit: bool,
@@ -203,7 +198,7 @@ pub fn take_length<E: Entries>(
     ensures same_keys { E.serves entries.new ≡ E.serves entries.old }
 {
     let entry = entries.entry_mut(&part.key)?;
-    take_count(alloc, part, entry, bit, level, bytes, at, aside)
+    take_count(part, entry, bit, level, bytes, at, aside)
 }
 
 /// Takes the exponent of a decimal in parts, none where that is absent, and the place behind it.
@@ -213,7 +208,6 @@ pub fn take_length<E: Entries>(
 /// As `take_part`.
 #[inline(always)]
 pub fn take_exponent<E: Entries>(
-    alloc: Global,
     entries: &mut E,
     part: &FieldPart,
     bit: bool,
@@ -232,7 +226,7 @@ pub fn take_exponent<E: Entries>(
     ensures same_keys { E.serves entries.new ≡ E.serves entries.old }
 {
     let entry = entries.entry_mut(&part.key)?;
-    take_exponent_of(alloc, part, entry, bit, level, bytes, at, aside)
+    take_exponent_of(part, entry, bit, level, bytes, at, aside)
 }
 
 /// Takes the mantissa of a decimal whose exponent is there, and the place behind it.
@@ -242,7 +236,6 @@ pub fn take_exponent<E: Entries>(
 /// As `take_part`.
 #[inline(always)]
 pub fn take_mantissa<E: Entries>(
-    alloc: Global,
     entries: &mut E,
     part: &FieldPart,
     bit: bool,
@@ -262,7 +255,7 @@ pub fn take_mantissa<E: Entries>(
     ensures same_keys { E.serves entries.new ≡ E.serves entries.old }
 {
     let entry = entries.entry_mut(&part.key)?;
-    match take_mantissa_of(alloc, part, entry, bit, level, bytes, at, aside)? {
+    match take_mantissa_of(part, entry, bit, level, bytes, at, aside)? {
         (Some(mantissa), next) => Ok((mantissa, next)),
         (None, _next) => unreachable!(),
     }

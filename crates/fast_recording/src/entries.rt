@@ -9,14 +9,16 @@ ghost use Rattle.fast_dictionary.specs.Slots.{AllUndefined, AreBelow, HaveOwnSlo
 ghost use Rattle.fast_recording.specs.Touched.{AreTouched};
 
 use crate::touched::{GROUP, Touched};
-use fast_dictionary::{Entries, Entry, EntryRef};
+use fast_dictionary::{Entries, Entry, EntryRef, Spare};
 use fast_template::{Key, TemplateSet};
 use std::alloc::{AllocError, Global};
+use std::mem;
 
 /// Entries of the keys of one template set, in a vector by slot. A reset looks only at those that were asked for to be
 /// changed since the one before, and their neighbours.
 #[derive(Drop)]
 pub struct PacketEntries<'a> {
+    alloc: Global,
     set: &'a TemplateSet,
     entries: Vec<Entry>,
     touched: Touched,
@@ -49,6 +51,7 @@ impl<'a> PacketEntries<'a> {
             entries.push(Entry::Undefined)?;
         }
         Ok(PacketEntries {
+            alloc,
             set,
             entries,
             touched,
@@ -75,13 +78,19 @@ impl Entries for PacketEntries<'_> {
     }
 
     fn reset(&mut self) {
-        undefine(&mut self.entries, &mut self.touched.groups);
+        let mut spare = Spare::new(self.alloc);
+        self.reset_into(&mut spare);
+    }
+
+    fn reset_into(&mut self, spare: &mut Spare) {
+        undefine(&mut self.entries, &mut self.touched.groups, spare);
     }
 
     fn copy(&self, alloc: Global) -> Result<Self, AllocError> {
         let entries = copies(&self.entries, alloc)?;
         let touched = self.touched.copy(alloc)?;
         Ok(PacketEntries {
+            alloc,
             set: self.set,
             entries,
             touched,
@@ -99,8 +108,8 @@ fn is_undefined(entry: &Entry) -> bool
     }
 }
 
-// Makes the entries of a group undefined.
-fn undefine_group(entries: &mut Vec<Entry>, group: usize)
+// Makes the entries of a group undefined, and keeps the memory of their strings.
+fn undefine_group(entries: &mut Vec<Entry>, group: usize, spare: &mut Spare)
     requires few { group ≤ 2 ^ 28 }
     ensures undefined { (n : ℕ) → n / 32 ≡ group → slice_index_or entries.new.items n Undefined ≡ Undefined }
     ensures others { (n : ℕ) → n / 32 ≢ group
@@ -112,13 +121,13 @@ fn undefine_group(entries: &mut Vec<Entry>, group: usize)
     for slot in first..end {
         // (most are, and to look costs less than to write)
         if !is_undefined(&entries[slot]) {
-            entries[slot] = Entry::Undefined;
+            spare.keep_entry(mem::replace(&mut entries[slot], Entry::Undefined));
         }
     }
 }
 
 // Makes every entry undefined, where those that are not have been noted, and forgets which were.
-fn undefine(entries: &mut Vec<Entry>, groups: &mut Vec<bool>)
+fn undefine(entries: &mut Vec<Entry>, groups: &mut Vec<bool>, spare: &mut Spare)
     requires touched { AreTouched entries.now.items groups.now.items }
     requires few { vec_len groups.now ≤ 2 ^ 28 }
     ensures undefined { AllUndefined entries.new.items }
@@ -127,7 +136,7 @@ fn undefine(entries: &mut Vec<Entry>, groups: &mut Vec<bool>)
 {
     for group in 0..groups.len() {
         if groups[group] {
-            undefine_group(entries, group);
+            undefine_group(entries, group, spare);
             groups[group] = false;
         }
     }

@@ -1,8 +1,8 @@
 -- What strings that are read at once rest on.
-use Rattle.fast_relay.proofs.Common.{◌≡◌, List, ℕ, ◌-◌, ◌++◌, length, take, refl, sym, subst, ◌∙◌, Ok, Some, Usual, groups, IsPlain, Kind, Operator, Part, Ascii, FieldPart, Entry, Assigned, next, next_of, units_spelled_at, IsUnitKind, KeepsNothing, SpellsWhole, Takes, GivesCut, GivesTail}
+use Rattle.fast_relay.proofs.Common.{◌≡◌, List, ℕ, ◌-◌, ◌++◌, length, take, refl, sym, subst, ◌∙◌, Ok, Some, Usual, groups, IsPlain, Kind, Operator, Part, Ascii, FieldPart, Entry, Assigned, next, units_spelled_at, IsUnitKind, KeepsNothing, Takes, GivesTail}
 use Rattle.fast_relay.proofs.PlainTexts.{spelled_plain}
-use Rattle.fast_relay.proofs.Taking.{delta_row, leaves, spells_whole, takes, whole_row}
-use Rattle.fast_relay.proofs.TextRelaying.{delta_as, tail_row, text_read, whole_within}
+use Rattle.fast_relay.proofs.Taking.{leaves, spells_whole, takes, whole_row}
+use Rattle.fast_relay.proofs.TextRelaying.{tail_row, text_read, whole_within}
 
 -- one that its entry does not keep
 pub aside_takes : {i : FieldPart} {e : Entry} {bytes form rest : List ℕ} → i.kind ≡ Kind.Ascii → i.part ≡ Part.Whole → KeepsNothing i.operator → IsPlain bytes form rest → Takes i e e (Ascii (groups form)) bytes rest

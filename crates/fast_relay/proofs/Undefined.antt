@@ -1,5 +1,5 @@
 -- What bit 0 gives where the entry is undefined: the initial value, or no value where there is none.
-use Rattle.fast_relay.proofs.Common.{◌≡◌, ◌∙◌, IsTrue, false, true, [], Option, Some, None, Ok, refl, sym, Usual, is_of, Operator, Presence, Mandatory, Optional, Scalar, FieldPart, Empty, Assigned}
+use Rattle.fast_relay.proofs.Common.{◌≡◌, IsTrue, false, true, [], Option, Some, None, Ok, refl, Usual, is_of, Operator, Presence, Optional, Scalar, FieldPart, Empty, Assigned}
 use Rattle.fast_wire.specs.declared.level.Level.{Level}
 use Rattle.fast_template.specs.Resolved.{operator_needs_bit}
 use Rattle.fast_dictionary.specs.declared.entry.Entry.TheVariants.{Undefined}
@@ -7,7 +7,6 @@ use Rattle.fast_field.specs.Bases.{next_of, predicted, written_entry}
 use Rattle.fast_field.specs.Deltas.{uncut}
 use Rattle.fast_field.specs.Fields.{FormOf, IsWithin, within_part}
 use Rattle.fast_field.specs.Numbers.{Predicts}
-use Rattle.fast_field.specs.Parts.{HasDefault}
 use Rattle.fast_field.specs.Passed.{IsPassed, Passes}
 use Rattle.fast_field.specs.declared.passed.Passed.TheVariants.{Present}
 use Rattle.fast_field.proofs.BestForms.{bit_zero_is_best}

@@ -10,9 +10,8 @@ ghost use Rattle.fast_relay.specs.Judged.{IsJudged};
 use crate::judged::Judged;
 use crate::null::judge_null;
 use crate::respelled::respell_text;
-use fast_dictionary::Entry;
+use fast_dictionary::{Entry, Spare};
 use fast_template::FieldPart;
-use std::alloc::Global;
 
 /// The best form of what was read, and the place behind that: its bit, and its bytes.
 #[derive(Clone, Copy, Debug, PartialEq, Eq, Drop)]
@@ -64,7 +63,7 @@ pub fn best_of(judged: Judged, bytes: &[u8], at: usize) -> Option<Best>
 /// had to, and makes the entry the one afterwards; nothing is written. None: nothing has changed, and the general way tells.
 #[inline(always)]
 pub fn judge_other(
-    alloc: Global,
+    spare: &mut Spare,
     instr: &FieldPart,
     entry: &mut Entry,
     bytes: &[u8],
@@ -74,8 +73,8 @@ pub fn judge_other(
     requires kept { HoldsScalar entry.now }
     ensures { MatchOption result (entry.new ≡ entry.old) (λ best. HasBest instr.now entry.old entry.new bytes.now at best) }
 {
-    if let Some(best) = judge_null(instr, entry, bytes, at) {
+    if let Some(best) = judge_null(spare, instr, entry, bytes, at) {
         return Some(best);
     }
-    respell_text(alloc, instr, entry, bytes, at)
+    respell_text(spare.alloc(), instr, entry, bytes, at)
 }

@@ -22,11 +22,10 @@ use crate::judged_string::judge_string;
 use crate::judged_vector::judge_vector;
 use crate::passed::can_begin;
 use crate::short_number::ShortInteger;
-use fast_dictionary::Entry;
+use fast_dictionary::{Entry, Spare};
 use fast_field::set_number;
 use fast_template::{FieldPart, Kind, Operator, Part, Presence};
 use fast_wire::{overlong_signed, overlong_unsigned};
-use std::alloc::Global;
 
 /// What the best form is of a field that was read under bit 1, and the place behind what was read.
 #[derive(Clone, Copy, Debug, PartialEq, Eq, Drop)]
@@ -585,7 +584,7 @@ fn judge_integer(
 #[inline(always)]
 pub(crate) fn judge_long(
     which: Part,
-    alloc: Global,
+    spare: &mut Spare,
     instr: &FieldPart,
     entry: &mut Entry,
     bytes: &[u8],
@@ -598,8 +597,8 @@ pub(crate) fn judge_long(
 {
     match which {
         Part::Whole => match instr.kind {
-            Kind::Ascii => judge_string(alloc, instr, entry, bytes, at),
-            Kind::Unicode | Kind::Bytes => judge_vector(alloc, instr, entry, bytes, at),
+            Kind::Ascii => judge_string(spare, instr, entry, bytes, at),
+            Kind::Unicode | Kind::Bytes => judge_vector(spare, instr, entry, bytes, at),
             Kind::Decimal => judge_decimal(instr, entry, bytes, at),
             Kind::UInt32 | Kind::Int32 | Kind::UInt64 | Kind::Int64 => Judged::Elsewhere,
         },
@@ -612,7 +611,7 @@ pub(crate) fn judge_long(
 #[inline(always)]
 pub fn judge_field(
     which: Part,
-    alloc: Global,
+    spare: &mut Spare,
     instr: &FieldPart,
     entry: &mut Entry,
     bytes: &[u8],
@@ -632,7 +631,7 @@ pub fn judge_field(
             judge_integer(which, kind, instr, entry, bytes, at)
         }
         Kind::Decimal | Kind::Ascii | Kind::Unicode | Kind::Bytes => {
-            judge_long(which, alloc, instr, entry, bytes, at)
+            judge_long(which, spare, instr, entry, bytes, at)
         }
     }
 }

@@ -21,7 +21,7 @@ use crate::judged::{Judged, answer};
 use crate::one_byte::read_removal;
 use crate::plain::{keep_plain, put_characters, replace_end, replace_string};
 use crate::words::short_plain_end;
-use fast_dictionary::Entry;
+use fast_dictionary::{Entry, Spare};
 use fast_field::agrees_no_further;
 use fast_template::{ByteString, FieldPart, Operator, Scalar};
 use fast_wire::is_text_of;
@@ -30,7 +30,7 @@ use std::alloc::Global;
 /// The bit of the best form of a string that is spelled whole by bytes that are its shortest form; the entry goes on. None:
 /// nothing has changed, and another way tells.
 #[inline(always)]
-fn judge_plain(alloc: Global, instr: &FieldPart, entry: &mut Entry, form: &[u8]) -> Option<bool>
+fn judge_plain(spare: &mut Spare, instr: &FieldPart, entry: &mut Entry, form: &[u8]) -> Option<bool>
     requires part { instr.now.part ≡ part_type.Whole }
     requires operator { SpellsWhole instr.now.operator }
     requires kind { instr.now.kind ≡ kind_type.Ascii }
@@ -39,7 +39,7 @@ fn judge_plain(alloc: Global, instr: &FieldPart, entry: &mut Entry, form: &[u8])
     ensures entry { IfNone result (entry.new ≡ entry.old) }
 {
     if text_bit(instr, entry, form)? {
-        keep_plain(alloc, instr.operator, entry, form).then_some(true)
+        keep_plain(spare, instr.operator, entry, form).then_some(true)
     } else {
         Some(false)
     }
@@ -49,7 +49,7 @@ fn judge_plain(alloc: Global, instr: &FieldPart, entry: &mut Entry, form: &[u8])
 /// makes the entry the one afterwards. Elsewhere: nothing has changed, and another way tells.
 #[inline(always)]
 pub fn judge_characters(
-    alloc: Global,
+    spare: &mut Spare,
     instr: &FieldPart,
     entry: &mut Entry,
     bytes: &[u8],
@@ -65,14 +65,14 @@ pub fn judge_characters(
     requires kind { instr.now.kind ≡ kind_type.Ascii }
     ensures { IsJudged instr.now entry.old entry.new bytes.now at result }
 {
-    let bit = judge_plain(alloc, instr, entry, &bytes[first..next]);
+    let bit = judge_plain(spare, instr, entry, &bytes[first..next]);
     answer(bit, at, first, next)
 }
 
 /// Judges a string that is spelled whole, be it behind a preamble. (A call of its own, behind the next two, which judge most.)
 #[inline(never)]
 fn judge_string_whole(
-    alloc: Global,
+    spare: &mut Spare,
     instr: &FieldPart,
     entry: &mut Entry,
     bytes: &[u8],
@@ -85,7 +85,7 @@ fn judge_string_whole(
     ensures { IsJudged instr.now entry.old entry.new bytes.now at result }
 {
     match find_plain(bytes, at) {
-        Some((first, next)) => judge_characters(alloc, instr, entry, bytes, at, first, next),
+        Some((first, next)) => judge_characters(spare, instr, entry, bytes, at, first, next),
         None => Judged::Elsewhere,
     }
 }
@@ -93,7 +93,7 @@ fn judge_string_whole(
 /// Judges a string that is spelled whole and kept nowhere.
 #[inline(always)]
 fn judge_string_once(
-    alloc: Global,
+    spare: &mut Spare,
     instr: &FieldPart,
     entry: &mut Entry,
     bytes: &[u8],
@@ -111,13 +111,13 @@ fn judge_string_once(
             return Judged::Stands(next);
         }
     }
-    judge_string_whole(alloc, instr, entry, bytes, at)
+    judge_string_whole(spare, instr, entry, bytes, at)
 }
 
 /// Judges a string by the one that the entry has; it then has this one.
 #[inline(always)]
 fn judge_string_copy(
-    alloc: Global,
+    spare: &mut Spare,
     instr: &FieldPart,
     entry: &mut Entry,
     bytes: &[u8],
@@ -134,19 +134,13 @@ fn judge_string_copy(
             return Judged::Stands(next);
         }
     }
-    judge_string_whole(alloc, instr, entry, bytes, at)
+    judge_string_whole(spare, instr, entry, bytes, at)
 }
 
 /// Judges a removal of few characters at the end of the string that the entry has, and a new part that is short, and as long
 /// as what is removed.
 #[inline(always)]
-fn judge_string_delta(
-    alloc: Global,
-    instr: &FieldPart,
-    text: &mut ByteString,
-    bytes: &[u8],
-    at: usize,
-) -> Judged
+fn judge_string_delta(instr: &FieldPart, text: &mut ByteString, bytes: &[u8], at: usize) -> Judged
     requires place { at ≤ length bytes.now }
     requires part { instr.now.part ≡ part_type.Whole }
     requires operator { instr.now.operator ≡ operator_type.Delta }
@@ -223,7 +217,7 @@ fn judge_string_tail(
 /// and another way tells. (A call of its own, so that the walk over a segment stays short.)
 #[inline(never)]
 pub fn judge_string(
-    alloc: Global,
+    spare: &mut Spare,
     instr: &FieldPart,
     entry: &mut Entry,
     bytes: &[u8],
@@ -236,17 +230,19 @@ pub fn judge_string(
     ensures { IsJudged instr.now entry.old entry.new bytes.now at result }
 {
     match instr.operator {
-        Operator::Plain | Operator::Default => judge_string_once(alloc, instr, entry, bytes, at),
-        Operator::Copy => judge_string_copy(alloc, instr, entry, bytes, at),
+        Operator::Plain | Operator::Default => judge_string_once(spare, instr, entry, bytes, at),
+        Operator::Copy => judge_string_copy(spare, instr, entry, bytes, at),
         Operator::Delta => match entry {
-            Entry::Assigned(Scalar::Ascii(text)) => {
-                judge_string_delta(alloc, instr, text, bytes, at)
-            }
+            Entry::Assigned(Scalar::Ascii(text)) => { judge_string_delta(instr, text, bytes, at) }
             _ => Judged::Elsewhere,
         },
         Operator::Tail => match entry {
             Entry::Assigned(Scalar::Ascii(text)) => judge_string_tail(
-                alloc, instr, text, bytes, at,
+                spare.alloc(),
+                instr,
+                text,
+                bytes,
+                at,
             ),
             _ => Judged::Elsewhere,
         },

@@ -16,7 +16,7 @@ use crate::given::units_bit;
 use crate::judged::{Judged, answer};
 use crate::one_byte::{find_removal, read_length, read_length_behind};
 use crate::vectors::{are_text, keep_bytes, make_units, may_end};
-use fast_dictionary::Entry;
+use fast_dictionary::{Entry, Spare};
 use fast_field::{goes_on_otherwise, is_vector_cut_at_end, units};
 use fast_template::{FieldPart, Kind, Operator, Presence, Scalar};
 use fast_value::UNIT_LIMIT;
@@ -65,7 +65,7 @@ fn find_behind(
 /// The bit of the best form of a string or vector that is spelled whole; the entry goes on. None: nothing has changed, and
 /// another way tells.
 #[inline(always)]
-fn judge_whole(alloc: Global, instr: &FieldPart, entry: &mut Entry, part: &[u8]) -> Option<bool>
+fn judge_whole(spare: &mut Spare, instr: &FieldPart, entry: &mut Entry, part: &[u8]) -> Option<bool>
     requires part { instr.now.part ≡ part_type.Whole }
     requires operator { SpellsWhole instr.now.operator }
     requires kind { IsVectorKind instr.now.kind }
@@ -76,7 +76,7 @@ fn judge_whole(alloc: Global, instr: &FieldPart, entry: &mut Entry, part: &[u8])
         return None;
     }
     if units_bit(instr, entry, part)? {
-        keep_bytes(alloc, instr.kind, instr.operator, entry, part).then_some(true)
+        keep_bytes(spare, instr.kind, instr.operator, entry, part).then_some(true)
     } else {
         Some(false)
     }
@@ -111,7 +111,7 @@ fn judge_end(alloc: Global, instr: &FieldPart, value: &mut Scalar, part: &[u8]) 
 
 /// The same of a new end of an empty entry: it is the whole value.
 #[inline(always)]
-fn judge_first(alloc: Global, instr: &FieldPart, entry: &mut Entry, part: &[u8]) -> Option<bool>
+fn judge_first(spare: &mut Spare, instr: &FieldPart, entry: &mut Entry, part: &[u8]) -> Option<bool>
     requires entry { entry.now ≡ entry_type.Empty }
     requires part { instr.now.part ≡ part_type.Whole }
     requires operator { instr.now.operator ≡ operator_type.Tail }
@@ -122,14 +122,14 @@ fn judge_first(alloc: Global, instr: &FieldPart, entry: &mut Entry, part: &[u8])
     if instr.initial.is_some() || part.is_empty() || !are_text(instr.kind, part) {
         return None;
     }
-    let value = make_units(alloc, instr.kind, part)?;
+    let value = make_units(spare, instr.kind, part)?;
     *entry = Entry::Assigned(value);
     Some(true)
 }
 
 /// The same of a string or vector, or a new end of one.
 #[inline(always)]
-fn judge_units(alloc: Global, instr: &FieldPart, entry: &mut Entry, part: &[u8]) -> Option<bool>
+fn judge_units(spare: &mut Spare, instr: &FieldPart, entry: &mut Entry, part: &[u8]) -> Option<bool>
     requires part { instr.now.part ≡ part_type.Whole }
     requires kind { IsVectorKind instr.now.kind }
     ensures gives { IfSome result (λ bit. UnitsGive bit instr.now entry.old entry.new part.now) }
@@ -137,11 +137,11 @@ fn judge_units(alloc: Global, instr: &FieldPart, entry: &mut Entry, part: &[u8])
 {
     match instr.operator {
         Operator::Plain | Operator::Default | Operator::Copy => {
-            judge_whole(alloc, instr, entry, part)
+            judge_whole(spare, instr, entry, part)
         }
         Operator::Tail => match entry {
-            Entry::Assigned(value) => judge_end(alloc, instr, value, part),
-            Entry::Empty => judge_first(alloc, instr, entry, part),
+            Entry::Assigned(value) => judge_end(spare.alloc(), instr, value, part),
+            Entry::Empty => judge_first(spare, instr, entry, part),
             Entry::Undefined => None,
         },
         Operator::Constant | Operator::Increment | Operator::Delta => None,
@@ -223,7 +223,7 @@ fn judge_difference(
 /// memory but what the entry needs. Elsewhere: nothing has changed, and another way tells.
 #[inline(never)]
 pub fn judge_vector(
-    alloc: Global,
+    spare: &mut Spare,
     instr: &FieldPart,
     entry: &mut Entry,
     bytes: &[u8],
@@ -237,17 +237,17 @@ pub fn judge_vector(
 {
     if instr.operator == Operator::Delta {
         return match entry {
-            Entry::Assigned(value) => judge_difference(alloc, instr, value, bytes, at),
+            Entry::Assigned(value) => judge_difference(spare.alloc(), instr, value, bytes, at),
             Entry::Undefined | Entry::Empty => Judged::Elsewhere,
         };
     }
     if let Some((start, next)) = find_shortest(instr.kind, instr.presence, bytes, at) {
-        let bit = judge_units(alloc, instr, entry, &bytes[start..next]);
+        let bit = judge_units(spare, instr, entry, &bytes[start..next]);
         return answer(bit, at, at, next);
     }
     match find_behind(instr.kind, instr.presence, bytes, at) {
         Some((first, start, next)) => {
-            let bit = judge_units(alloc, instr, entry, &bytes[start..next]);
+            let bit = judge_units(spare, instr, entry, &bytes[start..next]);
             answer(bit, at, first, next)
         }
         None => Judged::Elsewhere,

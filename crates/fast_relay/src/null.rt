@@ -6,8 +6,9 @@ ghost use Rattle.fast_relay.specs.Best.{HasBest};
 
 use crate::best::Best;
 use crate::given::absent_bit;
-use fast_dictionary::Entry;
+use fast_dictionary::{Entry, Spare};
 use fast_template::{FieldPart, Operator, Presence};
+use std::mem;
 
 /// NULL in its shortest form, which is the same for every type.
 const NULL: u8 = 0x80;
@@ -24,11 +25,13 @@ pub(crate) fn begins_with_null(bytes: &[u8], at: usize) -> bool
 
 /// Makes an entry the one that an absent field leaves.
 #[inline(always)]
-fn keep_absent(operator: Operator, entry: &mut Entry)
+fn keep_absent(spare: &mut Spare, operator: Operator, entry: &mut Entry)
     ensures { entry.new ≡ next_of operator entry.old None }
 {
     match operator {
-        Operator::Copy | Operator::Increment | Operator::Tail => *entry = Entry::Empty,
+        Operator::Copy | Operator::Increment | Operator::Tail => {
+            spare.keep_entry(mem::replace(entry, Entry::Empty));
+        }
         Operator::Plain | Operator::Constant | Operator::Default | Operator::Delta => {}
     }
 }
@@ -36,7 +39,13 @@ fn keep_absent(operator: Operator, entry: &mut Entry)
 /// Judges NULL in its shortest form under bit 1, of a field of any type that may be absent, and makes the entry the one
 /// afterwards. None: nothing has changed, and another way tells.
 #[inline(always)]
-pub fn judge_null(instr: &FieldPart, entry: &mut Entry, bytes: &[u8], at: usize) -> Option<Best>
+pub fn judge_null(
+    spare: &mut Spare,
+    instr: &FieldPart,
+    entry: &mut Entry,
+    bytes: &[u8],
+    at: usize,
+) -> Option<Best>
     requires { at ≤ length bytes.now }
     ensures judged { MatchOption result (entry.new ≡ entry.old) (λ best. HasBest instr.now entry.old entry.new bytes.now at best) }
     ensures absent { IfSome result (λ best. best.there ≡ false) }
@@ -46,7 +55,7 @@ pub fn judge_null(instr: &FieldPart, entry: &mut Entry, bytes: &[u8], at: usize)
     }
     let bit = absent_bit(instr, entry)?;
     let first = if bit {
-        keep_absent(instr.operator, entry);
+        keep_absent(spare, instr.operator, entry);
         at
     } else {
         at + 1

@@ -13,7 +13,7 @@ ghost use Rattle.fast_field.specs.Planning.{left_out_of};
 
 use crate::copied::{FEW, copy_few_over, copy_over};
 use crate::vectors::put_bytes;
-use fast_dictionary::Entry;
+use fast_dictionary::{Entry, Spare};
 use fast_field::begins_otherwise;
 use fast_template::{ByteString, FieldPart, Operator, Scalar};
 use fast_wire::is_text_of;
@@ -84,18 +84,23 @@ pub(crate) fn put_characters(alloc: Global, text: &mut ByteString, kept: usize, 
 
 /// The string that bytes spell; none where memory is refused.
 #[inline(always)]
-fn make_string(alloc: Global, form: &[u8]) -> Option<ByteString>
+fn make_string(spare: &mut Spare, form: &[u8]) -> Option<ByteString>
     requires { IsEntity form.now }
     ensures { IfSome result (λ text. text ≡ groups form.now) }
 {
-    let mut text = ByteString::from_vec(Vec::new(alloc));
-    put_characters(alloc, &mut text, 0, form).then_some(text)
+    let mut text = ByteString::from_vec(spare.take());
+    put_characters(spare.alloc(), &mut text, 0, form).then_some(text)
 }
 
 /// Makes an entry the one that the string leaves which bytes spell whole; answers false, and leaves it as it was,
 /// where it has a value that is no string, or memory is refused.
 #[inline(always)]
-pub(crate) fn keep_plain(alloc: Global, operator: Operator, entry: &mut Entry, form: &[u8]) -> bool
+pub(crate) fn keep_plain(
+    spare: &mut Spare,
+    operator: Operator,
+    entry: &mut Entry,
+    form: &[u8],
+) -> bool
     requires operator { SpellsWhole operator }
     requires entity { IsEntity form.now }
     ensures kept { result ≡ true → entry.new
@@ -104,8 +109,8 @@ pub(crate) fn keep_plain(alloc: Global, operator: Operator, entry: &mut Entry, f
 {
     match operator {
         Operator::Copy | Operator::Increment => match entry {
-            Entry::Assigned(Scalar::Ascii(text)) => put_characters(alloc, text, 0, form),
-            Entry::Empty | Entry::Undefined => match make_string(alloc, form) {
+            Entry::Assigned(Scalar::Ascii(text)) => put_characters(spare.alloc(), text, 0, form),
+            Entry::Empty | Entry::Undefined => match make_string(spare, form) {
                 Some(text) => {
                     *entry = Entry::Assigned(Scalar::Ascii(text));
                     true

@@ -15,7 +15,7 @@ ghost use Rattle.fast_relay.specs.Texts.{IsText, IsVectorKind};
 use crate::characters::are_few;
 use crate::integers::read_short;
 use crate::utf8::is_utf8;
-use fast_dictionary::Entry;
+use fast_dictionary::{Entry, Spare};
 use fast_field::units;
 use fast_template::{ByteString, FieldPart, Kind, Operator, Presence, Scalar, UnicodeText};
 use fast_value::UNIT_LIMIT;
@@ -139,13 +139,17 @@ pub(crate) fn put_units(
 
 /// The string or vector that bytes are; none where memory is refused.
 #[inline(always)]
-pub(crate) fn make_units(alloc: Global, kind: Kind, part: &[u8]) -> Option<Scalar>
+pub(crate) fn make_units(spare: &mut Spare, kind: Kind, part: &[u8]) -> Option<Scalar>
     requires { IsText kind (of_units kind part.now) }
     ensures { IfSome result (λ value. value ≡ of_units kind part.now) }
 {
-    match (kind, part.to_vec(alloc)) {
-        (Kind::Unicode, Ok(text)) => Some(Scalar::Unicode(UnicodeText::from_utf8(text))),
-        (Kind::Bytes, Ok(bytes)) => Some(Scalar::Bytes(ByteString::from_vec(bytes))),
+    let mut units = spare.take();
+    if units.extend_from_slice(part).is_err() {
+        return None;
+    }
+    match kind {
+        Kind::Unicode => Some(Scalar::Unicode(UnicodeText::from_utf8(units))),
+        Kind::Bytes => Some(Scalar::Bytes(ByteString::from_vec(units))),
         _ => None,
     }
 }
@@ -154,7 +158,7 @@ pub(crate) fn make_units(alloc: Global, kind: Kind, part: &[u8]) -> Option<Scala
 /// has a value of another type, or memory is refused.
 #[inline(always)]
 pub(crate) fn keep_bytes(
-    alloc: Global,
+    spare: &mut Spare,
     kind: Kind,
     operator: Operator,
     entry: &mut Entry,
@@ -168,8 +172,8 @@ pub(crate) fn keep_bytes(
 {
     match operator {
         Operator::Copy | Operator::Increment => match entry {
-            Entry::Assigned(value) => put_units(alloc, kind, value, 0, part),
-            Entry::Empty | Entry::Undefined => match make_units(alloc, kind, part) {
+            Entry::Assigned(value) => put_units(spare.alloc(), kind, value, 0, part),
+            Entry::Empty | Entry::Undefined => match make_units(spare, kind, part) {
                 Some(value) => {
                     *entry = Entry::Assigned(value);
                     true

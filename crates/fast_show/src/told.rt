@@ -41,7 +41,7 @@ fn tell_sent<S: Signs>(
     requires next { CanTake part.now entry.old bytes.now at }
     ensures { TellsNext S.form level name.now part.now true bytes.now at result entry.old entry.new line.old line.new }
 {
-    let took = take_sent(alloc, part, entry, level, bytes, at, aside)?;
+    let took = take_sent(part, entry, level, bytes, at, aside)?;
     let value = aside.value(alloc, took, part, entry, true, bytes, room)?;
     line.tell(signs, name, part, value)?;
     Ok(took.place())
@@ -51,7 +51,6 @@ fn tell_sent<S: Signs>(
 #[inline(always)]
 fn tell_left_out<S: Signs>(
     signs: S,
-    alloc: Global,
     name: &Name,
     part: &FieldPart,
     entry: &mut Entry,
@@ -59,14 +58,14 @@ fn tell_left_out<S: Signs>(
     bytes: &[u8],
     at: usize,
     line: &mut Line,
-    aside: &Aside,
+    aside: &mut Aside,
 ) -> Result<usize, FieldFault>
     requires next { CanTake part.now entry.old bytes.now at }
     requires bit { IsBitOf part.now false }
     requires whole { part.now.part ≡ Whole }
     ensures { TellsNext S.form level name.now part.now false bytes.now at result entry.old entry.new line.old line.new }
 {
-    let took = take_left_out(Part::Whole, alloc, part, entry, level, bytes, at, aside)?;
+    let took = take_left_out(Part::Whole, part, entry, level, bytes, at, aside)?;
     let value = aside.value_left_out(took, part, entry);
     line.tell(signs, name, part, value)?;
     Ok(took.place())
@@ -98,9 +97,7 @@ fn take_and_tell<S: Signs>(
             signs, alloc, name, part, entry, level, bytes, at, line, aside, room,
         )
     } else {
-        tell_left_out(
-            signs, alloc, name, part, entry, level, bytes, at, line, aside,
-        )
+        tell_left_out(signs, name, part, entry, level, bytes, at, line, aside)
     }
 }
 

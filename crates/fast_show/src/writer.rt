@@ -140,7 +140,7 @@ impl<S: Signs> Receiver for LineWriter<'_, S> {
     #[inline(always)]
     fn begin<E: Entries>(
         &mut self,
-        alloc: Global,
+        _alloc: Global,
         entries: &mut E,
         identifier: &FieldPart,
         bit: bool,
@@ -149,7 +149,7 @@ impl<S: Signs> Receiver for LineWriter<'_, S> {
         at: usize,
     ) -> Result<(u32, usize), FieldFault> {
         let aside = &mut self.aside;
-        let (id, next) = take_identifier(alloc, entries, identifier, bit, level, bytes, at, aside)?;
+        let (id, next) = take_identifier(entries, identifier, bit, level, bytes, at, aside)?;
         self.open_line(id)?;
         Ok((id, next))
     }
@@ -164,6 +164,11 @@ impl<S: Signs> Receiver for LineWriter<'_, S> {
 
     #[inline(always)]
     fn back(&mut self, _alloc: Global) {}
+
+    #[inline(always)]
+    fn reset_entries<E: Entries>(&mut self, entries: &mut E) {
+        entries.reset_into(&mut self.aside.spare);
+    }
 
     #[inline(always)]
     fn field<E: Entries>(
@@ -222,7 +227,6 @@ impl<S: Signs> Receiver for LineWriter<'_, S> {
     #[inline(always)]
     fn exponent<E: Entries>(
         &mut self,
-        alloc: Global,
         name: &Name,
         presence: Presence,
         entries: &mut E,
@@ -233,7 +237,7 @@ impl<S: Signs> Receiver for LineWriter<'_, S> {
         at: usize,
     ) -> Result<(bool, usize), FieldFault> {
         let aside = &mut self.aside;
-        match take_exponent(alloc, entries, part, bit, level, bytes, at, aside)? {
+        match take_exponent(entries, part, bit, level, bytes, at, aside)? {
             (None, next) => {
                 self.line.tell_absent(self.signs, name)?;
                 Ok((false, next))
@@ -249,7 +253,6 @@ impl<S: Signs> Receiver for LineWriter<'_, S> {
     #[inline(always)]
     fn mantissa<E: Entries>(
         &mut self,
-        alloc: Global,
         entries: &mut E,
         part: &FieldPart,
         bit: bool,
@@ -258,7 +261,7 @@ impl<S: Signs> Receiver for LineWriter<'_, S> {
         at: usize,
     ) -> Result<usize, FieldFault> {
         let aside = &mut self.aside;
-        let (mantissa, next) = take_mantissa(alloc, entries, part, bit, level, bytes, at, aside)?;
+        let (mantissa, next) = take_mantissa(entries, part, bit, level, bytes, at, aside)?;
         self.line.push_decimal(mantissa, self.exponent)?;
         Ok(next)
     }
@@ -266,7 +269,7 @@ impl<S: Signs> Receiver for LineWriter<'_, S> {
     #[inline(always)]
     fn begin_sequence<E: Entries>(
         &mut self,
-        alloc: Global,
+        _alloc: Global,
         name: &Name,
         presence: Presence,
         entries: &mut E,
@@ -277,7 +280,7 @@ impl<S: Signs> Receiver for LineWriter<'_, S> {
         at: usize,
     ) -> Result<(Option<u32>, usize), FieldFault> {
         let aside = &mut self.aside;
-        match take_length(alloc, entries, part, bit, level, bytes, at, aside)? {
+        match take_length(entries, part, bit, level, bytes, at, aside)? {
             (None, next) => {
                 self.line.tell_absent(self.signs, name)?;
                 Ok((None, next))

@@ -1,5 +1,5 @@
 -- What is judged as it stands was taken.
-use Rattle.std.proofs.Common.{◌≡◌, ℕ, ◌≤◌, Bool, true, false, List, [], ◌++◌, length, drop, slice_range, Option, None, Some, Result, Ok, refl, sym, ap, ◌∙◌, arith, ℤ, append-nil}
+use Rattle.std.proofs.Common.{◌≡◌, ◌≢◌, ℕ, ◌≤◌, Bool, true, false, List, [], ◌++◌, length, drop, slice_range, Option, None, Some, Result, Ok, refl, sym, ap, ◌∙◌, arith, ℤ, append-nil, IfSome, MatchOption}
 use Rattle.std.specs.Option.{is_some}
 use Rattle.fast_wire.specs.declared.level.Level.{Level}
 use Rattle.fast_wire.specs.declared.level.Level.TheVariants.{Usual}
@@ -21,7 +21,7 @@ use Rattle.fast_field.specs.Parts.{IsBitOf, IsKindOfPart}
 use Rattle.fast_field.specs.Passed.{Passes}
 use Rattle.fast_field.specs.Values.{is_unsigned}
 use Rattle.fast_field.specs.declared.fault.FieldFault.{FieldFault}
-use Rattle.fast_relay.specs.Judged.{JudgedTo, sent_unsigned, under}
+use Rattle.fast_relay.specs.Judged.{IsJudged, JudgedTo, sent_unsigned}
 use Rattle.fast_relay.specs.Numbers.{KeepsNothing, Spelt}
 use Rattle.fast_relay.specs.Best.{HasBest, form_of}
 use Rattle.fast_relay.specs.Relayed.{IsThere, Takes}
@@ -31,10 +31,10 @@ use Rattle.fast_relay.specs.declared.judged.Judged.TheVariants.{Stands as judged
 use Rattle.fast_relay.proofs.Taking.{number_aside}
 use Rattle.fast_relay.proofs.TextTaking.{aside_takes}
 use Rattle.fast_take.specs.Judged.{IfJudged, LaysAside}
-use Rattle.fast_take.specs.Takes.{IsTook, LiesAside, best_bit, best_form, first_of, is_there, place_of, value_aside}
+use Rattle.fast_take.specs.Takes.{IsTakenAs, IsTook, LiesAside, best_bit, best_form, first_of, is_there, place_of, value_aside}
 use Rattle.fast_take.specs.declared.took.Aside.{Aside}
 use Rattle.fast_take.specs.declared.took.Took.{Took}
-use Rattle.fast_take.specs.declared.took.Took.TheVariants.{Stands, Absent, Given, Other}
+use Rattle.fast_take.specs.declared.took.Took.TheVariants.{Stands, Absent}
 use Rattle.fast_take.specs.declared.took.Unkept.{Unkept}
 use Rattle.fast_take.specs.declared.took.Unkept.TheVariants.{Units}
 use Rattle.fast_take.proofs.Generally.{generally_took, none_between}
@@ -107,25 +107,42 @@ whole_part Part.Length k is other = absurd (let integer = rw is at other in cc)
 
 -- ---- what was judged was taken
 
-judged_took : (level : Level) (i : FieldPart) (old new : Entry) (bytes : List ℕ) (at first to : ℕ) (bit : Bool) (a : Aside) (t : Took) → ReadsAsUsual level i (drop at bytes) → LaysAside i old bytes at a.unkept → place_of t ≡ to → first_of at a t ≤ to → at ≤ first → is_there t a ≡ true → best_bit true a t ≡ bit
-    → best_form bytes at a t ≡ under bit (slice_range bytes first to) → JudgedTo bit i old new bytes at first to → IsTook level i old new true bytes at a t
-judged_took level i old new bytes at first to bit a t usual lays place ahead from there best form j =
-    let v = j.gives.0 in
+stands_taken : (i : FieldPart) (old new : Entry) (bytes : List ℕ) (at to : ℕ) (a : Aside) → JudgedTo true i old new bytes at at to → (v : Scalar) × IsTakenAs Usual i old new true bytes at a (Stands to) (Some v)
+stands_taken i old new bytes at to a j =
     let judges = j.gives.1.1 in
-    let onward = j.place in
-    let found = here i old (drop at bytes) (drop to bytes) (Some v) judges.read in
-    usually_took usual
-    (generally_took Usual i old new true bytes at to a t (Some v) (omega arith, j.within) place ahead (λ none. refl) found judges.read judges.entry there (λ w is sent keeps. lays w (drop to bytes) (rw is at found) keeps) (rw (best, form) judges.best))
+    (j.gives.0, record { place = (j.place, j.within); first = j.place; read = judges.read; entry = judges.entry; there = refl; best = judges.best })
 
-pub stands_took : (level : Level) (i : FieldPart) (old new : Entry) (bytes : List ℕ) (at to : ℕ) (a : Aside) → ReadsAsUsual level i (drop at bytes) → LaysAside i old bytes at a.unkept → JudgedTo true i old new bytes at at to → IsTook level i old new true bytes at a (Stands to)
-stands_took level i old new bytes at to a usual lays j = judged_took level i old new bytes at at to true a (Stands to) usual lays refl j.place (omega arith) refl refl refl j
+-- where its value was laid aside, it is told
+lies_took : (i : FieldPart) (old new : Entry) (bytes : List ℕ) (at : ℕ) (a : Aside) (t : Took) (v : Scalar) → LaysAside i old bytes at a.unkept → IsTakenAs Usual i old new true bytes at a t (Some v) → IsTook Usual i old new true bytes at a t
+lies_took i old new bytes at a t v lays h =
+    let to = place_of t in
+    let found = here i old (drop at bytes) (drop to bytes) (Some v) h.read in
+    generally_took Usual i old new true bytes at to a t (Some v) h.place refl h.first (λ none. refl) found h.read h.entry (sym h.there) (λ w is sent keeps. lays w (drop to bytes) (rw is at found) keeps) h.best
 
-pub given_took : (level : Level) (i : FieldPart) (old new : Entry) (bytes : List ℕ) (at to : ℕ) (a : Aside) → ReadsAsUsual level i (drop at bytes) → LaysAside i old bytes at a.unkept → JudgedTo false i old new bytes at at to → IsTook level i old new true bytes at a (Given to)
-given_took level i old new bytes at to a usual lays j = judged_took level i old new bytes at at to false a (Given to) usual lays refl j.place (omega arith) refl refl refl j
+was_judged : (j : Judged) (p : Type 0) → j ≢ Elsewhere → IfJudged j p → p
+was_judged Elsewhere p some h = absurd (some refl)
+was_judged (judged_stands n) p some h = h
+was_judged (judged_given n) p some h = h
+was_judged (Behind n) p some h = h
+was_judged (BehindTwo n) p some h = h
 
-pub behind_took : (level : Level) (i : FieldPart) (old new : Entry) (bytes : List ℕ) (at first to : ℕ) (a : Aside) → ReadsAsUsual level i (drop at bytes) → LaysAside i old bytes at a.unkept → a.bit ≡ true → a.there ≡ true → a.made.items ≡ [] → a.first ≡ first → at ≤ first
-    → JudgedTo true i old new bytes at first to → IsTook level i old new true bytes at a (Other to)
-behind_took level i old new bytes at first to a usual lays bit there made is from j = judged_took level i old new bytes at first to true a (Other to) usual lays refl (rw is j.place) from there bit (rw (made, is) refl) j
+-- what was judged, laid aside and told
+pub told_took : (level : Level) (i : FieldPart) (old new : Entry) (bytes : List ℕ) (at : ℕ) (j : Judged) (a : Aside) (r : Option Took) → ReadsAsUsual level i (drop at bytes) → IsJudged i old new bytes at j → IfJudged j (LaysAside i old bytes at a.unkept)
+    → MatchOption r (j ≡ Elsewhere) (λ t. j ≢ Elsewhere) → IfSome r (λ t. (v : Scalar) × IsTakenAs Usual i old new true bytes at a t (Some v)) → MatchOption r (new ≡ old) (IsTook level i old new true bytes at a)
+told_took level i old new bytes at j a None usual was lays is taken = rw is at was
+told_took level i old new bytes at j a (Some t) usual was lays some taken = usually_took usual (lies_took i old new bytes at a t taken.0 (was_judged j _ some lays) taken.1)
+
+-- ---- whatever its value is
+
+pub usually_taken : {level : Level} {i : FieldPart} {old new : Entry} {bytes : List ℕ} {at : ℕ} {a : Aside} {t : Took} {v : Option Scalar} → ReadsAsUsual level i (drop at bytes) → IsTakenAs Usual i old new true bytes at a t v → IsTakenAs level i old new true bytes at a t v
+usually_taken {old = old} usual h = record {
+  place = h.place;
+  first = h.first;
+  read = λ more. usual old more ∙ h.read more;
+  entry = h.entry;
+  there = h.there;
+  best = h.best;
+}
 
 -- ---- constants
 
@@ -143,7 +160,9 @@ keeps_constant Operator.Constant is h = h
 keeps_constant o is h = absurd cc
 
 pub constant_took : (level : Level) (i : FieldPart) (e : Entry) (bytes : List ℕ) (at to : ℕ) (a : Aside) → i.operator ≡ Operator.Constant → JudgedTo true i e e bytes at at to → IsTook level i e e true bytes at a (Stands to)
-constant_took level i e bytes at to a is j = stands_took level i e e bytes at to a (constant_usual level i (drop at bytes) is) (λ v rest found keeps. absurd (keeps_constant i.operator is keeps)) j
+constant_took level i e bytes at to a is j =
+    let t = stands_taken i e e bytes at to a j in
+    usually_took (constant_usual level i (drop at bytes) is) (lies_took i e e bytes at a (Stands to) t.0 (λ v rest found keeps. absurd (keeps_constant i.operator is keeps)) t.1)
 
 -- ---- NULL, and strings that were sent as a difference
 

@@ -6,3 +6,4 @@ pub mod Telling
 mod Cleared
 pub mod Within
 mod Judging
+mod Beginnings

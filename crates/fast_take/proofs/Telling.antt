@@ -14,7 +14,7 @@ use Rattle.fast_field.specs.declared.fault.FieldFault.{FieldFault}
 use Rattle.fast_field.specs.Deltas.{Cut}
 use Rattle.fast_field.proofs.FieldForms.{field_forms}
 use Rattle.fast_field.proofs.FieldsBehave.{read_usually}
-use Rattle.fast_take.specs.Takes.{IsTook, best_bit, best_form, place_of, value_taken}
+use Rattle.fast_take.specs.Takes.{IsTakenAs, IsTook, best_bit, best_form, place_of, value_taken}
 use Rattle.fast_take.specs.declared.took.Aside.{Aside}
 use Rattle.fast_take.specs.declared.took.Took.{Took}
 
@@ -37,3 +37,14 @@ best_lower level i old new false bytes at a t needs default fits h low =
     let read = read_usually level i old false (drop at bytes) (v, rest) (read_here level i old false (drop at bytes) rest v h.read) in
     let f = (field_forms Usual i old false needs default).found (drop at bytes) v rest fits read in
     no_later_low (best_bit false a t) (length (best_form bytes at a t)) (length f.front) h.best.cut f.form.0 (h.best.first false f.form.0 f.front f.form.1)
+
+-- wherever its value lies, it was taken
+pub taken_as : (level : Level) (i : FieldPart) (old new : Entry) (bit : Bool) (bytes : List ℕ) (at : ℕ) (a : Aside) (t : Took) → IsTook level i old new bit bytes at a t → IsTakenAs level i old new bit bytes at a t (value_taken i new bit bytes a t)
+taken_as level i old new bit bytes at a t h = record {
+  place = h.place;
+  first = h.first;
+  read = h.read;
+  entry = h.entry;
+  there = h.there;
+  best = h.best;
+}

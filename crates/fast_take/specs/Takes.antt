@@ -102,6 +102,15 @@ pub record IsTook (level : Level) (i : FieldPart) (old new : Entry) (bit : Bool)
   pub there : is_some (value_taken i new bit bytes a t) ≡ is_there t a
   pub best : IsBest i old (best_bit bit a t) (best_form bytes at a t) (value_taken i new bit bytes a t)
 
+-- The bytes from one place to the other are read as this value, wherever that lies; and as above.
+pub record IsTakenAs (level : Level) (i : FieldPart) (old new : Entry) (bit : Bool) (bytes : List ℕ) (at : ℕ) (a : Aside) (t : Took) (v : Option Scalar) : Type 0 where
+  pub place : (at ≤ place_of t) × (place_of t ≤ length bytes)
+  pub first : first_of at a t ≤ place_of t
+  pub read : (more : List ℕ) → field_at level i old bit (drop at bytes ++ more) ≡ Ok (v, drop (place_of t) bytes ++ more)
+  pub entry : new ≡ next i old v
+  pub there : is_some v ≡ is_there t a
+  pub best : IsBest i old (best_bit bit a t) (best_form bytes at a t) v
+
 -- The field has this first fault, or memory was refused where no more bytes were needed; and the entry is as it was.
 pub record IsStopped (level : Level) (i : FieldPart) (old new : Entry) (bit : Bool) (bytes : List ℕ) (at : ℕ) (f : FieldFault) : Type 0 where
   pub fault : Fails OrRefused f (field_at level i old bit (drop at bytes))

@@ -144,7 +144,7 @@ pub(crate) fn take_decimal(
     match sent {
         Nullable::Null => {
             let given = is_left_out(instr, entry.view(), None);
-            keep_none(instr, entry);
+            keep_none(&mut aside.spare, instr, entry);
             Ok(aside.tell(false, given, at, first, middle))
         }
         Nullable::Value(sent) => {
@@ -155,7 +155,7 @@ pub(crate) fn take_decimal(
             let given = is_left_out(instr, entry.view(), Some(&value));
             aside.unkept = number_aside(&value);
             let took = tell_pair(given, bytes, at, first, middle, second, next, aside)?;
-            keep(instr, entry, value);
+            keep(&mut aside.spare, instr, entry, value);
             Ok(took)
         }
     }

@@ -1,26 +1,30 @@
 //! A field, whatever it is.
 
-ghost use Rattle.std.specs.Prelude.{◌≡◌, ◌≤◌, false, true, length, IfErr, IsTrue, MatchResult};
+ghost use Rattle.std.specs.Prelude.{◌≡◌, ◌≢◌, ◌≤◌, Option, drop, false, true, length, IfErr, IsTrue, MatchResult};
 ghost use Rattle.fast_value.specs.Scalar.{is_integer};
+ghost use Rattle.fast_value.specs.declared.scalar.Scalar.{Scalar as ScalarOf};
+ghost use Rattle.fast_dictionary.specs.declared.entry.Entry.{Entry as EntryOf};
+ghost use Rattle.fast_field.specs.AsUsual.{ReadsAsUsual};
 ghost use Rattle.fast_field.specs.Parts.{IsBitOf, IsFieldPart};
 ghost use Rattle.fast_field.specs.Within.{HoldsScalar};
+ghost use Rattle.fast_relay.specs.Judged.{IsJudged};
 ghost use Rattle.fast_relay.specs.Numbers.{SpellsWhole};
 ghost use Rattle.fast_relay.specs.Texts.{IsVectorKind};
 ghost use Rattle.fast_take.specs.Sent.{IsNumeric, SendsNumber};
-ghost use Rattle.fast_take.specs.Takes.{IsFaulted, IsStopped, IsTook};
+ghost use Rattle.fast_take.specs.Takes.{IsFaulted, IsStopped, IsTakenAs, IsTook};
 
 use crate::decimal::take_decimal;
 use crate::general::{take_generally, take_left_out};
-use crate::judged::{take_judged, take_respelled};
+use crate::judged::{take_judged, take_respelled, tell_judged};
 use crate::number::take_integer;
+use crate::strictly::is_read_as_usual;
 use crate::took::{Aside, Took};
 use crate::vector::take_vector;
-use fast_dictionary::Entry;
+use fast_dictionary::{Entry, Spare};
 use fast_field::FieldFault;
-use fast_relay::{Judged, judge_constant};
-use fast_template::{FieldPart, Kind, Operator};
+use fast_relay::{Judged, judge_constant, judge_field};
+use fast_template::{FieldPart, Kind, Operator, Part};
 use fast_wire::Level;
-use std::alloc::Global;
 
 /// Whether bit 1 sends a number, or two.
 #[inline(always)]
@@ -65,7 +69,6 @@ fn sends_vector(instr: &FieldPart) -> bool
 /// integer asks for none.
 #[inline(never)]
 fn take_any(
-    alloc: Global,
     instr: &FieldPart,
     entry: &mut Entry,
     level: Level,
@@ -82,7 +85,7 @@ fn take_any(
     ensures integer { IsTrue (is_integer instr.now.kind) → SendsNumber instr.now.operator
         → IfErr result (IsFaulted level instr.now entry.old entry.new true bytes.now at) }
 {
-    if let Some(took) = take_respelled(alloc, instr, entry, level, bytes, at, aside) {
+    if let Some(took) = take_respelled(instr, entry, level, bytes, at, aside) {
         return Ok(took);
     }
     if sends_number(instr) {
@@ -92,9 +95,9 @@ fn take_any(
         };
     }
     if sends_vector(instr) {
-        return take_vector(alloc, instr, entry, level, bytes, at, aside);
+        return take_vector(instr, entry, level, bytes, at, aside);
     }
-    take_generally(alloc, instr, entry, level, bytes, at, aside)
+    take_generally(instr, entry, level, bytes, at, aside)
 }
 
 /// Takes what was sent of a field that begins at `at`, and makes its entry the one afterwards.
@@ -105,7 +108,6 @@ fn take_any(
 /// integer asks for none.
 #[inline(always)]
 pub fn take_sent(
-    alloc: Global,
     instr: &FieldPart,
     entry: &mut Entry,
     level: Level,
@@ -126,10 +128,10 @@ pub fn take_sent(
         if let Judged::Stands(next) = judge_constant(instr.part, instr, entry, bytes, at) {
             return Ok(Took::Stands(next));
         }
-    } else if let Some(took) = take_judged(alloc, instr, entry, level, bytes, at, aside) {
+    } else if let Some(took) = take_judged(instr, entry, level, bytes, at, aside) {
         return Ok(took);
     }
-    take_any(alloc, instr, entry, level, bytes, at, aside)
+    take_any(instr, entry, level, bytes, at, aside)
 }
 
 /// Takes a field that begins at `at`, and makes its entry the one afterwards. `bit` is the field's bit in the presence map,
@@ -140,7 +142,6 @@ pub fn take_sent(
 /// As `take_sent` and `take_left_out`.
 #[inline(always)]
 pub fn take(
-    alloc: Global,
     instr: &FieldPart,
     entry: &mut Entry,
     bit: bool,
@@ -160,8 +161,65 @@ pub fn take(
         → IfErr result (IsFaulted level instr.now entry.old entry.new true bytes.now at) }
 {
     if bit {
-        take_sent(alloc, instr, entry, level, bytes, at, aside)
+        take_sent(instr, entry, level, bytes, at, aside)
     } else {
-        take_left_out(instr.part, alloc, instr, entry, level, bytes, at, aside)
+        take_left_out(instr.part, instr, entry, level, bytes, at, aside)
+    }
+}
+
+/// Judges what was sent of a field that begins at `at`, where the caller knows what part it is, and makes its entry the one
+/// afterwards; no value is laid aside. Elsewhere: nothing has changed.
+#[inline(always)]
+pub fn judge_sent(
+    which: Part,
+    spare: &mut Spare,
+    instr: &FieldPart,
+    entry: &mut Entry,
+    level: Level,
+    bytes: &[u8],
+    at: usize,
+) -> Judged
+    requires place { at ≤ length bytes.now }
+    requires which { which ≡ instr.now.part }
+    requires part { IsFieldPart instr.now }
+    requires entry { HoldsScalar entry.old }
+    ensures judged { IsJudged instr.now entry.old entry.new bytes.now at result }
+    ensures usual { result ≢ Judged.Elsewhere → ReadsAsUsual level instr.now (drop at bytes.now) }
+{
+    if is_read_as_usual(level, instr, bytes, at) {
+        judge_field(which, spare, instr, entry, bytes, at)
+    } else {
+        Judged::Elsewhere
+    }
+}
+
+/// What became of a field that was sent and judged; one that was not is taken now, in the way that takes any, and its entry
+/// made the one afterwards. Where the value lies is not told.
+///
+/// # Errors
+///
+/// As `take_sent`.
+#[inline(always)]
+pub fn relay_judged(
+    judged: Judged,
+    instr: &FieldPart,
+    entry: &mut Entry,
+    level: Level,
+    bytes: &[u8],
+    at: usize,
+    aside: &mut Aside,
+) -> Result<Took, FieldFault>
+    requires place { at ≤ length bytes.now }
+    requires judged { (before : EntryOf) × IsJudged instr.now before entry.old bytes.now at judged }
+    requires usual { judged ≢ Judged.Elsewhere → ReadsAsUsual level instr.now (drop at bytes.now) }
+    requires part { IsFieldPart instr.now }
+    requires entry { judged ≡ Judged.Elsewhere → HoldsScalar entry.old }
+    ensures { (before : EntryOf) → IsJudged instr.now before entry.old bytes.now at judged → MatchResult result
+        (λ took. (v : Option ScalarOf) × IsTakenAs level instr.now before entry.new true bytes.now at aside.new took v)
+        (IsStopped level instr.now before entry.new true bytes.now at) }
+{
+    match tell_judged(judged, bytes, at, aside) {
+        Some(took) => Ok(took),
+        None => take_any(instr, entry, level, bytes, at, aside),
     }
 }

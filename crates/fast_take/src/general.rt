@@ -20,7 +20,6 @@ use fast_field::{
 use fast_relay::pass_quickly;
 use fast_template::{FieldPart, Kind, Operator, Part, Scalar};
 use fast_wire::{Level, Nullable};
-use std::alloc::Global;
 
 /// Takes what bit 0 gives in the general way, and makes the entry the one afterwards.
 ///
@@ -29,22 +28,21 @@ use std::alloc::Global;
 /// The first fault of the field, and the entry is as it was. Memory: an initial value was to be copied.
 #[inline(never)]
 fn read_left_out(
-    alloc: Global,
     instr: &FieldPart,
     entry: &mut Entry,
     level: Level,
     bytes: &[u8],
     at: usize,
-    aside: &Aside,
+    aside: &mut Aside,
 ) -> Result<Took, FieldFault>
     requires place { at ≤ length bytes.now }
     requires bit { IsBitOf instr.now false }
     requires part { IsFieldPart instr.now }
     ensures { MatchResult result
-        (IsTook level instr.now entry.old entry.new false bytes.now at aside.now)
+        (IsTook level instr.now entry.old entry.new false bytes.now at aside.new)
         (IsStopped level instr.now entry.old entry.new false bytes.now at) }
 {
-    let (found, _next) = read_in_place(alloc, instr, entry, false, level, bytes, at)?;
+    let (found, _next) = read_in_place(&mut aside.spare, instr, entry, false, level, bytes, at)?;
     let there = found.value(instr, entry.view()).is_some();
     if there {
         Ok(Took::Stands(at))
@@ -62,26 +60,25 @@ fn read_left_out(
 #[inline(always)]
 pub fn take_left_out(
     which: Part,
-    alloc: Global,
     instr: &FieldPart,
     entry: &mut Entry,
     level: Level,
     bytes: &[u8],
     at: usize,
-    aside: &Aside,
+    aside: &mut Aside,
 ) -> Result<Took, FieldFault>
     requires which { which ≡ instr.now.part }
     requires place { at ≤ length bytes.now }
     requires bit { IsBitOf instr.now false }
     requires part { IsFieldPart instr.now }
     ensures { MatchResult result
-        (IsTook level instr.now entry.old entry.new false bytes.now at aside.now)
+        (IsTook level instr.now entry.old entry.new false bytes.now at aside.new)
         (IsStopped level instr.now entry.old entry.new false bytes.now at) }
 {
     match pass_quickly(which, instr, entry) {
         Passed::Present => Ok(Took::Stands(at)),
         Passed::Absent => Ok(Took::Absent(at)),
-        Passed::Elsewhere => read_left_out(alloc, instr, entry, level, bytes, at, aside),
+        Passed::Elsewhere => read_left_out(instr, entry, level, bytes, at, aside),
     }
 }
 
@@ -216,7 +213,6 @@ fn tell_made(
 ///
 /// The first fault of the field, and the entry is as it was. Memory: a growth was refused.
 pub(crate) fn take_generally(
-    alloc: Global,
     instr: &FieldPart,
     entry: &mut Entry,
     level: Level,
@@ -231,11 +227,19 @@ pub(crate) fn take_generally(
         (IsTook level instr.now entry.old entry.new true bytes.now at aside.new)
         (IsStopped level instr.now entry.old entry.new true bytes.now at) }
 {
-    let (found, next) = find_field(alloc, instr, entry.view(), true, level, bytes, at)?;
+    let (found, next) = find_field(
+        &mut aside.spare,
+        instr,
+        entry.view(),
+        true,
+        level,
+        bytes,
+        at,
+    )?;
     let value = found.value(instr, entry.view());
     let there = note_value(instr, value, level, bytes, at, aside);
     aside.made.clear();
-    match write_found(alloc, instr, entry, found, &mut aside.made) {
+    match write_found(&mut aside.spare, instr, entry, found, &mut aside.made) {
         Err(refusal) => match refusal {
             FieldRefusal::Memory => Err(FieldFault::Memory),
             // what was read has a form

@@ -1,10 +1,14 @@
 //! Fields that are judged as they stand: most of those that are sent. Whatever is not judged here is taken behind it.
 
-ghost use Rattle.std.specs.Prelude.{◌≡◌, ◌≤◌, [], ℕ, List, false, true, length, drop, IfSome, IsTrue, MatchOption};
+ghost use Rattle.std.specs.Prelude.{◌≡◌, ◌≢◌, ◌≤◌, [], ℕ, List, Some, false, true, length, drop, IfSome, IsTrue, MatchOption};
 ghost use Rattle.fast_value.specs.Scalar.{is_integer, of_integer};
 ghost use Rattle.fast_value.specs.declared.kind.Kind as kind_type;
 ghost use Rattle.fast_value.specs.declared.kind.Kind.TheVariants.{Ascii, Decimal};
 ghost use Rattle.fast_value.specs.declared.kind.Part.TheVariants as part_type;
+ghost use Rattle.fast_value.specs.declared.scalar.Scalar.{Scalar as ScalarOf};
+ghost use Rattle.fast_template.specs.declared.resolved.FieldPart.{FieldPart as PartOf};
+ghost use Rattle.fast_dictionary.specs.declared.entry.Entry.{Entry as EntryOf};
+ghost use Rattle.fast_wire.specs.declared.level.Level.TheVariants.{Usual};
 ghost use Rattle.fast_field.specs.AsUsual.{ReadsAsUsual};
 ghost use Rattle.fast_field.specs.Numbers.{IsFieldNumber, IsNumber};
 ghost use Rattle.fast_field.specs.Parts.{IsFieldPart};
@@ -14,13 +18,14 @@ ghost use Rattle.fast_relay.specs.Judged.{IsJudged};
 ghost use Rattle.fast_relay.specs.Numbers.{KeepsNothing};
 ghost use Rattle.fast_relay.specs.Texts.{IsVectorKind};
 ghost use Rattle.fast_take.specs.Judged.{IfJudged, LaysAside};
-ghost use Rattle.fast_take.specs.Takes.{IsTook, best_bit, best_form, first_of, is_there, place_of, value_aside};
+ghost use Rattle.fast_take.specs.Takes.{IsTakenAs, IsTook, best_bit, best_form, first_of, is_there, place_of, value_aside};
 ghost use Rattle.fast_take.specs.declared.took.Took.TheVariants as took_type;
 ghost use Rattle.fast_take.specs.declared.took.Unkept.{Unkept as UnkeptOf};
 
 use crate::general::keeps_nothing;
+use crate::strictly::is_read_as_usual;
 use crate::took::{Aside, Took, Unkept};
-use fast_dictionary::Entry;
+use fast_dictionary::{Entry, Spare};
 use fast_field::{is_field_number, reads_as_usual};
 use fast_relay::{
     Best, Judged, find_plain, is_sent_unsigned, judge_characters, judge_decimal, judge_null,
@@ -28,7 +33,6 @@ use fast_relay::{
 };
 use fast_template::{FieldPart, Kind, Operator};
 use fast_wire::{Level, Span};
-use std::alloc::Global;
 
 /// A number of an integer type, as it lies aside.
 #[inline(always)]
@@ -121,7 +125,6 @@ fn judge_integer(
 /// Judges an ASCII string that no entry keeps, and lays it aside. (A call of its own, as above.)
 #[inline(never)]
 fn judge_text_aside(
-    alloc: Global,
     instr: &FieldPart,
     entry: &mut Entry,
     bytes: &[u8],
@@ -141,7 +144,7 @@ fn judge_text_aside(
                 start: first,
                 end: next,
             });
-            judge_characters(alloc, instr, entry, bytes, at, first, next)
+            judge_characters(&mut aside.spare, instr, entry, bytes, at, first, next)
         }
         None => Judged::Elsewhere,
     }
@@ -150,7 +153,6 @@ fn judge_text_aside(
 /// Judges an ASCII string, and lays it aside where no entry keeps it.
 #[inline(always)]
 fn judge_text(
-    alloc: Global,
     instr: &FieldPart,
     entry: &mut Entry,
     bytes: &[u8],
@@ -165,9 +167,9 @@ fn judge_text(
     ensures aside { IfJudged result (LaysAside instr.now entry.old bytes.now at aside.new.unkept) }
 {
     if keeps_nothing(instr.operator) {
-        judge_text_aside(alloc, instr, entry, bytes, at, aside)
+        judge_text_aside(instr, entry, bytes, at, aside)
     } else {
-        judge_string(alloc, instr, entry, bytes, at)
+        judge_string(&mut aside.spare, instr, entry, bytes, at)
     }
 }
 
@@ -190,7 +192,7 @@ fn judge_kept_decimal(instr: &FieldPart, entry: &mut Entry, bytes: &[u8], at: us
 /// Judges a Unicode string or a byte vector that its entry keeps.
 #[inline(always)]
 fn judge_kept_vector(
-    alloc: Global,
+    spare: &mut Spare,
     instr: &FieldPart,
     entry: &mut Entry,
     bytes: &[u8],
@@ -206,20 +208,13 @@ fn judge_kept_vector(
     if keeps_nothing(instr.operator) {
         Judged::Elsewhere
     } else {
-        judge_vector(alloc, instr, entry, bytes, at)
+        judge_vector(spare, instr, entry, bytes, at)
     }
 }
 
 /// Judges what was sent, by its type, and lays its value aside where no entry keeps it.
 #[inline(always)]
-fn judge(
-    alloc: Global,
-    instr: &FieldPart,
-    entry: &mut Entry,
-    bytes: &[u8],
-    at: usize,
-    aside: &mut Aside,
-) -> Judged
+fn judge(instr: &FieldPart, entry: &mut Entry, bytes: &[u8], at: usize, aside: &mut Aside) -> Judged
     requires place { at ≤ length bytes.now }
     requires part { IsFieldPart instr.now }
     requires entry { HoldsScalar entry.old }
@@ -230,16 +225,16 @@ fn judge(
         Kind::UInt32 | Kind::Int32 | Kind::UInt64 | Kind::Int64 => {
             judge_integer(instr, entry, bytes, at, aside)
         }
-        Kind::Ascii => judge_text(alloc, instr, entry, bytes, at, aside),
+        Kind::Ascii => judge_text(instr, entry, bytes, at, aside),
         Kind::Decimal => judge_kept_decimal(instr, entry, bytes, at),
-        Kind::Unicode | Kind::Bytes => judge_kept_vector(alloc, instr, entry, bytes, at),
+        Kind::Unicode | Kind::Bytes => judge_kept_vector(&mut aside.spare, instr, entry, bytes, at),
     }
 }
 
 /// What the best form is of NULL, or of an ASCII string that was sent as a difference. None: nothing has changed.
 #[inline(always)]
 fn find_best(
-    alloc: Global,
+    spare: &mut Spare,
     instr: &FieldPart,
     entry: &mut Entry,
     bytes: &[u8],
@@ -252,9 +247,9 @@ fn find_best(
     ensures absent { IfSome result (λ best. KeepsNothing instr.now.operator → best.there ≡ false) }
 {
     if keeps_nothing(instr.operator) {
-        judge_null(instr, entry, bytes, at)
+        judge_null(spare, instr, entry, bytes, at)
     } else {
-        judge_other(alloc, instr, entry, bytes, at)
+        judge_other(spare, instr, entry, bytes, at)
     }
 }
 
@@ -306,10 +301,32 @@ fn tell_behind(first: usize, next: usize, aside: &mut Aside) -> Took
     Took::Other(next)
 }
 
+/// What is told of a field that was judged. None: it was not.
+#[inline(always)]
+pub(crate) fn tell_judged(
+    judged: Judged,
+    bytes: &[u8],
+    at: usize,
+    aside: &mut Aside,
+) -> Option<Took>
+    requires { at ≤ length bytes.now }
+    ensures unkept { aside.new.unkept ≡ aside.old.unkept }
+    ensures judged { MatchOption result (judged ≡ Judged.Elsewhere) (λ took. judged ≢ Judged.Elsewhere) }
+    ensures taken { (i : PartOf) (old new : EntryOf) → IsJudged i old new bytes.now at judged
+        → IfSome result (λ took. (v : ScalarOf) × IsTakenAs Usual i old new true bytes.now at aside.new took (Some v)) }
+{
+    match judged {
+        Judged::Stands(next) => Some(Took::Stands(next)),
+        Judged::Given(next) => Some(Took::Given(next)),
+        Judged::Behind(next) => Some(tell_behind(at + 1, next, aside)),
+        Judged::BehindTwo(next) => Some(tell_behind(at + 2, next, aside)),
+        Judged::Elsewhere => None,
+    }
+}
+
 /// Takes what was sent where it is judged as it stands, and makes its entry the one afterwards. None: nothing has changed.
 #[inline(always)]
 pub(crate) fn take_judged(
-    alloc: Global,
     instr: &FieldPart,
     entry: &mut Entry,
     level: Level,
@@ -323,16 +340,11 @@ pub(crate) fn take_judged(
     ensures { MatchOption result (entry.new ≡ entry.old)
         (IsTook level instr.now entry.old entry.new true bytes.now at aside.new) }
 {
-    if !reads_as_usual(level, instr, bytes, at) {
+    if !is_read_as_usual(level, instr, bytes, at) {
         return None;
     }
-    match judge(alloc, instr, entry, bytes, at, aside) {
-        Judged::Stands(next) => Some(Took::Stands(next)),
-        Judged::Given(next) => Some(Took::Given(next)),
-        Judged::Behind(next) => Some(tell_behind(at + 1, next, aside)),
-        Judged::BehindTwo(next) => Some(tell_behind(at + 2, next, aside)),
-        Judged::Elsewhere => None,
-    }
+    let judged = judge(instr, entry, bytes, at, aside);
+    tell_judged(judged, bytes, at, aside)
 }
 
 /// Whether what was sent may be NULL or a string, by its first byte: a group that says something begins no NULL.
@@ -347,7 +359,6 @@ fn may_be_respelled(instr: &FieldPart, bytes: &[u8], at: usize) -> bool
 /// afterwards. None: nothing has changed.
 #[inline(always)]
 pub(crate) fn take_respelled(
-    alloc: Global,
     instr: &FieldPart,
     entry: &mut Entry,
     level: Level,
@@ -368,6 +379,6 @@ pub(crate) fn take_respelled(
     if aside.made.push(0).is_err() {
         return None;
     }
-    let best = find_best(alloc, instr, entry, bytes, at)?;
+    let best = find_best(&mut aside.spare, instr, entry, bytes, at)?;
     Some(tell_best(best, at, aside))
 }

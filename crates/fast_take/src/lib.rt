@@ -6,6 +6,8 @@
 //! [`Aside::value`] gives the value from where it lies, by way of a [`Room`] where nothing has it as a value.
 //! `specs/Takes` says what it is to have taken a field.
 //!
+//! Who needs no value calls [`judge_sent`], which lays none aside, and [`relay_judged`] where the field does not stand.
+//!
 //! Most fields are taken at once: what bit 0 gives, and what was sent in its best form or nearly so, as `fast_relay`
 //! judges it. Behind them stands a way that takes whatever was sent.
 #![tactic(auto)]
@@ -15,11 +17,12 @@ mod field;
 mod general;
 mod judged;
 mod number;
+mod strictly;
 mod took;
 mod value;
 mod vector;
 
-pub use field::{take, take_sent};
+pub use field::{judge_sent, relay_judged, take, take_sent};
 pub use general::take_left_out;
 pub use took::{Aside, Took, Unkept};
 pub use value::Room;

@@ -18,11 +18,12 @@ ghost use Rattle.fast_take.specs.Takes.{IsFaulted, IsTook};
 
 use crate::general::number_aside;
 use crate::took::{Aside, Took};
-use fast_dictionary::{Entry, EntryRef};
+use fast_dictionary::{Entry, EntryRef, Spare};
 use fast_field::{FieldFault, is_left_out, read_integer, sum_of_delta, value_of_integer};
 use fast_relay::is_unsigned;
 use fast_template::{FieldPart, Operator, Part, Scalar};
 use fast_wire::{Level, Nullable, overlong_signed, overlong_unsigned};
+use std::mem;
 
 /// Whether what is sent has no sign: a difference has one.
 #[inline(always)]
@@ -96,25 +97,29 @@ fn value_of_sent(instr: &FieldPart, kept: EntryRef, sent: i128) -> Result<Scalar
 
 /// Keeps a value where the operator keeps one. It takes no memory.
 #[inline(always)]
-pub(crate) fn keep(instr: &FieldPart, entry: &mut Entry, value: Scalar)
+pub(crate) fn keep(spare: &mut Spare, instr: &FieldPart, entry: &mut Entry, value: Scalar)
     ensures { entry.new ≡ next_entry instr.now entry.old (Some value) }
 {
     match instr.operator {
-        Operator::Plain | Operator::Constant | Operator::Default => {}
+        Operator::Plain | Operator::Constant | Operator::Default => {
+            spare.keep_entry(Entry::Assigned(value));
+        }
         Operator::Copy | Operator::Increment | Operator::Delta | Operator::Tail => {
-            *entry = Entry::Assigned(value);
+            spare.keep_entry(mem::replace(entry, Entry::Assigned(value)));
         }
     }
 }
 
 /// Keeps that there is no value.
 #[inline(always)]
-pub(crate) fn keep_none(instr: &FieldPart, entry: &mut Entry)
+pub(crate) fn keep_none(spare: &mut Spare, instr: &FieldPart, entry: &mut Entry)
     ensures { entry.new ≡ next_entry instr.now entry.old None }
 {
     match instr.operator {
         Operator::Plain | Operator::Constant | Operator::Default | Operator::Delta => {}
-        Operator::Copy | Operator::Increment | Operator::Tail => *entry = Entry::Empty,
+        Operator::Copy | Operator::Increment | Operator::Tail => {
+            spare.keep_entry(mem::replace(entry, Entry::Empty));
+        }
     }
 }
 
@@ -178,14 +183,14 @@ pub(crate) fn take_integer(
     match sent {
         Nullable::Null => {
             let given = is_left_out(instr, entry.view(), None);
-            keep_none(instr, entry);
+            keep_none(&mut aside.spare, instr, entry);
             Ok(aside.tell(false, given, at, first, next))
         }
         Nullable::Value(sent) => {
             let value = value_of_sent(instr, entry.view(), sent)?;
             let given = is_left_out(instr, entry.view(), Some(&value));
             aside.unkept = number_aside(&value);
-            keep(instr, entry, value);
+            keep(&mut aside.spare, instr, entry, value);
             Ok(aside.tell(true, given, at, first, next))
         }
     }

@@ -8,7 +8,7 @@ ghost use Rattle.fast_value.specs.declared.kind.Kind.TheVariants.{UInt32};
 ghost use Rattle.fast_relay.specs.Judged.{under};
 ghost use Rattle.fast_take.specs.Takes.{best_bit, best_form, count_of as count_of_spec, first_of, is_there, place_of, value_aside, value_taken};
 
-use fast_dictionary::Entry;
+use fast_dictionary::{Entry, Spare};
 use fast_template::{FieldPart, Operator, Scalar};
 use fast_wire::Span;
 use std::alloc::{AllocError, Global};
@@ -39,7 +39,7 @@ pub enum Unkept {
 }
 
 /// What does not fit in two registers: a best form that is not what was read, and a value that no entry keeps.
-#[derive(Debug, Drop)]
+#[derive(Drop)]
 pub struct Aside {
     /// The bit of the best form.
     pub bit: bool,
@@ -51,6 +51,8 @@ pub struct Aside {
     pub first: usize,
     /// The value, where no entry keeps it.
     pub unkept: Unkept,
+    /// Memory for strings that entries will have.
+    pub spare: Spare,
 }
 
 // The number that a value of this type is.
@@ -76,6 +78,7 @@ impl Aside {
             made: Vec::new(alloc),
             first: 0,
             unkept: Unkept::UInt32(0),
+            spare: Spare::new(alloc),
         }
     }
 

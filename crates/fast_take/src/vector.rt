@@ -11,11 +11,10 @@ ghost use Rattle.fast_take.specs.Takes.{IsStopped, IsTook};
 
 use crate::number::{keep, keep_none, needed_from};
 use crate::took::{Aside, Took, Unkept};
-use fast_dictionary::Entry;
+use fast_dictionary::{Entry, Spare};
 use fast_field::{FieldFault, is_left_out, read_integer, value_of_units};
 use fast_template::{FieldPart, Scalar};
 use fast_wire::{Level, Nullable, Span};
-use std::alloc::Global;
 
 /// The place behind so many bytes.
 #[inline(always)]
@@ -37,7 +36,7 @@ fn place_behind(count: i128, bytes: &[u8], start: usize) -> Result<usize, FieldF
 /// The string or vector that stands between two places, copied once.
 #[inline(always)]
 fn value_between(
-    alloc: Global,
+    spare: &mut Spare,
     instr: &FieldPart,
     bytes: &[u8],
     start: usize,
@@ -48,7 +47,7 @@ fn value_between(
     ensures { MatchResult result (λ v. unit_value instr.now.kind (slice_range bytes.now start next) ≡ Ok v)
         (λ f. (f ≡ Memory) ⊎ (unit_value instr.now.kind (slice_range bytes.now start next) ≡ Err f)) }
 {
-    let mut units = Vec::new(alloc);
+    let mut units = spare.take();
     if units.extend_from_slice(&bytes[start..next]).is_err() {
         return Err(FieldFault::Memory);
     }
@@ -61,7 +60,6 @@ fn value_between(
 ///
 /// The first fault of the field, and the entry is as it was. Memory: for the copy.
 pub(crate) fn take_vector(
-    alloc: Global,
     instr: &FieldPart,
     entry: &mut Entry,
     level: Level,
@@ -82,15 +80,15 @@ pub(crate) fn take_vector(
     match sent {
         Nullable::Null => {
             let given = is_left_out(instr, entry.view(), None);
-            keep_none(instr, entry);
+            keep_none(&mut aside.spare, instr, entry);
             Ok(aside.tell(false, given, at, first, start))
         }
         Nullable::Value(count) => {
             let next = place_behind(count, bytes, start)?;
-            let value = value_between(alloc, instr, bytes, start, next)?;
+            let value = value_between(&mut aside.spare, instr, bytes, start, next)?;
             let given = is_left_out(instr, entry.view(), Some(&value));
             aside.unkept = Unkept::Units(Span { start, end: next });
-            keep(instr, entry, value);
+            keep(&mut aside.spare, instr, entry, value);
             Ok(aside.tell(true, given, at, first, next))
         }
     }

@@ -142,7 +142,7 @@ impl Receiver for TapeBuilder {
     #[inline(always)]
     fn begin<E: Entries>(
         &mut self,
-        alloc: Global,
+        _alloc: Global,
         entries: &mut E,
         identifier: &FieldPart,
         bit: bool,
@@ -151,7 +151,7 @@ impl Receiver for TapeBuilder {
         at: usize,
     ) -> Result<(u32, usize), FieldFault> {
         let aside = &mut self.aside;
-        let (id, next) = take_identifier(alloc, entries, identifier, bit, level, bytes, at, aside)?;
+        let (id, next) = take_identifier(entries, identifier, bit, level, bytes, at, aside)?;
         self.open.clear();
         self.open.open(TapeNode::long(MESSAGE, id, 0, 0))?;
         Ok((id, next))
@@ -170,6 +170,11 @@ impl Receiver for TapeBuilder {
 
     #[inline(always)]
     fn back(&mut self, _alloc: Global) {}
+
+    #[inline(always)]
+    fn reset_entries<E: Entries>(&mut self, entries: &mut E) {
+        entries.reset_into(&mut self.aside.spare);
+    }
 
     #[inline(always)]
     fn field<E: Entries>(
@@ -226,7 +231,6 @@ impl Receiver for TapeBuilder {
     #[inline(always)]
     fn exponent<E: Entries>(
         &mut self,
-        alloc: Global,
         _name: &Name,
         _presence: Presence,
         entries: &mut E,
@@ -237,7 +241,7 @@ impl Receiver for TapeBuilder {
         at: usize,
     ) -> Result<(bool, usize), FieldFault> {
         let aside = &mut self.aside;
-        match take_exponent(alloc, entries, part, bit, level, bytes, at, aside)? {
+        match take_exponent(entries, part, bit, level, bytes, at, aside)? {
             (None, next) => {
                 self.open.push_absent(part.number)?;
                 Ok((false, next))
@@ -253,7 +257,6 @@ impl Receiver for TapeBuilder {
     #[inline(always)]
     fn mantissa<E: Entries>(
         &mut self,
-        alloc: Global,
         entries: &mut E,
         part: &FieldPart,
         bit: bool,
@@ -262,7 +265,7 @@ impl Receiver for TapeBuilder {
         at: usize,
     ) -> Result<usize, FieldFault> {
         let aside = &mut self.aside;
-        let (mantissa, next) = take_mantissa(alloc, entries, part, bit, level, bytes, at, aside)?;
+        let (mantissa, next) = take_mantissa(entries, part, bit, level, bytes, at, aside)?;
         self.open
             .push_decimal(self.instruction, mantissa, self.exponent)?;
         Ok(next)
@@ -271,7 +274,7 @@ impl Receiver for TapeBuilder {
     #[inline(always)]
     fn begin_sequence<E: Entries>(
         &mut self,
-        alloc: Global,
+        _alloc: Global,
         _name: &Name,
         _presence: Presence,
         entries: &mut E,
@@ -282,7 +285,7 @@ impl Receiver for TapeBuilder {
         at: usize,
     ) -> Result<(Option<u32>, usize), FieldFault> {
         let aside = &mut self.aside;
-        match take_length(alloc, entries, part, bit, level, bytes, at, aside)? {
+        match take_length(entries, part, bit, level, bytes, at, aside)? {
             (None, next) => {
                 self.open.push_absent(part.number)?;
                 Ok((None, next))

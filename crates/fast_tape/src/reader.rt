@@ -190,7 +190,8 @@ impl<'a, E: Entries> TapeReader<'a, E> {
         }
     }
 
-    /// Begins a new stream, as that of the next packet, with all entries undefined; what waits stays. Takes no memory.
+    /// Begins a new stream, as that of the next packet, with all entries undefined; what waits stays. Fails for no want of
+    /// memory.
     pub fn begin_packet(&mut self)
         ensures fault { self.new.machine.fault ≡ None }
         ensures fed { self.new.machine.fed ≡ 0 }
@@ -230,7 +231,7 @@ impl<'a, E: Entries> TapeReader<'a, E> {
         Ok(taken)
     }
 
-    /// Begins a new stream, with all entries undefined; what waits is forgotten. Takes no memory.
+    /// Begins a new stream, with all entries undefined; what waits is forgotten. Fails for no want of memory.
     pub fn reset(&mut self)
         ensures fault { self.new.machine.fault ≡ None }
         ensures fed { self.new.machine.fed ≡ 0 }

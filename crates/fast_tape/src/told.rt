@@ -42,7 +42,7 @@ fn take_and_tell(
     requires kept { HoldsScalar entry.old }
     ensures { TellsNext level part.now bit bytes.now at result entry.old entry.new tape.old tape.new }
 {
-    let took = take(alloc, part, entry, bit, level, bytes, at, aside)?;
+    let took = take(part, entry, bit, level, bytes, at, aside)?;
     let value = aside.value(alloc, took, part, entry, bit, bytes, room)?;
     tape.push_value(part.number, part.key.slot, value)?;
     Ok(took.place())

@@ -17,7 +17,7 @@ ghost use Rattle.fast_walk.specs.Lacks.{AreUnstopped, EntityLacks, FieldLacks, H
 use crate::bits::first_for;
 use crate::traversal::{Stage, Traversal};
 use crate::walk::{Next, Walk};
-use fast_dictionary::{Entries, EntryRef};
+use fast_dictionary::{Entries, EntryRef, Spare};
 use fast_field::{FieldFault, find_field};
 use fast_template::{FieldPart, Flat, Kind, Operator, Presence, part_needs_bit};
 use fast_wire::{
@@ -238,7 +238,13 @@ fn rest_lack(
             None => None,
             Some(lack) => {
                 if let Err(FieldFault::NeedMore) = find_field(
-                    alloc, part, kept, bit, level, bytes, 0,
+                    &mut Spare::new(alloc),
+                    part,
+                    kept,
+                    bit,
+                    level,
+                    bytes,
+                    0,
                 ) {
                     return Some(lack);
                 }

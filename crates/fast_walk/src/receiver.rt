@@ -1,6 +1,7 @@
 //! What receives the fields of a message.
 
 ghost use Rattle.std.specs.Prelude.{◌≡◌, ◌≢◌, ◌≤◌, ◌<◌, ◌++◌, ◌∷◌, [], ℕ, ℤ, Bool, true, false, List, Option, Some, None, IsSome, IfOk, IfErr, OnOk, OnErr, IsTrue, length, drop};
+ghost use Rattle.std.specs.FinMap as finite;
 ghost use Rattle.fast_value.specs.declared.scalar.Scalar.{Scalar as ScalarOf};
 ghost use Rattle.fast_value.specs.declared.scalar.Scalar.TheVariants.{U32, I64, Decimal};
 ghost use Rattle.fast_template.specs.declared.resolved.FieldPart.{FieldPart as PartOf};
@@ -103,6 +104,15 @@ pub trait Receiver: Drop {
         ensures open { Carries (keeps self.old) (stands self.new) }
         ensures between { Carries (stands self.old) (stands self.new) };
 
+    /// Makes entries undefined. A receiver may keep the memory of their strings for those to come.
+    fn reset_entries<E: Entries>(&mut self, entries: &mut E)
+        ensures same { self.new ≡ self.old }
+        ensures cleared { E.contents entries.new ≡ finite.empty }
+        ensures same_keys { E.serves entries.new ≡ E.serves entries.old }
+    {
+        entries.reset();
+    }
+
     /// Takes a field of this name from the bytes, and puts its entry; answers the place behind it.
     fn field<E: Entries>(
         &mut self,
@@ -182,7 +192,6 @@ pub trait Receiver: Drop {
     /// Takes the exponent of a decimal in parts; answers whether it is there, and the place behind it.
     fn exponent<E: Entries>(
         &mut self,
-        alloc: Global,
         name: &Name,
         presence: Presence,
         entries: &mut E,
@@ -220,7 +229,6 @@ pub trait Receiver: Drop {
     /// Takes the mantissa of a decimal whose exponent is there; answers the place behind it.
     fn mantissa<E: Entries>(
         &mut self,
-        alloc: Global,
         entries: &mut E,
         part: &FieldPart,
         bit: bool,

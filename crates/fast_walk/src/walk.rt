@@ -268,9 +268,7 @@ impl<'a> Walk<'a> {
                 self.count(*number)?;
                 let needs = part_needs_bit(exponent);
                 let bit = first_for(&self.bits, needs);
-                match receiver.exponent(
-                    alloc, name, *presence, entries, exponent, bit, level, bytes, at,
-                ) {
+                match receiver.exponent(name, *presence, entries, exponent, bit, level, bytes, at) {
                     Err(fault) => Err(part_halt(exponent, fault)),
                     Ok((present, next)) => {
                         if present {
@@ -495,7 +493,7 @@ impl<'a> Walk<'a> {
             Next::Mantissa(mantissa) => {
                 let needs = part_needs_bit(mantissa);
                 let bit = first_for(&self.bits, needs);
-                match receiver.mantissa(alloc, entries, mantissa, bit, level.level(), bytes, at) {
+                match receiver.mantissa(entries, mantissa, bit, level.level(), bytes, at) {
                     Err(fault) => Err(part_halt(mantissa, fault)),
                     Ok(next) => {
                         take_for(&mut self.bits, needs);

@@ -1,9 +1,9 @@
 -- What the proofs of this crate cite from elsewhere, passed on from one place. Declares nothing.
-pub use Rattle.std.proofs.Common.{Bool, Err, IfSome, IsTrue, List, None, Ok, Option, Result, Some, [], ap, append-nil, arith, codes, cond, drop, false, if◌then◌else◌, inl, inr, length, length-append, length-drop, lit<, lit≤, map, nat_le, nat_lt, negsuc, not, pos, refl, rules, slice_index, slice_index_or, slice_set, subst, suc, sym, take, true, true≢false, zero, ℕ, ℤ, ◌&&◌, ◌++◌, ◌+ℤ◌, ◌+◌, ◌-◌, ◌<◌, ◌^◌, ◌∙◌, ◌∷◌, ◌≡◌, ◌≤◌, ◌⊎◌}
+pub use Rattle.std.proofs.Common.{Bool, Err, IfSome, IsTrue, List, None, Ok, Option, Result, Some, [], ap, append-nil, arith, codes, cond, drop, false, if◌then◌else◌, inl, inr, length, length-append, length-drop, lit<, lit≤, map, nat_lt, negsuc, not, pos, refl, rules, slice_index, slice_index_or, slice_set, subst, suc, sym, take, true, true≢false, zero, ℕ, ℤ, ◌&&◌, ◌++◌, ◌+ℤ◌, ◌+◌, ◌-◌, ◌<◌, ◌^◌, ◌∙◌, ◌∷◌, ◌≡◌, ◌≤◌, ◌⊎◌}
 pub use Rattle.std.proofs.Math.IntN.{+ℤ_idl}
 pub use Rattle.std.proofs.Math.ListN.{drop_of_length-le}
 pub use Rattle.std.proofs.Math.Seq.{take-suc}
-pub use Rattle.std.proofs.lemmas.Bool.{and_parts, le-leb, or_parts, true_from_ne_false}
+pub use Rattle.std.proofs.lemmas.Bool.{and_parts, or_parts, true_from_ne_false}
 pub use Rattle.std.proofs.lemmas.List.{append_assoc, drop-drop, map_push, take-set, take_all}
 pub use Rattle.std.proofs.lemmas.Result.{IfOk-weaker, MatchResult-weaker, err_from_is_err_and, on_ok_weaker}
 pub use Rattle.std.specs.Borrow.{Bor}
@@ -16,21 +16,16 @@ pub use Rattle.fast_wire.proofs.Readers.{done}
 pub use Rattle.fast_wire.proofs.ShortMaps.{none_set, shortest_map_begins}
 pub use Rattle.fast_wire.proofs.UnsignedForms.{entity_some}
 pub use Rattle.fast_wire.specs.Entity.{groups}
-pub use Rattle.fast_wire.specs.Integer.{IsSigned, magnitude, signed_of, unsigned_of}
-pub use Rattle.fast_wire.specs.Level.{verdict}
-pub use Rattle.fast_wire.specs.Nullable.{received_signed}
+pub use Rattle.fast_wire.specs.Integer.{IsSigned, magnitude, unsigned_of}
 pub use Rattle.fast_wire.specs.PresenceMap.{HasSetBit, IsMap, bit_at, bits_of, later_bits, next_bit}
 pub use Rattle.fast_wire.specs.Reader.{IsBytes}
-pub use Rattle.fast_wire.specs.Reading.{◌>>=◌}
-unfoldable pub use Rattle.fast_wire.specs.Reading.{entity_at, signed_at, signed_nullable_at}
 pub use Rattle.fast_wire.specs.Sizes.{CanBeMap, ascii_size}
 unfoldable pub use Rattle.fast_wire.specs.Sizes.{groups_from, signed_size}
 pub use Rattle.fast_wire.specs.Writing.{IsShortest}
 pub use Rattle.fast_wire.specs.declared.fault.WireFault.{WireFault}
 pub use Rattle.fast_wire.specs.declared.level.Level.{Level}
 pub use Rattle.fast_wire.specs.declared.level.Level.TheVariants.{Strict, Usual}
-pub use Rattle.fast_wire.specs.declared.nullable.Nullable.{Nullable}
-pub use Rattle.fast_wire.specs.declared.nullable.Nullable.TheVariants.{Null, Value}
+pub use Rattle.fast_wire.specs.declared.nullable.Nullable.TheVariants.{Value}
 pub use Rattle.fast_value.specs.Key.{key_cmp, key_cmp-total}
 pub use Rattle.fast_value.specs.Scalar.{is_of}
 pub use Rattle.fast_value.specs.declared.key.Key.{Key}
@@ -53,7 +48,7 @@ pub use Rattle.fast_dictionary.specs.declared.entry.Entry.{Entry}
 pub use Rattle.fast_dictionary.specs.declared.entry.Entry.TheVariants.{Assigned, Empty, Undefined}
 pub use Rattle.fast_field.proofs.BestForms.{at_end_first, bit_zero_is_best, bit_zero_row}
 pub use Rattle.fast_field.proofs.FieldForms.{field_forms}
-pub use Rattle.fast_field.proofs.FieldsBehave.{integer_as_usual, integer_starts, mantissa_starts, read_usually}
+pub use Rattle.fast_field.proofs.FieldsBehave.{read_usually}
 pub use Rattle.fast_field.proofs.FieldsWithin.{value_kind, value_there}
 pub use Rattle.fast_field.proofs.ReadFields.{bytes_from}
 pub use Rattle.fast_field.proofs.Refused.{not_refused}
@@ -62,14 +57,12 @@ pub use Rattle.fast_field.specs.AsUsual.{ReadsAsUsual}
 pub use Rattle.fast_field.specs.Bases.{delta_base}
 pub use Rattle.fast_field.specs.Best.{IsBest, NoLater}
 pub use Rattle.fast_field.specs.Deltas.{Cut, SpellsDeltas, uncut}
-pub use Rattle.fast_field.specs.Faults.{field_fault}
-pub use Rattle.fast_field.specs.FieldReading.{in_field, integer_usually_at, mantissa_entity_at, unless_null}
-unfoldable pub use Rattle.fast_field.specs.FieldReading.{decimal_delta_at, decimal_spelled_at, delta_at, field_at, integer_at, integer_delta_at, integer_spelled_at, mantissa_behind, mantissa_delta_behind, row_at, spelled_at, whole_at}
+unfoldable pub use Rattle.fast_field.specs.FieldReading.{field_at}
 pub use Rattle.fast_field.specs.Fields.{Form, FormBy, FormOf}
 pub use Rattle.fast_field.specs.Found.{value_found}
 pub use Rattle.fast_field.specs.Parts.{HasDefault, IsFieldPart}
 pub use Rattle.fast_field.specs.Passed.{Passes}
-pub use Rattle.fast_field.specs.Spelled.{IsOfPair, Spelled, SpellsInteger, overlong_number}
+pub use Rattle.fast_field.specs.Spelled.{IsOfPair, Spelled, SpellsInteger}
 pub use Rattle.fast_field.specs.Within.{HoldsScalar}
 pub use Rattle.fast_field.specs.Written.{IsRefusal}
 pub use Rattle.fast_field.specs.declared.fault.FieldFault.{FieldFault}
@@ -94,7 +87,6 @@ pub use Rattle.fast_walk.specs.Received.{IsExponent, Received, Took, after_expon
 pub use Rattle.fast_walk.specs.Room.{HasRoomInside}
 pub use Rattle.fast_walk.specs.Told.{HoldScalars, IsTold, KeepScalars}
 pub use Rattle.fast_walk.specs.Walks.{AreServed, IsNextServed, IsServed, bare_next}
-pub use Rattle.fast_writer.specs.Beginnings.{BeginsField, BeginsNumber, BeginsShort, BeginsShortBehind}
 pub use Rattle.fast_writer.specs.Canonical.{CanonBody, CanonFrom, CanonMessage, IsCanonical, IsShortestMap}
 pub use Rattle.fast_writer.specs.Levels.{level_in, level_of}
 pub use Rattle.fast_writer.specs.Quick.{Relayed, RelaysEntry, RelaysPart, StopsPart}

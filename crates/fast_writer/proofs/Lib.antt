@@ -9,4 +9,3 @@ pub mod Writers
 pub mod MapRoom
 pub mod Takings
 mod SpeltParts
-mod Beginnings

@@ -2,7 +2,7 @@
 use Rattle.fast_writer.proofs.Common.{◌≡◌, ◌<◌, ℕ, ◌+◌, Bool, List, ◌++◌, ◌∷◌, Option, Some, None, true, false, [], drop, length, refl, sym, ap, subst, ◌∙◌, append-nil, arith, slice_index, FieldPart, Scalar, part_needs_bit, Entry, Dictionary, entry_at, set_entry, set_entry-there, Level, ReadsAsUsual, Judges, RelaysByte, Run, length_of, Passes as FieldPasses, Relayed, RelaysEntry, RelaysPart, StopsPart, took_of, FieldFault, Segment, AppendsForm, Asked, Spelt, Operator, operator_needs_bit, Usual, IsBest, Cut, FormOf}
 use Rattle.std.proofs.Common.{◌⊎◌}
 use Rattle.fast_writer.proofs.Common.{IfSome, IsTrue, Kind, inl, inr, is_of, is_some, IsThere}
-use Rattle.fast_take.specs.Takes.{IsStopped, IsTook, best_bit, best_form, count_of, place_of, value_taken}
+use Rattle.fast_take.specs.Takes.{IsStopped, IsTakenAs, best_bit, best_form, count_of, place_of}
 use Rattle.fast_take.specs.declared.took.Aside.{Aside}
 use Rattle.fast_take.specs.declared.took.Took.{Took}
 use Rattle.fast_writer.specs.Runs.{written}
@@ -53,9 +53,9 @@ passes_relayed {level = level} {bytes = bytes} {before = before} needs p = recor
 }
 
 -- what was taken is relayed by its best form
-pub took_relayed : (level : Level) (i : FieldPart) (old new : Entry) (bit : Bool) (bytes before : List ℕ) (at : ℕ) (a : Aside) (t : Took) → IsTook level i old new bit bytes at a t
-    → Relayed level i old new bit (best_bit bit a t) (value_taken i new bit bytes a t) (drop at bytes) (drop (place_of t) bytes) before (before ++ best_form bytes at a t)
-took_relayed level i old new bit bytes before at a t h = record {
+pub taken_relayed : {level : Level} {i : FieldPart} {old new : Entry} {bit : Bool} {bytes : List ℕ} {at : ℕ} {a : Aside} {t : Took} {v : Option Scalar} (before : List ℕ) → IsTakenAs level i old new bit bytes at a t v
+    → Relayed level i old new bit (best_bit bit a t) v (drop at bytes) (drop (place_of t) bytes) before (before ++ best_form bytes at a t)
+taken_relayed {bit = bit} {bytes = bytes} {at = at} {a = a} {t = t} before h = record {
   read = h.read;
   entry = h.entry;
   form = record { form = best_form bytes at a t; appended = refl; best = h.best; needs = best_needs (best_bit bit a t) h.best };

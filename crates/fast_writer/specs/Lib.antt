@@ -6,4 +6,3 @@ pub mod Runs
 pub mod Levels
 pub mod Room
 pub mod Takings
-pub mod Beginnings

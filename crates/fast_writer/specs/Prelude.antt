@@ -4,7 +4,6 @@ pub use Rattle.fast_wire.specs.Writing.{IsShortest}
 pub use Rattle.fast_wire.specs.declared.level.Level.{Level}
 pub use Rattle.fast_value.specs.declared.key.Key.{Key}
 pub use Rattle.fast_value.specs.declared.kind.Kind.{Kind}
-pub use Rattle.fast_value.specs.declared.kind.Operator.{Operator}
 pub use Rattle.fast_value.specs.declared.scalar.Scalar.{Scalar}
 pub use Rattle.fast_value.specs.declared.scalar.Scalar.TheVariants.{Decimal, I64, U32}
 pub use Rattle.fast_template.specs.Resolved.{Instruction, Instructions, Resolved, field_in_parts, group_of, has_map, list_of, part_needs_bit, sequence_of, whole_field}
@@ -16,8 +15,6 @@ pub use Rattle.fast_field.specs.Bases.{next}
 pub use Rattle.fast_field.specs.Best.{IsBest}
 unfoldable pub use Rattle.fast_field.specs.FieldReading.{field_at}
 pub use Rattle.fast_field.specs.Found.{value_found}
-pub use Rattle.fast_field.specs.Spelled.{overlong_number}
-pub use Rattle.fast_field.specs.Values.{is_unsigned}
 pub use Rattle.fast_field.specs.declared.fault.FieldFault.{FieldFault}
 pub use Rattle.fast_field.specs.declared.fault.FieldFault.TheVariants.{Memory}
 pub use Rattle.fast_field.specs.declared.found.Found.{Found}

@@ -20,7 +20,6 @@ use fast_relay::take_short_number;
 use fast_take::{Aside, take};
 use fast_template::{FieldPart, Kind, Operator, Scalar, part_needs_bit};
 use fast_wire::Level;
-use std::alloc::Global;
 
 // Takes the number of the entry that bit 0 repeats, or that there is none. None: nothing has changed, and the part goes
 // the general way.
@@ -46,7 +45,6 @@ fn repeat_count(part: &FieldPart, entry: &mut Entry) -> Option<Option<u32>>
 #[inline(never)]
 #[tactic(auto, using(fast_walk::proofs::Telling::kept_hold))]
 pub(crate) fn relay_count<E: Entries>(
-    alloc: Global,
     entries: &mut E,
     part: &FieldPart,
     bit: bool,
@@ -67,7 +65,7 @@ pub(crate) fn relay_count<E: Entries>(
     ensures same_keys { E.serves entries.new ≡ E.serves entries.old }
 {
     let entry = entries.entry_mut(&part.key)?;
-    let took = take(alloc, part, entry, bit, level, bytes, at, aside)?;
+    let took = take(part, entry, bit, level, bytes, at, aside)?;
     let count = aside.count_in(took, part, entry, bit);
     aside.append_best(took, bytes, at, &mut segment.bytes.out)?;
     segment.ask(part_needs_bit(part), took.best_bit(bit, aside))?;
@@ -100,7 +98,6 @@ fn short_count(
 #[inline(always)]
 #[tactic(auto, using(fast_walk::proofs::Telling::kept_hold))]
 fn relay_sent_identifier<E: Entries>(
-    alloc: Global,
     entries: &mut E,
     part: &FieldPart,
     level: Level,
@@ -121,7 +118,7 @@ fn relay_sent_identifier<E: Entries>(
 {
     let entry = entries.entry_mut(&part.key)?;
     match short_count(part, entry, level, bytes, at) {
-        None => relay_count(alloc, entries, part, true, level, bytes, at, segment, aside),
+        None => relay_count(entries, part, true, level, bytes, at, segment, aside),
         Some(count) => {
             match segment.bytes.out.push(bytes[at]) {
                 Err(_) => return Err(FieldFault::Memory),
@@ -136,7 +133,6 @@ fn relay_sent_identifier<E: Entries>(
 /// The same of the identifier of a template. Most are the one before, so that no byte is read.
 #[inline(always)]
 pub(crate) fn relay_identifier<E: Entries>(
-    alloc: Global,
     entries: &mut E,
     part: &FieldPart,
     bit: bool,
@@ -158,11 +154,11 @@ pub(crate) fn relay_identifier<E: Entries>(
     ensures same_keys { E.serves entries.new ≡ E.serves entries.old }
 {
     if bit {
-        return relay_sent_identifier(alloc, entries, part, level, bytes, at, segment, aside);
+        return relay_sent_identifier(entries, part, level, bytes, at, segment, aside);
     }
     let entry = entries.entry_mut(&part.key)?;
     match repeat_count(part, entry) {
-        None => relay_count(alloc, entries, part, bit, level, bytes, at, segment, aside),
+        None => relay_count(entries, part, bit, level, bytes, at, segment, aside),
         Some(count) => {
             segment.ask(part_needs_bit(part), false)?;
             Ok((count, at))

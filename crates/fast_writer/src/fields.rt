@@ -1,6 +1,6 @@
 //! Fields that are taken one after the other, with no call of the walk between them.
 
-ghost use Rattle.std.specs.Prelude.{◌≡◌, ◌≤◌, ◌<◌, ◌+◌, ◌-◌, ◌&&◌, Bool, true, false, Option, None, IsSome, IfOk, IfSome, MatchOption, OnOk, IsTrue, length, drop, slice_range};
+ghost use Rattle.std.specs.Prelude.{◌≡◌, ◌≢◌, ◌≤◌, ◌<◌, ◌+◌, ◌-◌, ◌&&◌, Bool, true, false, Option, None, IsSome, IfOk, IfSome, MatchOption, OnOk, IsTrue, length, drop, slice_range};
 ghost use Rattle.fast_template.specs.Resolved.{instruction_of, list_of, part_needs_bit as part_needs_bit_of};
 ghost use Rattle.fast_value.specs.declared.scalar.Scalar.{Scalar as ScalarOf};
 ghost use Rattle.fast_dictionary.specs.declared.entry.Entry.{Entry as EntryOf};
@@ -27,15 +27,14 @@ ghost use Rattle.fast_value.specs.declared.kind.Kind.TheVariants.{Int32};
 ghost use Rattle.fast_value.specs.declared.kind.Part.TheVariants.{Exponent, Whole};
 
 use crate::segment::Segment;
-use crate::strictly::is_read_as_usual;
 use fast_dictionary::{Entries, Entry};
 use fast_field::{FieldFault, Passed};
-use fast_relay::{Best, Judged, best_of, judge_field, judge_other, pass_quickly};
-use fast_take::{Aside, Took, take};
+use fast_relay::{Judged, pass_quickly};
+use fast_take::{Aside, Took, judge_sent, relay_judged};
 use fast_template::{FieldPart, Flat, Part, part_needs_bit};
 use fast_walk::{Fields, Leveled, take_for};
 use fast_wire::{Bits, Level};
-use std::alloc::{AllocError, Global};
+use std::alloc::AllocError;
 
 /// What became of a part.
 pub(crate) enum Taken {
@@ -58,28 +57,6 @@ fn end_part(bits: &mut Bits, needs: bool, best: bool, segment: &mut Segment, the
     match segment.ask(needs, best) {
         Err(_) => Taken::Refused,
         Ok(()) => Taken::Part(there),
-    }
-}
-
-// Takes a part that was judged: its best form is written.
-#[inline(always)]
-fn end_best(bits: &mut Bits, needs: bool, best: Best, bytes: &[u8], segment: &mut Segment) -> Taken
-    requires run { IsRun bytes.now segment.now.bytes.place segment.now.bytes }
-    requires first { best.first ≤ best.next }
-    requires within { best.next ≤ length bytes.now }
-    ensures { MatchTaken result (λ is. (is ≡ best.there) × EndsPart needs best.bit bits.old bits.new
-        (with_bytes (level_in bytes.now segment.old) (form_of bytes.now best))
-        (level_in bytes.now segment.new) × IsRun bytes.now best.next segment.new.bytes) ⊥ }
-{
-    match end_part(bits, needs, best.bit, segment, best.there) {
-        Taken::Part(there) => {
-            if segment.bytes.put(best, bytes) {
-                Taken::Part(there)
-            } else {
-                Taken::Refused
-            }
-        }
-        Taken::Elsewhere | Taken::Refused => Taken::Refused,
     }
 }
 
@@ -115,66 +92,6 @@ fn end_taken(
     }
 }
 
-// Makes an entry the one behind what bit 0 gives, and answers whether that is a value. None: nothing has changed, and the part
-// goes another way. (One answer, so that its end is in the loop over fields once.)
-#[inline(always)]
-fn pass_given(which: Part, part: &FieldPart, entry: &mut Entry) -> Option<bool>
-    requires which { which ≡ part.now.part }
-    requires part { IsFieldPart part.now }
-    ensures { MatchOption result (entry.new ≡ entry.old) (λ there. (v : Option ScalarOf)
-        × IsThere part.now.kind there v × Passes part.now entry.old entry.new v) }
-{
-    match pass_quickly(which, part, entry) {
-        Passed::Present => Some(true),
-        Passed::Absent => Some(false),
-        Passed::Elsewhere => None,
-    }
-}
-
-// Takes a part in the way that takes any. (A call of its own, since few fields come here.)
-#[inline(never)]
-fn take_any(
-    alloc: Global,
-    part: &FieldPart,
-    entry: &mut Entry,
-    bits: &mut Bits,
-    bit: bool,
-    level: Level,
-    bytes: &[u8],
-    segment: &mut Segment,
-) -> Taken
-    requires run { IsRun bytes.now segment.now.bytes.place segment.now.bytes }
-    requires part { IsFieldPart part.now }
-    requires kept { HoldsScalar entry.now }
-    requires bit { bit_for (part_needs_bit_of part.now) bits.now ≡ bit }
-    ensures { TakesPart level part.now entry.old entry.new bits.old bits.new bytes.now
-        segment.old.bytes.place segment.old segment.new result }
-{
-    let mut aside = Aside::new(alloc);
-    match take(
-        alloc,
-        part,
-        entry,
-        bit,
-        level,
-        bytes,
-        segment.bytes.place,
-        &mut aside,
-    ) {
-        Err(FieldFault::Memory) => Taken::Refused,
-        Err(_) => Taken::Elsewhere,
-        Ok(took) => end_taken(
-            bits,
-            part_needs_bit(part),
-            bit,
-            took,
-            bytes,
-            segment,
-            &aside,
-        ),
-    }
-}
-
 // Takes a part that bit 0 gives.
 #[inline(always)]
 fn take_given<L: Leveled>(
@@ -194,58 +111,63 @@ fn take_given<L: Leveled>(
     ensures { TakesPart L.at part.now entry.old entry.new bits.old bits.new bytes.now
         segment.old.bytes.place segment.old segment.new result }
 {
-    let Some(there) = pass_given(which, part, entry) else {
-        return Taken::Elsewhere;
-    };
-    end_part(bits, true, false, segment, there)
-}
-
-// Takes a part that was judged, or is now. (A call of its own, so that the loop over fields has one for all that does not
-// stand.)
-#[inline(never)]
-fn take_judged(
-    judged: Judged,
-    alloc: Global,
-    part: &FieldPart,
-    entry: &mut Entry,
-    bits: &mut Bits,
-    needs: bool,
-    level: Level,
-    bytes: &[u8],
-    at: usize,
-    segment: &mut Segment,
-) -> Taken
-    requires run { IsRun bytes.now at segment.now.bytes }
-    requires judged { (before : EntryOf) × IsJudged part.now before entry.now bytes.now at judged }
-    requires kept { judged ≡ Judged.Elsewhere → HoldsScalar entry.now }
-    requires part { IsFieldPart part.now }
-    requires needs { needs ≡ part_needs_bit_of part.now }
-    requires bit { bit_for (part_needs_bit_of part.now) bits.now ≡ true }
-    requires usual { ReadsAsUsual level part.now (drop at bytes.now) }
-    ensures { (before : EntryOf) → IsJudged part.now before entry.old bytes.now at judged
-        → TakesPart level part.now before entry.new bits.old bits.new bytes.now at
-        segment.old segment.new result }
-{
-    match best_of(judged, bytes, at) {
-        Some(best) => end_best(bits, needs, best, bytes, segment),
-        None => match judge_other(alloc, part, entry, bytes, at) {
-            Some(best) => end_best(bits, needs, best, bytes, segment),
-            None => take_any(alloc, part, entry, bits, true, level, bytes, segment),
-        },
+    match pass_quickly(which, part, entry) {
+        Passed::Present => end_part(bits, true, false, segment, true),
+        Passed::Absent => end_part(bits, true, false, segment, false),
+        Passed::Elsewhere => Taken::Elsewhere,
     }
 }
 
-// Takes a part that was sent, where it is read as at the usual level.
+// Takes a part that was judged, or is taken now. (A call of its own, so that the loop over fields has one for all that does
+// not stand.)
+#[inline(never)]
+fn take_rest(
+    judged: Judged,
+    part: &FieldPart,
+    entry: &mut Entry,
+    bits: &mut Bits,
+    level: Level,
+    bytes: &[u8],
+    segment: &mut Segment,
+    aside: &mut Aside,
+) -> Taken
+    requires run { IsRun bytes.now segment.now.bytes.place segment.now.bytes }
+    requires judged { (before : EntryOf) × IsJudged part.now before entry.now bytes.now segment.now.bytes.place judged }
+    requires usual { judged ≢ Judged.Elsewhere → ReadsAsUsual level part.now (drop segment.now.bytes.place bytes.now) }
+    requires kept { judged ≡ Judged.Elsewhere → HoldsScalar entry.now }
+    requires part { IsFieldPart part.now }
+    requires bit { bit_for (part_needs_bit_of part.now) bits.now ≡ true }
+    ensures { (before : EntryOf) → IsJudged part.now before entry.old bytes.now segment.old.bytes.place judged
+        → TakesPart level part.now before entry.new bits.old bits.new bytes.now segment.old.bytes.place
+        segment.old segment.new result }
+{
+    let at = segment.bytes.place;
+    match relay_judged(judged, part, entry, level, bytes, at, aside) {
+        Err(FieldFault::Memory) => Taken::Refused,
+        Err(_) => Taken::Elsewhere,
+        Ok(took) => end_taken(
+            bits,
+            part_needs_bit(part),
+            true,
+            took,
+            bytes,
+            segment,
+            aside,
+        ),
+    }
+}
+
+// Takes a part that was sent.
 #[inline(always)]
 fn take_sent<L: Leveled>(
     which: Part,
-    alloc: Global,
     part: &FieldPart,
     entry: &mut Entry,
     bits: &mut Bits,
     level: L,
     bytes: &[u8],
     segment: &mut Segment,
+    aside: &mut Aside,
 ) -> Taken
     requires run { IsRun bytes.now segment.now.bytes.place segment.now.bytes }
     requires which { which ≡ part.now.part }
@@ -256,27 +178,23 @@ fn take_sent<L: Leveled>(
         segment.old.bytes.place segment.old segment.new result }
 {
     let at = segment.bytes.place;
-    if !is_read_as_usual(level.level(), part, bytes, at) {
-        return Taken::Elsewhere;
+    let spare = &mut aside.spare;
+    match judge_sent(which, spare, part, entry, level.level(), bytes, at) {
+        Judged::Stands(next) => {
+            segment.bytes.keep(next);
+            end_part(bits, part_needs_bit(part), true, segment, true)
+        }
+        judged => take_rest(
+            judged,
+            part,
+            entry,
+            bits,
+            level.level(),
+            bytes,
+            segment,
+            aside,
+        ),
     }
-    let needs = part_needs_bit(part);
-    let judged = judge_field(which, alloc, part, entry, bytes, at);
-    if let Judged::Stands(next) = judged {
-        segment.bytes.keep(next);
-        return end_part(bits, needs, true, segment, true);
-    }
-    take_judged(
-        judged,
-        alloc,
-        part,
-        entry,
-        bits,
-        needs,
-        level.level(),
-        bytes,
-        at,
-        segment,
-    )
 }
 
 // Takes a part and its bit.
@@ -284,13 +202,13 @@ fn take_sent<L: Leveled>(
 #[tactic(auto, using(fast_walk::proofs::Telling::kept_hold, crate::proofs::Takings::taken_under))]
 fn take_part<L: Leveled, E: Entries>(
     which: Part,
-    alloc: Global,
     entries: &mut E,
     part: &FieldPart,
     bits: &mut Bits,
     level: L,
     bytes: &[u8],
     segment: &mut Segment,
+    aside: &mut Aside,
 ) -> Taken
     requires run { IsRun bytes.now segment.now.bytes.place segment.now.bytes }
     requires which { which ≡ part.now.part }
@@ -308,7 +226,7 @@ fn take_part<L: Leveled, E: Entries>(
             if part_needs_bit(part) && !bits.first() {
                 take_given(which, part, entry, bits, level, bytes, segment)
             } else {
-                take_sent(which, alloc, part, entry, bits, level, bytes, segment)
+                take_sent(which, part, entry, bits, level, bytes, segment, aside)
             }
         }
     }
@@ -338,12 +256,12 @@ fn first_part(flat: &Flat) -> Option<(&FieldPart, Option<&FieldPart>)>
 // them, and the mantissa that is next where only the exponent of the last one was taken.
 fn take_all<'a, L: Leveled, E: Entries>(
     rest: &'a [Flat],
-    alloc: Global,
     entries: &mut E,
     bits: &mut Bits,
     level: L,
     bytes: &[u8],
     segment: &mut Segment,
+    aside: &mut Aside,
 ) -> Result<(&'a [Flat], Option<&'a FieldPart>), AllocError>
     requires run { IsRun bytes.now segment.now.bytes.place segment.now.bytes }
     requires served { AreServed (E.serves entries.now) (list_of rest.now) }
@@ -362,13 +280,13 @@ fn take_all<'a, L: Leveled, E: Entries>(
             None => return Ok((others, None)),
             Some((whole, None)) => match take_part(
                 Part::Whole,
-                alloc,
                 entries,
                 whole,
                 bits,
                 level,
                 bytes,
                 segment,
+                aside,
             ) {
                 Taken::Part(_there) => others = &others[1..],
                 Taken::Elsewhere => return Ok((others, None)),
@@ -376,23 +294,23 @@ fn take_all<'a, L: Leveled, E: Entries>(
             },
             Some((exponent, Some(mantissa))) => match take_part(
                 Part::Exponent,
-                alloc,
                 entries,
                 exponent,
                 bits,
                 level,
                 bytes,
                 segment,
+                aside,
             ) {
                 Taken::Part(true) => match take_part(
                     Part::Mantissa,
-                    alloc,
                     entries,
                     mantissa,
                     bits,
                     level,
                     bytes,
                     segment,
+                    aside,
                 ) {
                     Taken::Part(_there) => others = &others[1..],
                     Taken::Elsewhere => return Ok((&others[1..], Some(mantissa))),
@@ -412,12 +330,12 @@ fn take_all<'a, L: Leveled, E: Entries>(
 #[inline(never)]
 fn take_run<'a, L: Leveled, E: Entries>(
     rest: &'a [Flat],
-    alloc: Global,
     entries: &mut E,
     bits: &mut Bits,
     level: L,
     bytes: &[u8],
     segment: &mut Segment,
+    aside: &mut Aside,
     mantissa: &mut Option<&'a FieldPart>,
 ) -> Result<usize, AllocError>
     requires run { IsRun bytes.now segment.now.bytes.place segment.now.bytes }
@@ -429,7 +347,7 @@ fn take_run<'a, L: Leveled, E: Entries>(
         n mantissa.new (level_of segment.new) (E.contents entries.new) bits.new segment.new.bytes.place) }
     ensures same_keys { E.serves entries.new ≡ E.serves entries.old }
 {
-    let (others, next) = take_all(rest, alloc, entries, bits, level, bytes, segment)?;
+    let (others, next) = take_all(rest, entries, bits, level, bytes, segment, aside)?;
     if !segment.bytes.flush(bytes) {
         return Err(AllocError);
     }
@@ -440,7 +358,6 @@ fn take_run<'a, L: Leveled, E: Entries>(
 /// Takes fields from the front of the open body, up to what is no field, or goes by itself.
 #[inline(always)]
 pub(crate) fn take_fields<'a, L: Leveled, E: Entries>(
-    alloc: Global,
     entries: &mut E,
     rest: &'a [Flat],
     bits: &mut Bits,
@@ -449,6 +366,7 @@ pub(crate) fn take_fields<'a, L: Leveled, E: Entries>(
     bytes: &[u8],
     at: usize,
     segment: &mut Segment,
+    aside: &mut Aside,
 ) -> Result<Fields<'a>, AllocError>
     requires place { at ≤ length bytes.now }
     requires served { AreServed (E.serves entries.now) (list_of rest.now) }
@@ -480,12 +398,12 @@ pub(crate) fn take_fields<'a, L: Leveled, E: Entries>(
     let mut mantissa = None;
     let count = take_run(
         rest,
-        alloc,
         entries,
         bits,
         level,
         bytes,
         segment,
+        aside,
         &mut mantissa,
     )?;
     Ok(Fields {

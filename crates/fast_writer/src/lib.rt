@@ -13,7 +13,6 @@ mod laws;
 mod relay;
 mod run;
 mod segment;
-mod strictly;
 mod writer;
 
 pub use laws::canonical_bytes_carry;

@@ -13,7 +13,6 @@ use fast_field::FieldFault;
 use fast_take::{Aside, take};
 use fast_template::{FieldPart, part_needs_bit};
 use fast_wire::Level;
-use std::alloc::Global;
 
 /// Takes a part that the walk over a segment has left, and appends its best form to the segment; answers whether its value is
 /// there, and the place behind what was read. (A call of its own, so that the walk over a segment has room for one answer
@@ -21,7 +20,6 @@ use std::alloc::Global;
 #[inline(never)]
 #[tactic(auto, using(fast_walk::proofs::Telling::kept_hold))]
 pub(crate) fn relay_part<E: Entries>(
-    alloc: Global,
     entries: &mut E,
     part: &FieldPart,
     bit: bool,
@@ -41,7 +39,7 @@ pub(crate) fn relay_part<E: Entries>(
     ensures same_keys { E.serves entries.new ≡ E.serves entries.old }
 {
     let entry = entries.entry_mut(&part.key)?;
-    let took = take(alloc, part, entry, bit, level, bytes, at, aside)?;
+    let took = take(part, entry, bit, level, bytes, at, aside)?;
     aside.append_best(took, bytes, at, &mut segment.bytes.out)?;
     segment.ask(part_needs_bit(part), took.best_bit(bit, aside))?;
     Ok((took.is_there(aside), took.place()))

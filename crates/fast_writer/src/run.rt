@@ -1,11 +1,9 @@
 //! What is written while fields are read: bytes that stand in their best form are noted, and appended in one piece.
 
 ghost use Rattle.std.specs.Prelude.{◌≡◌, ◌≤◌, ◌++◌, ℕ, List, [], true, false, length, slice_range, vec_capacity, vec_len, ◌+◌, ◌-◌, ◌<◌};
-ghost use Rattle.fast_relay.specs.Best.{form_of};
 ghost use Rattle.fast_take.specs.Takes.{best_form, first_of, place_of};
 ghost use Rattle.fast_writer.specs.Runs.{IsRun, written};
 
-use fast_relay::Best;
 use fast_take::{Aside, Took};
 use std::alloc::Global;
 
@@ -82,35 +80,7 @@ impl Run {
         }
     }
 
-    /// Notes the best form of what was read, behind all that is written; answers false where memory is refused.
-    #[inline(always)]
-    pub(crate) fn put(&mut self, best: Best, bytes: &[u8]) -> bool
-        requires run { IsRun bytes.now self.now.place self.now }
-        requires first { best.first ≤ best.next }
-        requires within { best.next ≤ length bytes.now }
-        ensures written { result ≡ true → written bytes.now self.new ≡ written bytes.now self.old ++ form_of bytes.now best }
-        ensures run { result ≡ true → IsRun bytes.now best.next self.new }
-        ensures room { result ≡ false → vec_capacity self.old.out
-            < vec_len self.old.out + (self.old.place - self.old.from) + length (form_of bytes.now best) }
-    {
-        if best.first == self.place && best.removal.is_none() {
-            self.keep(best.next);
-            return true;
-        }
-        if !self.flush(bytes) {
-            return false;
-        }
-        if let Some(removal) = best.removal {
-            if self.out.push(removal).is_err() {
-                return false;
-            }
-        }
-        self.begin(best.first);
-        self.keep(best.next);
-        true
-    }
-
-    /// The same of a field that was taken.
+    /// Notes the best form of a field that was taken, behind all that is written; answers false where memory is refused.
     #[inline(always)]
     pub(crate) fn put_taken(&mut self, took: Took, aside: &Aside, bytes: &[u8]) -> bool
         requires run { IsRun bytes.now self.now.place self.now }
@@ -135,7 +105,11 @@ impl Run {
                 true
             }
             Took::Other(next) => {
-                if !self.flush(bytes) || self.out.extend_from_slice(&aside.made).is_err() {
+                if !self.flush(bytes) {
+                    return false;
+                }
+                // (mostly there are none, and to append them would be a call)
+                if !aside.made.is_empty() && self.out.extend_from_slice(&aside.made).is_err() {
                     return false;
                 }
                 self.begin(aside.first);

@@ -99,7 +99,7 @@ impl Receiver for Writer {
     #[inline(always)]
     fn begin<E: Entries>(
         &mut self,
-        alloc: Global,
+        _alloc: Global,
         entries: &mut E,
         identifier: &FieldPart,
         bit: bool,
@@ -110,7 +110,6 @@ impl Receiver for Writer {
         self.outer.clear();
         self.inner.begin(true);
         let (id, next) = relay_identifier(
-            alloc,
             entries,
             identifier,
             bit,
@@ -139,10 +138,15 @@ impl Receiver for Writer {
     }
 
     #[inline(always)]
+    fn reset_entries<E: Entries>(&mut self, entries: &mut E) {
+        entries.reset_into(&mut self.aside.spare);
+    }
+
+    #[inline(always)]
     #[tactic(auto, using(fast_walk::proofs::Telling::told_part))]
     fn field<E: Entries>(
         &mut self,
-        alloc: Global,
+        _alloc: Global,
         _name: &Name,
         _presence: Presence,
         entries: &mut E,
@@ -153,14 +157,14 @@ impl Receiver for Writer {
         at: usize,
     ) -> Result<usize, FieldFault> {
         let (inner, aside) = (&mut self.inner, &mut self.aside);
-        let (_there, next) = relay_part(alloc, entries, part, bit, level, bytes, at, inner, aside)?;
+        let (_there, next) = relay_part(entries, part, bit, level, bytes, at, inner, aside)?;
         Ok(next)
     }
 
     #[inline(always)]
     fn fields<'a, E: Entries>(
         &mut self,
-        alloc: Global,
+        _alloc: Global,
         entries: &mut E,
         rest: &'a [Flat],
         bits: &mut Bits,
@@ -169,13 +173,13 @@ impl Receiver for Writer {
         bytes: &[u8],
         at: usize,
     ) -> Result<Fields<'a>, AllocError> {
-        let inner = &mut self.inner;
+        let (inner, aside) = (&mut self.inner, &mut self.aside);
         match level {
             Level::Usual => take_fields(
-                alloc, entries, rest, bits, spare, Usually, bytes, at, inner,
+                entries, rest, bits, spare, Usually, bytes, at, inner, aside,
             ),
             Level::Strict => take_fields(
-                alloc, entries, rest, bits, spare, Strictly, bytes, at, inner,
+                entries, rest, bits, spare, Strictly, bytes, at, inner, aside,
             ),
         }
     }
@@ -183,7 +187,6 @@ impl Receiver for Writer {
     #[inline(always)]
     fn exponent<E: Entries>(
         &mut self,
-        alloc: Global,
         _name: &Name,
         _presence: Presence,
         entries: &mut E,
@@ -194,13 +197,12 @@ impl Receiver for Writer {
         at: usize,
     ) -> Result<(bool, usize), FieldFault> {
         let (inner, aside) = (&mut self.inner, &mut self.aside);
-        relay_part(alloc, entries, part, bit, level, bytes, at, inner, aside)
+        relay_part(entries, part, bit, level, bytes, at, inner, aside)
     }
 
     #[inline(always)]
     fn mantissa<E: Entries>(
         &mut self,
-        alloc: Global,
         entries: &mut E,
         part: &FieldPart,
         bit: bool,
@@ -209,14 +211,14 @@ impl Receiver for Writer {
         at: usize,
     ) -> Result<usize, FieldFault> {
         let (inner, aside) = (&mut self.inner, &mut self.aside);
-        let (_there, next) = relay_part(alloc, entries, part, bit, level, bytes, at, inner, aside)?;
+        let (_there, next) = relay_part(entries, part, bit, level, bytes, at, inner, aside)?;
         Ok(next)
     }
 
     #[inline(always)]
     fn begin_sequence<E: Entries>(
         &mut self,
-        alloc: Global,
+        _alloc: Global,
         _name: &Name,
         _presence: Presence,
         entries: &mut E,
@@ -236,17 +238,7 @@ impl Receiver for Writer {
                 Ok(()) => return Ok((count, at + 1)),
             }
         }
-        relay_count(
-            alloc,
-            entries,
-            part,
-            bit,
-            level,
-            bytes,
-            at,
-            inner,
-            &mut self.aside,
-        )
+        relay_count(entries, part, bit, level, bytes, at, inner, &mut self.aside)
     }
 
     #[inline(always)]

@@ -6,7 +6,7 @@ ghost use Rattle.fast_template.specs.TemplateSets.{keys_in};
 
 use crate::same::same;
 use fast_build::{Load, LoadCause, LoadFault};
-use fast_dictionary::{Entries, Entry, EntryRef, MapEntries, SlotEntries};
+use fast_dictionary::{Entries, Entry, EntryRef, MapEntries, SlotEntries, Spare};
 use fast_template::{Flat, Key, Name, Part, Scalar, Scope, TemplateSet, UnicodeText};
 use std::alloc::{AllocError, Global};
 use std::process::Abort;
@@ -97,6 +97,7 @@ fn change<E: Entries>(
 ) -> Tried
     requires first { IsTrue (E.serves entries.old first.now) }
     requires second { IsTrue (E.serves entries.old second.now) }
+    ensures { E.serves entries.new ≡ E.serves entries.old }
 {
     let copy = entries.copy(alloc)?;
     *entries.entry_mut(second)? = Entry::Undefined;
@@ -110,6 +111,32 @@ fn change<E: Entries>(
     Ok(())
 }
 
+// Resets a text into spare memory, and asks whether a vector is taken from it that has the text's.
+fn spare<E: Entries>(
+    rt: &impl Abort,
+    alloc: Global,
+    entries: &mut E,
+    key: &Key,
+    is_kept: bool,
+) -> Tried
+    requires { IsTrue (E.serves entries.old key.now) }
+    ensures { E.serves entries.new ≡ E.serves entries.old }
+{
+    let mut spare = Spare::new(alloc);
+    put_text(rt, alloc, entries, key)?;
+    entries.reset_into(&mut spare);
+    is(rt, entries, key, Wanted::Undefined);
+    let vector = spare.take();
+    same(rt, vector.len(), 0);
+    if is_kept && vector.capacity() < TEXT.len() {
+        // there was no memory to keep it in
+        return Err(AllocError);
+    }
+    same(rt, vector.capacity() > 0, is_kept);
+    same(rt, spare.take().capacity(), 0);
+    Ok(())
+}
+
 // Walks over entries: puts, copies, changes and resets those of two keys.
 fn walk<E: Entries>(
     rt: &impl Abort,
@@ -117,12 +144,14 @@ fn walk<E: Entries>(
     mut entries: E,
     first: &Key,
     second: &Key,
+    is_kept: bool,
 ) -> Tried
     requires first { IsTrue (E.serves entries first.now) }
     requires second { IsTrue (E.serves entries second.now) }
 {
     fill(rt, alloc, &mut entries, first, second)?;
-    change(rt, alloc, &mut entries, first, second)
+    change(rt, alloc, &mut entries, first, second)?;
+    spare(rt, alloc, &mut entries, first, is_kept)
 }
 
 #[test]
@@ -135,6 +164,7 @@ fn entries_in_a_map(rt: HostRuntime) -> Tried {
         MapEntries::new(rt.alloc()),
         &first,
         &second,
+        false,
     )
 }
 
@@ -175,7 +205,14 @@ fn key_at(set: &TemplateSet, place: usize) -> Option<&Key>
 fn walk_slots(rt: &impl Abort, alloc: Global, set: &TemplateSet) -> Tried {
     match (key_at(set, 0), key_at(set, 1)) {
         (Some(first), Some(second)) => {
-            walk(rt, alloc, SlotEntries::new(alloc, set)?, first, second)
+            walk(
+                rt,
+                alloc,
+                SlotEntries::new(alloc, set)?,
+                first,
+                second,
+                true,
+            )
         }
         _ => panic!(rt; "other fields"),
     }

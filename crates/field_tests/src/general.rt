@@ -5,6 +5,7 @@ use crate::fields::Shape::{Mandatory, Optional};
 use crate::fields::Value::{Ascii, Bytes, Decimal, U32, U64, Unicode};
 use crate::fields::{Kept, Shape, are_such, is_kept};
 use crate::same::same;
+use fast_dictionary::Spare;
 use fast_field::{FieldFault, FieldRefusal, Level, find_field, write_found};
 use fast_template::Kind::{UInt32, UInt64};
 use fast_template::Operator::{Copy, Delta, Increment, Tail};
@@ -30,7 +31,16 @@ fn is_written(rt: &impl Abort, alloc: Global, instr: &FieldPart, row: &Row) -> T
     if !are_such(rt, instr, &entry) {
         return Ok(());
     }
-    let found = match find_field(alloc, instr, entry.view(), true, Level::Usual, row.2, 0) {
+    let mut spare = Spare::new(alloc);
+    let found = match find_field(
+        &mut spare,
+        instr,
+        entry.view(),
+        true,
+        Level::Usual,
+        row.2,
+        0,
+    ) {
         Ok((found, next)) => {
             same(rt, next, row.2.len());
             found
@@ -38,7 +48,7 @@ fn is_written(rt: &impl Abort, alloc: Global, instr: &FieldPart, row: &Row) -> T
         Err(fault) => return none(rt, fault == FieldFault::Memory),
     };
     let mut out = Vec::new(alloc);
-    match write_found(alloc, instr, &mut entry, found, &mut out) {
+    match write_found(&mut spare, instr, &mut entry, found, &mut out) {
         Ok((_, bit)) => {
             same(rt, (bit, out.as_slice()), row.3);
             is_kept(rt, alloc, &entry, row.4)

@@ -12,7 +12,7 @@ use crate::fields::Shape::{Exponent, Initial, Mandatory, Mantissa, Optional};
 use crate::fields::Value::{Ascii, Bytes, Decimal, I32, I64, U32, U64, Unicode};
 use crate::fields::{Kept, Shape, are_such, is_kept};
 use crate::same::same;
-use fast_dictionary::Entry;
+use fast_dictionary::{Entry, Spare};
 use fast_relay::Judged::{Behind, BehindTwo, Given, Stands};
 use fast_relay::{Judged, judge_field};
 use fast_template::Kind::{Int32, Int64, UInt32, UInt64};
@@ -102,7 +102,7 @@ fn is_judged_so(rt: &impl Abort, alloc: Global, instr: &FieldPart, row: Row) -> 
     }
     let answer = judge_field(
         instr.part,
-        alloc,
+        &mut Spare::new(alloc),
         instr,
         &mut entry,
         bytes,

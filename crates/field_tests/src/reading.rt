@@ -7,7 +7,7 @@ use crate::fields::Shape::{Exponent, Initial, Length, Mandatory, Optional};
 use crate::fields::Value::{Ascii, Bytes, Decimal, I32, I64, Letters, U32, Unicode};
 use crate::fields::{Kept, Shape, Value, is_kept, scalar_of};
 use crate::same::same;
-use fast_dictionary::{Entry, EntryRef};
+use fast_dictionary::{Entry, EntryRef, Spare};
 use fast_field::FieldFault::{D2, D4, D5, D6, D7, Limit, NeedMore, R1, R2, R6, R9};
 use fast_field::{FieldFault, Found, Level, find_field, next_entry, read_field, read_in_place};
 use fast_template::Kind::{Int32, Int64, UInt32, UInt64};
@@ -82,7 +82,7 @@ fn found_in_place(
     level: Level,
     bytes: &[u8],
 ) -> Tried<ReadInPlace> {
-    match read_in_place(alloc, instr, entry, bit, level, bytes, 0) {
+    match read_in_place(&mut Spare::new(alloc), instr, entry, bit, level, bytes, 0) {
         Ok((found, next)) => {
             let value = found.into_value(alloc, instr, entry.view())?;
             Ok(Ok((value, next)))
@@ -303,7 +303,15 @@ fn copy_of(
 
 // A copy of what is read under bit 0 on an entry.
 fn copied(alloc: Global, instr: &FieldPart, kept: EntryRef) -> Tried<Option<Scalar>> {
-    match find_field(alloc, instr, kept, false, Level::Usual, &[], 0) {
+    match find_field(
+        &mut Spare::new(alloc),
+        instr,
+        kept,
+        false,
+        Level::Usual,
+        &[],
+        0,
+    ) {
         Ok((found, _)) => copy_of(alloc, &found, instr, kept),
         Err(_) => Ok(None),
     }

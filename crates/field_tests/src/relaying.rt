@@ -6,7 +6,7 @@ use crate::fields::Value::{Ascii, Bytes, Decimal, U32, Unicode};
 use crate::fields::{Kept, Shape, is_kept};
 use crate::judged::holds_scalar;
 use crate::same::same;
-use fast_dictionary::Entry;
+use fast_dictionary::{Entry, Spare};
 use fast_relay::{Best, judge_other};
 use fast_template::Kind::UInt32;
 use fast_template::Operator::{Constant, Copy, Default, Delta, Increment, Plain, Tail};
@@ -30,7 +30,8 @@ fn answer(alloc: Global, of: Shape, before: Kept, bytes: &[u8]) -> Tried<(Option
     if !holds_scalar(&entry) {
         return Err(AllocError);
     }
-    let best = judge_other(alloc, &instr, &mut entry, bytes, bytes.len().min(1));
+    let spare = &mut Spare::new(alloc);
+    let best = judge_other(spare, &instr, &mut entry, bytes, bytes.len().min(1));
     Ok((best, entry))
 }
 

@@ -47,16 +47,7 @@ fn gives(
     if !are_such(rt, instr, &entry) {
         return Ok(());
     }
-    let took = match take(
-        alloc,
-        instr,
-        &mut entry,
-        true,
-        Level::Usual,
-        bytes,
-        at,
-        &mut aside,
-    ) {
+    let took = match take(instr, &mut entry, true, Level::Usual, bytes, at, &mut aside) {
         Ok(took) => took,
         Err(fault) => {
             same(rt, fault, FieldFault::Memory);

@@ -97,7 +97,7 @@ pub(crate) fn is_taken(
         same(rt, false, true);
         return Ok((entry, None));
     }
-    let taken = match take(alloc, instr, &mut entry, bit, level, bytes, at, aside) {
+    let taken = match take(instr, &mut entry, bit, level, bytes, at, aside) {
         Err(FieldFault::Memory) => return Err(AllocError),
         taken => taken,
     };

@@ -12,7 +12,7 @@ ghost use Rattle.fast_value.specs.declared.kind.Part.TheVariants as part_type;
 use crate::fields::{Value, part_of};
 use crate::judged::{applies_to, has_kind, holds_scalar, is_scalar};
 use crate::same::same;
-use fast_dictionary::Entry;
+use fast_dictionary::{Entry, Spare};
 use fast_field::{FieldFault, FieldRefusal, Level, Passed, read_field, write_in_place};
 use fast_relay::{Best, best_of, judge_field, judge_other, pass_quickly};
 use fast_template::{FieldPart, Initial, Kind, Operator, Part, Presence, Scalar, part_needs_bit};
@@ -154,10 +154,11 @@ fn quickly(
     if !holds_scalar(entry) {
         return None;
     }
-    let judged = judge_field(which, alloc, instr, entry, bytes, at);
+    let mut spare = Spare::new(alloc);
+    let judged = judge_field(which, &mut spare, instr, entry, bytes, at);
     match best_of(judged, bytes, at) {
         Some(best) => Some(best),
-        None if holds_scalar(entry) => judge_other(alloc, instr, entry, bytes, at),
+        None if holds_scalar(entry) => judge_other(&mut spare, instr, entry, bytes, at),
         None => None,
     }
 }

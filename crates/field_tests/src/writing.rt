@@ -12,7 +12,7 @@ use crate::fields::Shape::{Exponent, Initial, Mandatory, Optional};
 use crate::fields::Value::{Ascii, Bytes, Decimal, I32, Letters, U32, U64, Unicode, Wide};
 use crate::fields::{Kept, Shape, Value, are_such, scalar_of};
 use crate::same::same;
-use fast_dictionary::{Entry, EntryRef};
+use fast_dictionary::{Entry, EntryRef, Spare};
 use fast_field::FieldRefusal::{D3, D4, D6, Limit, Mismatch, NotConstant, R1, TooShort};
 use fast_field::{
     FieldFault, FieldRefusal, Found, Level, Plan, next_entry, plan_field, read_field, write_field,
@@ -167,7 +167,7 @@ fn put_where_found(
     let mut out = Vec::new(alloc);
     let mut entry = entry.view().copy(alloc)?;
     let found = found(alloc, value)?;
-    let bit = match write_found(alloc, instr, &mut entry, found, &mut out) {
+    let bit = match write_found(&mut Spare::new(alloc), instr, &mut entry, found, &mut out) {
         Ok((_, bit)) => Ok(bit),
         Err(refusal) => Err(refusal),
     };

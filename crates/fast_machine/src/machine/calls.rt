@@ -717,7 +717,7 @@ impl<'a, R: Receiver, E: Entries> Machine<'a, R, E> {
         Fault { cause, place }
     }
 
-    /// Begins a new stream, with all entries undefined; the receiver stays. Takes no memory.
+    /// Begins a new stream, with all entries undefined; the receiver stays. Fails for no want of memory.
     #[tactic(auto, using(crate::proofs::Calls::kept_first))]
     pub fn reset(&mut self)
         ensures same { IsSameStream self.old self.new }
@@ -729,7 +729,7 @@ impl<'a, R: Receiver, E: Entries> Machine<'a, R, E> {
             → R.stands self.old.receiver (templates_in self.old.traversal.set.now) before
             finite.empty → Follows self.new before [] [] }
     {
-        self.entries.reset();
+        self.receiver.reset_entries(&mut self.entries);
         self.traversal.reset();
         self.held.clear();
         self.waiting = 0;

@@ -1,4 +1,4 @@
-use Rattle.std.proofs.Common.{◌≡◌, ◌-◌, ◌+◌, arith, length, slice_range}
+use Rattle.std.proofs.Common.{◌≡◌, ◌-◌, ◌+◌, arith, length}
 use Rattle.fast_field.proofs.Agreeing.{suffix_none, suffix_on}
 use Rattle.fast_field.proofs.cut.agreeing_end.Goals as goal
 

@@ -14,6 +14,6 @@ returns-in_err-took g c =
 pub returns : goal.returns
 returns g c =
     let h = c.in_ok-took.ensures in
-    let v = value_taken c.args.part.now c.take_left_out.new.entry false c.args.bytes.now c.args.aside.now c.in_ok-took.took in
-    let took = taken_as c.args.level c.args.part.now c.args.entry.now c.take_left_out.new.entry false c.args.bytes.now c.args.at c.args.aside.now c.in_ok-took.took v c.place.result h refl c.place.ensures in
+    let v = value_taken c.args.part.now c.take_left_out.new.entry false c.args.bytes.now c.take_left_out.new.aside c.in_ok-took.took in
+    let took = taken_as c.args.level c.args.part.now c.args.entry.now c.take_left_out.new.entry false c.args.bytes.now c.args.at c.take_left_out.new.aside c.in_ok-took.took v c.place.result h refl c.place.ensures in
     tells c.args.bytes.now c.args.at c.place.result c.args.line.now c.tell.new.self c.type_inv.bytes c.requires.next c.requires.bit took.0 took.1 (c.value_left_out-value.ensures c.args.bytes.now) c.in_ok-tell.ensures

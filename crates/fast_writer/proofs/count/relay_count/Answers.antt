@@ -1,7 +1,7 @@
 use Rattle.fast_writer.proofs.Common.{◌≡◌, arith, ap, is_ok, sym, ◌∙◌, err_from_is_err_and, bytes_from, level_of, RelaysPart, length_of, subst, Kind, IfSome, IsTrue, is_of}
 use Rattle.fast_take.specs.Takes.{place_of, value_taken}
-use Rattle.fast_take.proofs.Telling.{best_lower}
-use Rattle.fast_writer.proofs.Relays.{count_length, relays_under, took_relayed, took_stops}
+use Rattle.fast_take.proofs.Telling.{best_lower, taken_as}
+use Rattle.fast_writer.proofs.Relays.{count_length, relays_under, taken_relayed, took_stops}
 use Rattle.fast_writer.proofs.SpeltParts.{appended_kinds}
 use Rattle.fast_writer.proofs.count.relay_count.Goals as goal
 
@@ -22,7 +22,7 @@ returns-clause-relays g c =
     let h = c.in_ok-took.ensures.taken in
     let v = value_taken part new c.args.bit bytes a t in
     let l = level_of c.args.segment.now in
-    let relayed = took_relayed c.args.level part old new c.args.bit bytes l.bytes at a t h in
+    let relayed = taken_relayed l.bytes (taken_as c.args.level part old new c.args.bit bytes at a t h) in
     let kinds = appended_kinds c.requires.part.typed relayed.form in
     let lower = best_lower c.args.level part old new c.args.bit bytes at a t c.requires.bit c.requires.part.typed.default_has_value (bytes_from bytes at (λ k. omega (arith, c.type_inv.bytes k))) h in
     let relays : RelaysPart c.args.level part (g.E.Entries.contents c.args.entries.now) (g.E.Entries.contents (c.entry_mut.follows.lender new)) c.args.bit v bytes at (place_of t) l (level_of c.ask.new.self) =

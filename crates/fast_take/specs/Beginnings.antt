@@ -1,6 +1,9 @@
 -- Fields that the strict level reads as the usual one does, told by two bytes of a number. (Own.)
 use Rattle.std.specs.Prelude.{◌≡◌, ◌≤◌, ℕ, Bool, false, List, [], ◌∷◌}
-use Rattle.fast_writer.specs.Prelude.{Kind, Operator, overlong_number, is_unsigned}
+use Rattle.fast_value.specs.declared.kind.Kind.{Kind}
+use Rattle.fast_value.specs.declared.kind.Operator.{Operator}
+use Rattle.fast_field.specs.Spelled.{overlong_number}
+use Rattle.fast_field.specs.Values.{is_unsigned}
 
 -- no entity that begins with these two bytes is longer than its number needs
 abbrev pub BeginsShort : Bool → List ℕ → Type 0

@@ -1,6 +1,32 @@
 -- A field whose numbers show by two bytes that they are not overlong is read at the strict level as at the usual one.
-use Rattle.fast_writer.proofs.Common.{◌≡◌, ◌≤◌, ℕ, Bool, true, false, nat_le, List, [], ◌∷◌, ◌++◌, Result, Ok, Err, refl, sym, arith, ◌⊎◌, inl, inr, ℤ, Option, if◌then◌else◌, le-leb, signed_of, verdict, received_signed, ◌>>=◌, entity_at, signed_at, signed_nullable_at, WireFault, Usual, Strict, Nullable, Null, Value, Kind, Operator, Part, Presence, Mandatory, Optional, FieldPart, Scalar, Entry, FieldFault, ReadsAsUsual, field_fault, in_field, unless_null, integer_at, integer_usually_at, mantissa_entity_at, mantissa_behind, mantissa_delta_behind, integer_spelled_at, decimal_spelled_at, spelled_at, integer_delta_at, decimal_delta_at, delta_at, whole_at, row_at, field_at, overlong_number, integer_starts, mantissa_starts, integer_as_usual, BeginsField, BeginsShort, BeginsShortBehind, BeginsNumber}
+use Rattle.std.proofs.Common.{◌≡◌, ◌≤◌, ℕ, Bool, true, false, nat_le, List, [], ◌∷◌, ◌++◌, Result, Ok, Err, refl, sym, arith, ◌⊎◌, inl, inr, ℤ, Option, if◌then◌else◌}
+use Rattle.std.proofs.lemmas.Bool.{le-leb}
+use Rattle.fast_wire.specs.Integer.{signed_of}
+use Rattle.fast_wire.specs.Level.{verdict}
+use Rattle.fast_wire.specs.Nullable.{received_signed}
+use Rattle.fast_wire.specs.Reading.{◌>>=◌}
+unfoldable use Rattle.fast_wire.specs.Reading.{entity_at, signed_at, signed_nullable_at}
+use Rattle.fast_wire.specs.declared.fault.WireFault.{WireFault}
+use Rattle.fast_wire.specs.declared.level.Level.TheVariants.{Usual, Strict}
+use Rattle.fast_wire.specs.declared.nullable.Nullable.{Nullable}
+use Rattle.fast_wire.specs.declared.nullable.Nullable.TheVariants.{Null, Value}
+use Rattle.fast_value.specs.declared.kind.Kind.{Kind}
+use Rattle.fast_value.specs.declared.kind.Operator.{Operator}
+use Rattle.fast_value.specs.declared.kind.Part.{Part}
+use Rattle.fast_value.specs.declared.kind.Presence.{Presence}
+use Rattle.fast_value.specs.declared.kind.Presence.TheVariants.{Mandatory, Optional}
+use Rattle.fast_value.specs.declared.scalar.Scalar.{Scalar}
+use Rattle.fast_template.specs.declared.resolved.FieldPart.{FieldPart}
+use Rattle.fast_dictionary.specs.declared.entry.Entry.{Entry}
+use Rattle.fast_field.specs.AsUsual.{ReadsAsUsual}
+use Rattle.fast_field.specs.Faults.{field_fault}
+use Rattle.fast_field.specs.FieldReading.{in_field, integer_usually_at, mantissa_entity_at, unless_null}
+unfoldable use Rattle.fast_field.specs.FieldReading.{decimal_delta_at, decimal_spelled_at, delta_at, field_at, integer_at, integer_delta_at, integer_spelled_at, mantissa_behind, mantissa_delta_behind, row_at, spelled_at, whole_at}
+use Rattle.fast_field.specs.Spelled.{overlong_number}
 use Rattle.fast_field.specs.Values.{is_unsigned}
+use Rattle.fast_field.specs.declared.fault.FieldFault.{FieldFault}
+use Rattle.fast_field.proofs.FieldsBehave.{integer_as_usual, integer_starts, mantissa_starts}
+use Rattle.fast_take.specs.Beginnings.{BeginsField, BeginsNumber, BeginsShort, BeginsShortBehind}
 
 -- ---- judging an entity that begins with two such bytes changes nothing
 

@@ -3,7 +3,7 @@
 ghost use Rattle.std.specs.Prelude.{◌≡◌, ◌≤◌, length, drop, true};
 ghost use Rattle.fast_wire.specs.declared.level.Level.TheVariants.{Strict};
 ghost use Rattle.fast_field.specs.AsUsual.{ReadsAsUsual};
-ghost use Rattle.fast_writer.specs.Beginnings.{BeginsNumber, BeginsShort, BeginsShortBehind};
+ghost use Rattle.fast_take.specs.Beginnings.{BeginsNumber, BeginsShort, BeginsShortBehind};
 
 use fast_field::reads_as_usual;
 use fast_relay::is_unsigned;

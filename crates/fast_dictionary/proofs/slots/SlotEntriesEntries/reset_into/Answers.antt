@@ -1,0 +1,5 @@
+use Rattle.fast_dictionary.proofs.SlotMaps.{undefined_is_empty}
+use Rattle.fast_dictionary.proofs.slots.SlotEntriesEntries.reset_into.Goals as goal
+
+pub returns-clause-cleared : goal.returns-clause-cleared
+returns-clause-cleared c = undefined_is_empty c.args.self.now.set.now _ c.undefine_into.ensures.undefined
