@@ -10,11 +10,14 @@ full: 2,000 datagrams that are filled up to 1,300 bytes with refreshes of one to
 refresh: 20,000 packets of one such refresh;
 flat: 20,000 packets of one to three messages of four templates, in which each field is sent, a string among four.
 
+A fourth feed, texts, has packets that put strings into undefined entries in each way: whole, as a difference, as a tail, as
+an initial value, and NULL behind one. Its line says how often memory is asked for in 2,000 packets, and in ten times as many.
+
 They stand over templates with 45 entries in all, and over these and a hundred more that no message names, with 1,945. A
 line of the table has `check`'s instructions (by valgrind), without those that reading the templates takes, in millions, and
 the greatest memory of ten times as many packets against that of these. The status is 1 where the two read other messages,
 where the packets that are full take more than 1.1 of what blocks take, and where packets take more than 1.2 with 1,945
-entries of what they take with 45, or more memory if they are more.
+entries of what they take with 45, or more memory if they are more, or ask for memory packet by packet.
 """
 import json
 import os
@@ -152,6 +155,63 @@ def recording(packet, packets):
     return bytes(made)
 
 
+def text_templates():
+    """Strings that are kept, of each type and in each way that puts one into an undefined entry."""
+    kept = [
+        field("string", "Symbol", operator="copy"),
+        field("string", "Order", operator="delta"),
+        field("string", "Trader", operator="tail"),
+        field("string", "Venue", operator="copy", value="XETR"),
+        field("string", "Note", operator="copy", presence="optional"),
+        field("string", "Name", charset="unicode", operator="copy"),
+        field("string", "Owner", charset="unicode", operator="delta"),
+        field("byteVector", "Tag", operator="tail"),
+        field("byteVector", "Mark", operator="copy"),
+    ]
+    return [{"name": "Texts", "id": 1, "dictionary": "template", "instructions": kept}]
+
+
+def vector(units):
+    return speed.unsigned(len(units)) + units
+
+
+def text_packet(chance, number):
+    """Two messages: the first sends all but the venue, the second what was there and more of it, and no note."""
+    text = f"{chance.randrange(10**8):08}"
+    units = text.encode()
+    behind, null = speed.signed(0), bytes([0x80])
+    sent = [speed.text(text), behind + speed.text(text), speed.text(text), speed.text(text)]
+    sent += [vector(units), behind + vector(units), vector(units), vector(units)]
+    # the identifier's bit, and those of symbol, trader, venue, note, name, tag and mark
+    first = speed.presence([1, 1, 1, 0, 1, 1, 1, 1]) + speed.unsigned(1) + b"".join(sent)
+    more = [behind + speed.text("Z"), null, behind + vector(b"Z")]
+    return first + speed.presence([0, 0, 0, 0, 1, 0, 0, 0]) + b"".join(more)
+
+
+def asked(words, path):
+    """How often memory is asked for."""
+    run = ["valgrind", "--run-libc-freeres=no", *words, path]
+    ran = subprocess.run(run, stdout=subprocess.DEVNULL, stderr=subprocess.PIPE, text=True, check=True)
+    return int(re.search(r"total heap usage: ([\d,]+) allocs", ran.stderr).group(1).replace(",", ""))
+
+
+def measure_asked(program, folder):
+    """Prints how often memory is asked for by packets with strings; whether that does not grow with them."""
+    text, path = os.path.join(folder, "texts.json"), os.path.join(folder, "texts")
+    with open(text, "w") as file:
+        file.write(json.dumps({"templates": text_templates()}))
+    good = True
+    for command in ("check", "canon", "show"):
+        times = []
+        for count in (PACKETS // 10, PACKETS):
+            with open(path, "wb") as file:
+                file.write(recording(text_packet, count))
+            times.append(asked([program, command, "--packets", "--templates", text], path))
+        print(f"texts, `{command}`: memory asked for {times[0]} and {times[1]} times", flush=True)
+        good &= times[1] < times[0] + 100
+    return good
+
+
 FEEDS = {
     "full": (refresh_templates, full_packet, PACKETS // 10),
     "refresh": (refresh_templates, refresh_packet, PACKETS),
@@ -205,6 +265,7 @@ def main():
         for feed in FEEDS:
             well, times = measure(program, feed, folder)
             good &= well and (feed != "full" or times <= 1.1)
+        good &= measure_asked(program, folder)
     sys.exit(0 if good else "packets cost more than they may, or are read as other messages")
 
 
