@@ -1,6 +1,6 @@
 #!/usr/bin/env python3
 """Holds the program to how much it may take of input that was made to cost much: memory, and of strings that come in
-few bytes at a time, processor time.
+few bytes at a time, processor time; and packets to asking for no memory each.
 
 usage: bench/bounds.py [PROGRAM] [--long]
 
@@ -16,6 +16,8 @@ import os
 import subprocess
 import sys
 import tempfile
+
+import packets
 
 TOP = os.path.join(os.path.dirname(os.path.abspath(__file__)), "..")
 
@@ -262,6 +264,9 @@ def main():
             at_once, trickling, in_short = (seconds for _, seconds in runs)
             print(f"| {name} | {at_once:.2f} | {trickling:.2f} | {in_short:.2f} |")
             are_enough.append(not any(status for status, _ in runs) and max(at_once, trickling) <= TIMES * in_short + MORE)
+    print()
+    with tempfile.TemporaryDirectory() as folder:
+        are_enough += packets.measure_asked(program, folder, 200)
     failed = are_enough.count(False)
     print(f"{are_enough.count(True)} passed, {failed} failed")
     return failed > 0

@@ -11,7 +11,7 @@ refresh: 20,000 packets of one such refresh;
 flat: 20,000 packets of one to three messages of four templates, in which each field is sent, a string among four.
 
 A fourth feed, texts, has packets that put strings into undefined entries in each way: whole, as a difference, as a tail, as
-an initial value, and NULL behind one. Its line says how often memory is asked for in 2,000 packets, and in ten times as many.
+an initial value, and NULL behind one. Its lines say how often memory is asked for by 2,000 packets, and by ten times as many.
 
 They stand over templates with 45 entries in all, and over these and a hundred more that no message names, with 1,945. A
 line of the table has `check`'s instructions (by valgrind), without those that reading the templates takes, in millions, and
@@ -27,10 +27,13 @@ import subprocess
 import sys
 import tempfile
 
+import refused
 import speed
 
 PACKETS = 20_000
 FIELDS = 11
+# how often memory may be asked for where buffers grow with a recording
+GROWTHS = 20
 KINDS = ("uInt32", "string", "int64", "uInt64")
 
 
@@ -188,27 +191,24 @@ def text_packet(chance, number):
     return first + speed.presence([0, 0, 0, 0, 1, 0, 0, 0]) + b"".join(more)
 
 
-def asked(words, path):
-    """How often memory is asked for."""
-    run = ["valgrind", "--run-libc-freeres=no", *words, path]
-    ran = subprocess.run(run, stdout=subprocess.DEVNULL, stderr=subprocess.PIPE, text=True, check=True)
-    return int(re.search(r"total heap usage: ([\d,]+) allocs", ran.stderr).group(1).replace(",", ""))
-
-
-def measure_asked(program, folder):
-    """Prints how often memory is asked for by packets with strings; whether that does not grow with them."""
+def measure_asked(program, folder, packets):
+    """Prints how often packets with strings ask for memory, and ten times as many; for each command, whether that is as often."""
+    library = refused.library_in(folder)
     text, path = os.path.join(folder, "texts.json"), os.path.join(folder, "texts")
     with open(text, "w") as file:
         file.write(json.dumps({"templates": text_templates()}))
-    good = True
+    good = []
     for command in ("check", "canon", "show"):
-        times = []
-        for count in (PACKETS // 10, PACKETS):
+        asked = []
+        for count in (packets, 10 * packets):
             with open(path, "wb") as file:
                 file.write(recording(text_packet, count))
-            times.append(asked([program, command, "--packets", "--templates", text], path))
-        print(f"texts, `{command}`: memory asked for {times[0]} and {times[1]} times", flush=True)
-        good &= times[1] < times[0] + 100
+            words = [program, command, "--packets", "--templates", text, path]
+            end, times, _ = refused.runs(words, library, [0])[0]
+            asked.append((end, times))
+        few, many = (times for _, times in asked)
+        print(f"{packets:,} packets with strings, `{command}`: memory asked for {few} times, by ten times as many {many}", flush=True)
+        good.append(all(end == refused.WELL for end, _ in asked) and many <= few + GROWTHS)
     return good
 
 
@@ -265,7 +265,7 @@ def main():
         for feed in FEEDS:
             well, times = measure(program, feed, folder)
             good &= well and (feed != "full" or times <= 1.1)
-        good &= measure_asked(program, folder)
+        good &= all(measure_asked(program, folder, PACKETS // 10))
     sys.exit(0 if good else "packets cost more than they may, or are read as other messages")
 
 

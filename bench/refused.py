@@ -28,20 +28,28 @@ SAID = ("rror: AllocError", "rror: Memory", "rror: Fault { cause: Memory", "rror
         "rror: AllocFailed")
 
 
-def runs(program, test, library, refused):
-    """How a test ends with each of these allocations refused, how many it asked for then, and its marks: by number."""
+def library_in(folder):
+    """Makes what is preloaded."""
+    library = os.path.join(folder, "refused.so")
+    source = os.path.join(os.path.dirname(os.path.abspath(__file__)), "refused.c")
+    subprocess.run(["cc", "-shared", "-fPIC", "-O1", "-o", library, source, "-ldl"], check=True)
+    return library
+
+
+def runs(words, library, refused):
+    """How a run ends with each of these allocations refused, how many it asked for then, and its marks: by number."""
     reader, writer = os.pipe()
     os.set_inheritable(writer, True)
     # (of many in turn their list would be too long for an environment)
     listed = f"{refused[0]}-{refused[-1]}" if isinstance(refused, range) else " ".join(map(str, refused))
     environment = {"LD_PRELOAD": library, "REFUSED": listed, "SAID": "\n".join(SAID),
                    "JOBS": str(os.cpu_count()), "TOLD": str(writer)}
-    started = subprocess.Popen([program, test], env=environment, pass_fds=[writer])
+    started = subprocess.Popen(words, env=environment, pass_fds=[writer])
     os.close(writer)
     with os.fdopen(reader) as told:
         lines = [line.split() for line in told]
     if started.wait():
-        sys.exit(f"{program} {test}: could not be run with allocations refused")
+        sys.exit(f"{' '.join(words)}: could not be run with allocations refused")
     return {int(number): (end, int(asked), int(marks)) for number, end, asked, marks in lines}
 
 
@@ -64,18 +72,16 @@ def main():
     here = os.path.dirname(os.path.abspath(__file__))
     passed = failed = 0
     with tempfile.TemporaryDirectory() as folder:
-        library = os.path.join(folder, "refused.so")
-        source = os.path.join(here, "refused.c")
-        subprocess.run(["cc", "-shared", "-fPIC", "-O1", "-o", library, source, "-ldl"], check=True)
+        library = library_in(folder)
         for crate in words.crates:
             program = os.path.join(here, f"../crates/{crate}/out/{crate}_tests")
             listed = subprocess.run([program, "--list"], capture_output=True, text=True, check=True).stdout.splitlines()
             for test in [line.removesuffix(": test") for line in listed if line.endswith(": test")]:
                 if words.only not in test or any(word in test for word in words.skip):
                     continue
-                end, asked, marks = runs(program, test, library, [0])[0]
+                end, asked, marks = runs([program, test], library, [0])[0]
                 refused = numbers(asked, max(words.most, MOST_BEHIND_MARKS) if marks else words.most)
-                ended = runs(program, test, library, refused) if refused else {}
+                ended = runs([program, test], library, refused) if refused else {}
                 ends = [ended[number][0] for number in refused]
                 counts = collections.Counter(ends)
                 others = [(number, it) for number, it in zip(refused, ends) if it not in (WELL, WANT_OF_MEMORY)]
