@@ -116,7 +116,14 @@ impl Receiver for Builder {
 
     ghost keeps = { λ b set ms d. ms ≡ map content_of b.whole.items };
 
-    ghost room = { λ w around left. true };
+    ghost awaits = { λ w around left. true };
+
+    ghost begun = { λ w bits. true };
+
+    #[inline(always)]
+    fn open(&mut self, _map: &[u8]) -> Result<(), AllocError> {
+        Ok(())
+    }
 
     fn begin<E: Entries>(
         &mut self,
@@ -258,7 +265,7 @@ impl Receiver for Builder {
         _name: &Name,
         _number: u32,
         _optional: bool,
-        _own_map: bool,
+        _map: &[u8],
         size: usize,
     ) -> Result<(), AllocError> {
         let inner = Vec::with_capacity(alloc, size)?;
@@ -284,7 +291,7 @@ impl Receiver for Builder {
         &mut self,
         alloc: Global,
         _number: u32,
-        _own_map: bool,
+        _map: &[u8],
         size: usize,
     ) -> Result<(), AllocError> {
         let inner = Vec::with_capacity(alloc, size)?;

@@ -1,7 +1,7 @@
 -- What a machine keeps of its keys and parts has one proof at most.
 use Rattle.std.specs.Prelude.{ℕ, zero, suc, Bool, List, [], ◌∷◌}
 use Rattle.std.specs.Coded.{×_prop, Π_prop, →_prop, Unit-prop, le_prop}
-use Rattle.fast_machine.specs.Prelude.{Key, Instruction, Instructions, group_of, sequence_of, no_instructions, then_instruction, TemplateList, Stage, Traversal, Walk, Inside, in_group, in_sequence, Waiting, Next, at_element, true-prop, IsTold-prop, short-prop, IsServed, AreServed, IsNextServed, IsInsideServed, AreAllServed, Dictionary, HasRoomAt, ServesAll, IsReadyAt}
+use Rattle.fast_machine.specs.Prelude.{Key, Instruction, Instructions, group_of, sequence_of, no_instructions, then_instruction, TemplateList, Stage, Traversal, Walk, Inside, in_group, in_sequence, Waiting, Next, at_element, true-prop, IsTold-prop, short-prop, IsServed, AreServed, IsNextServed, IsInsideServed, AreAllServed, Dictionary, IsAwaitedAt, ServesAll, IsReadyAt}
 use Rattle.std.proofs.Props.{props}
 use Rattle.fast_machine.specs.Ends.{IsLong}
 
@@ -34,9 +34,10 @@ pub IsReadyAt-prop : (at : Stage) (serves : Key → Bool) (t : Traversal) → Is
 IsReadyAt-prop Stage.Body serves t = hlevel (list-prop, next-prop, around-prop)
 IsReadyAt-prop at serves t = hlevel props
 
-pub HasRoomAt-prop : (room : List (List Bool) → List Bool → Bool) (at : Stage) (w : Walk) → IsProp (HasRoomAt room at w)
-HasRoomAt-prop room Stage.Body w = true-prop _
-HasRoomAt-prop room at w = hlevel (props, le_prop)
+pub IsAwaitedAt-prop : (awaits : List (List Bool) → List Bool → Bool) (begun : List Bool → Bool) (at : Stage) (w : Walk) → IsProp (IsAwaitedAt awaits begun at w)
+IsAwaitedAt-prop awaits begun Stage.Identifier w = true-prop _
+IsAwaitedAt-prop awaits begun Stage.Body w = true-prop _
+IsAwaitedAt-prop awaits begun at w = hlevel (props, le_prop)
 
 pub IsLong-prop : (end : ℕ) (t : Traversal) (d : Dictionary) (held : List ℕ) (until_stop : Bool) (number : ℕ) → IsProp (IsLong end t d held until_stop number)
 IsLong-prop zero t d held until_stop number = Unit-prop

@@ -24,7 +24,7 @@ pub use Rattle.fast_walk.specs.Messages.{CanRead, IsSameSet}
 pub use Rattle.fast_walk.specs.OneProof.{IsTold-prop, short-prop, true-prop}
 pub use Rattle.fast_walk.specs.OpenSegments.{Inside, Next, Reading, Waiting, at_element, in_group, in_sequence}
 pub use Rattle.fast_walk.specs.Received.{Received}
-pub use Rattle.fast_walk.specs.Room.{HasRoomAt}
+pub use Rattle.fast_walk.specs.Awaited.{IsAwaitedAt}
 pub use Rattle.fast_walk.specs.Traversals.{CanGoOn, Continues, IsReadyAt, ServesAll, begun_of, stop_of}
 pub use Rattle.fast_walk.specs.Walks.{AreAllServed, AreServed, IsInsideServed, IsNextServed, IsServed}
 pub use Rattle.fast_walk.specs.declared.halt.Halt.{Halt}

@@ -6,11 +6,11 @@ ghost use Rattle.std.specs.Prelude.{◌≡◌, ◌≤◌, ◌^◌, [], None, IfS
 ghost use Rattle.std.specs.Coded.{→_prop};
 ghost use Rattle.std.proofs.Props.{props};
 ghost use Rattle.fast_walk.specs.OneProof.{KeepScalars-prop};
-ghost use Rattle.fast_walk.specs.Room.{HasRoomAt};
+ghost use Rattle.fast_walk.specs.Awaited.{IsAwaitedAt};
 ghost use Rattle.fast_walk.specs.Told.{KeepScalars};
 ghost use Rattle.fast_walk.specs.Traversals.{CanGoOn, ServesAll};
 ghost use Rattle.fast_machine.specs.Ends.{IsLong};
-ghost use Rattle.fast_machine.specs.OneProof.{IsReadyAt-prop, HasRoomAt-prop, IsLong-prop, ServesAll-prop};
+ghost use Rattle.fast_machine.specs.OneProof.{IsReadyAt-prop, IsAwaitedAt-prop, IsLong-prop, ServesAll-prop};
 
 use fast_dictionary::Entries;
 use fast_stream::{Fault, Framing};
@@ -53,5 +53,5 @@ pub struct Machine<'a, R: Receiver, E: Entries> {
     ghost lacks: { IsLong end traversal (E.contents entries) held.items until_stop waiting } by { IsLong-prop end traversal (E.contents entries) held.items until_stop waiting },
     ghost within: { end ≤ 65554 },
     ghost kept: { fault ≡ None → KeepScalars (E.contents entries) } by { →_prop (KeepScalars-prop (E.contents entries)) },
-    ghost room: { fault ≡ None → HasRoomAt (R.room receiver) traversal.stage traversal.walk } by { →_prop (HasRoomAt-prop (R.room receiver) traversal.stage traversal.walk) },
+    ghost awaited: { fault ≡ None → IsAwaitedAt (R.awaits receiver) (R.begun receiver) traversal.stage traversal.walk } by { →_prop (IsAwaitedAt-prop (R.awaits receiver) (R.begun receiver) traversal.stage traversal.walk) },
 }

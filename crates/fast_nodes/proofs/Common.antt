@@ -60,7 +60,7 @@ pub use Rattle.fast_walk.proofs.Views.{item_of-group, item_of-sequence}
 pub use Rattle.fast_walk.specs.Told.{HoldScalars}
 pub use Rattle.fast_walk.specs.Traversals.{ServesAll}
 pub use Rattle.fast_writer.proofs.Leavings.{behind_of, bit_of, closed, leaves_split}
-pub use Rattle.fast_writer.proofs.MapRoom.{set_at}
+pub use Rattle.fast_writer.proofs.SetBits.{set_at}
 pub use Rattle.fast_writer.proofs.Relays.{best_needs}
 pub use Rattle.fast_writer.proofs.Writings.{part_by}
 pub use Rattle.fast_writer.specs.Canonical.{CanonBody, CanonMessage, IsShortestMap}

@@ -93,7 +93,7 @@ fn put_node<'a, E: Entries>(
             },
             Node::Group(nodes) => match level.ask(may_be_absent(*presence), true) {
                 Err(_) => Err(refuse(EncodeCause::Memory)),
-                Ok(()) => put_segment(members, nodes, alloc, journal, &mut level.bytes.out),
+                Ok(()) => put_segment(members, nodes, alloc, journal, &mut level.bytes),
             },
             Node::Value(_) | Node::Sequence(_) => Err(refuse(EncodeCause::Mismatch)),
         },
@@ -109,7 +109,7 @@ fn put_node<'a, E: Entries>(
                 let count = Scalar::U32(elements.len() as u32);
                 journal.put(alloc, length, Some(&count), level)?;
                 tell_elements(members, elements, journal);
-                put_elements(members, elements, alloc, journal, &mut level.bytes.out)
+                put_elements(members, elements, alloc, journal, &mut level.bytes)
             }
             Node::Value(_) | Node::Group(_) => Err(refuse(EncodeCause::Mismatch)),
         },

@@ -91,7 +91,7 @@ pub(crate) fn put_part(
 {
     match plan_field(part, entry.view(), value) {
         Err(refusal) => Err(fault_for(part, refusal)),
-        Ok(plan) => match write_field(part, entry.view(), value, &mut level.bytes.out) {
+        Ok(plan) => match write_field(part, entry.view(), value, &mut level.bytes) {
             Err(_) => Err(refuse(EncodeCause::Memory)),
             Ok(()) => match next_entry(alloc, part, entry.view(), value) {
                 Err(_) => Err(refuse(EncodeCause::Memory)),

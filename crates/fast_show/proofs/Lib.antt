@@ -2,6 +2,5 @@ mod Common
 pub mod SameLines
 mod Telling
 pub mod ToldFields
-pub mod Taking
 pub mod Writing
 mod Waitings

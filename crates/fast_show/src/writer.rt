@@ -6,7 +6,6 @@ ghost use Rattle.fast_lines.specs.Signs.{is_led};
 ghost use Rattle.fast_show.specs.Told.{head_in, line_now, written_of};
 ghost use Rattle.fast_show.specs.Waiting.{waiting_of};
 
-use crate::fields::tell_fields;
 use crate::line::Line;
 use crate::told::tell;
 use fast_dictionary::Entries;
@@ -15,9 +14,9 @@ use fast_gaps::Rest;
 use fast_lines::Signs;
 use fast_part::{take_exponent, take_identifier, take_length, take_mantissa};
 use fast_take::{Aside, Room};
-use fast_template::{FieldPart, Flat, Name, Presence, TemplateSet};
-use fast_walk::{Fields, Output, Receiver};
-use fast_wire::{Bits, Level};
+use fast_template::{FieldPart, Name, Presence, TemplateSet};
+use fast_walk::{Output, Receiver};
+use fast_wire::Level;
 use std::alloc::{AllocError, Global};
 use std::mem;
 
@@ -135,7 +134,14 @@ impl<S: Signs> Receiver for LineWriter<'_, S> {
 
     ghost keeps = { λ w set ms d. HasLines S.form (waiting_of S.form w.out.items w.rest) w.set.now set ms };
 
-    ghost room = { λ w around left. true };
+    ghost awaits = { λ w around left. true };
+
+    ghost begun = { λ w bits. true };
+
+    #[inline(always)]
+    fn open(&mut self, _map: &[u8]) -> Result<(), AllocError> {
+        Ok(())
+    }
 
     #[inline(always)]
     fn begin<E: Entries>(
@@ -190,38 +196,6 @@ impl<S: Signs> Receiver for LineWriter<'_, S> {
             self.signs, alloc, name, presence, entries, part, bit, level, bytes, at, line, aside,
             room,
         )
-    }
-
-    #[inline(always)]
-    fn fields<'a, E: Entries>(
-        &mut self,
-        alloc: Global,
-        entries: &mut E,
-        rest: &'a [Flat],
-        bits: &mut Bits,
-        spare: u32,
-        level: Level,
-        bytes: &[u8],
-        at: usize,
-    ) -> Result<Fields<'a>, AllocError> {
-        // decimals in parts, groups and sequences begin no call of the loop
-        match rest.first() {
-            Some(Flat::Field { .. }) => {
-                let line = &mut self.line;
-                let aside = &mut self.aside;
-                let room = &mut self.room;
-                tell_fields(
-                    self.signs, alloc, entries, rest, bits, spare, level, bytes, at, line, aside,
-                    room,
-                )
-            }
-            _ => Ok(Fields {
-                mantissa: None,
-                rest,
-                spare,
-                place: at,
-            }),
-        }
     }
 
     #[inline(always)]
@@ -305,7 +279,7 @@ impl<S: Signs> Receiver for LineWriter<'_, S> {
         name: &Name,
         _number: u32,
         _optional: bool,
-        _own_map: bool,
+        _map: &[u8],
         _size: usize,
     ) -> Result<(), AllocError> {
         self.line.open_under(self.signs, name, b'{')?;
@@ -323,7 +297,7 @@ impl<S: Signs> Receiver for LineWriter<'_, S> {
         &mut self,
         _alloc: Global,
         _number: u32,
-        _own_map: bool,
+        _map: &[u8],
         _size: usize,
     ) -> Result<(), AllocError> {
         self.line.open_brace(self.signs)?;

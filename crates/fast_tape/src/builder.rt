@@ -4,7 +4,6 @@ ghost use Rattle.std.specs.Prelude.{◌≡◌, ◌≤◌, ◌↔◌, ◌++◌, [
 ghost use Rattle.fast_tape.specs.Waiting.{Forgets, counts_of, is_full};
 ghost use Rattle.std.specs.FinMap as finite;
 
-use crate::fields::tell_fields;
 use crate::node::{ELEMENT, GROUP, MESSAGE, SEQUENCE, TapeNode};
 use crate::open::OpenTape;
 use crate::tape::Tape;
@@ -13,9 +12,9 @@ use fast_dictionary::Entries;
 use fast_field::FieldFault;
 use fast_part::{take_exponent, take_identifier, take_length, take_mantissa};
 use fast_take::{Aside, Room};
-use fast_template::{FieldPart, Flat, Name, Presence};
-use fast_walk::{Fields, Receiver};
-use fast_wire::{Bits, Level};
+use fast_template::{FieldPart, Name, Presence};
+use fast_walk::Receiver;
+use fast_wire::Level;
 use std::alloc::{AllocError, Global};
 
 /// How many messages, nodes and bytes.
@@ -137,7 +136,14 @@ impl Receiver for TapeBuilder {
 
     ghost keeps = { λ b set ms d. HasWaiting b ms };
 
-    ghost room = { λ w around left. true };
+    ghost awaits = { λ w around left. true };
+
+    ghost begun = { λ w bits. true };
+
+    #[inline(always)]
+    fn open(&mut self, _map: &[u8]) -> Result<(), AllocError> {
+        Ok(())
+    }
 
     #[inline(always)]
     fn begin<E: Entries>(
@@ -195,37 +201,6 @@ impl Receiver for TapeBuilder {
         tell(
             alloc, entries, part, bit, level, bytes, at, tape, aside, room,
         )
-    }
-
-    #[inline(always)]
-    fn fields<'a, E: Entries>(
-        &mut self,
-        alloc: Global,
-        entries: &mut E,
-        rest: &'a [Flat],
-        bits: &mut Bits,
-        spare: u32,
-        level: Level,
-        bytes: &[u8],
-        at: usize,
-    ) -> Result<Fields<'a>, AllocError> {
-        // decimals in parts, groups and sequences begin no call of the loop
-        match rest.first() {
-            Some(Flat::Field { .. }) => {
-                let tape = &mut self.open;
-                let aside = &mut self.aside;
-                let room = &mut self.room;
-                tell_fields(
-                    alloc, entries, rest, bits, spare, level, bytes, at, tape, aside, room,
-                )
-            }
-            _ => Ok(Fields {
-                mantissa: None,
-                rest,
-                spare,
-                place: at,
-            }),
-        }
     }
 
     #[inline(always)]
@@ -311,7 +286,7 @@ impl Receiver for TapeBuilder {
         _name: &Name,
         number: u32,
         _optional: bool,
-        _own_map: bool,
+        _map: &[u8],
         _size: usize,
     ) -> Result<(), AllocError> {
         self.open.open(TapeNode::long(GROUP, number, 0, 0))?;
@@ -329,7 +304,7 @@ impl Receiver for TapeBuilder {
         &mut self,
         _alloc: Global,
         number: u32,
-        _own_map: bool,
+        _map: &[u8],
         _size: usize,
     ) -> Result<(), AllocError> {
         self.open.open(TapeNode::long(ELEMENT, number, 0, 0))?;

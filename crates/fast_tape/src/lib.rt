@@ -3,7 +3,6 @@
 
 mod builder;
 mod fault;
-mod fields;
 pub mod laws;
 mod node;
 mod open;

@@ -1,5 +1,5 @@
 -- What the proofs of this crate cite from elsewhere, passed on from one place. Declares nothing.
-pub use Rattle.std.proofs.Common.{Bool, Contains, Err, IfSome, IsErrAnd, IsTrue, List, None, Ok, Option, Result, Some, [], ap, append-nil, arith, cond, drop, false, find, get_or, if◌then◌else◌, inl, inr, length, length-append, length-drop, map, nat_eq, nat_le, option_map, option_to_list, pos, refl, rules, slice_index_or, slice_set, subst, subst₂, suc, sym, take, true, vec_len, zero, ℕ, ℤ, ◌%◌, ◌*◌, ◌++◌, ◌+ℤ◌, ◌+◌, ◌-◌, ◌<◌, ◌∙◌, ◌∷◌, ◌≡◌, ◌≢◌, ◌≤◌, ◌↔◌, ◌⊎◌}
+pub use Rattle.std.proofs.Common.{Bool, Contains, Err, IfSome, IsErrAnd, IsTrue, List, None, Ok, Option, Result, Some, [], ap, append-nil, arith, cond, drop, false, find, get_or, if◌then◌else◌, inl, inr, length, length-append, length-drop, map, nat_eq, nat_le, option_map, option_to_list, pos, refl, rules, slice_index_or, slice_set, subst, subst₂, suc, slice_range, sym, take, true, vec_len, zero, ℕ, ℤ, ◌%◌, ◌*◌, ◌++◌, ◌+ℤ◌, ◌+◌, ◌-◌, ◌<◌, ◌∙◌, ◌∷◌, ◌≡◌, ◌≢◌, ◌≤◌, ◌↔◌, ◌⊎◌}
 pub use Rattle.std.proofs.Math.Seq.{get_or-append_seam, set-append_seam}
 pub use Rattle.std.proofs.lemmas.Bool.Decides.{nat_tests}
 pub use Rattle.std.proofs.lemmas.List.{map_push, nil_from_length, take_rest}
@@ -18,7 +18,7 @@ pub use Rattle.fast_wire.specs.Entity.{HasNoStop}
 pub use Rattle.fast_wire.specs.Integer.{signed_of}
 pub use Rattle.fast_wire.specs.Level.{IsLeftClear, judge, overlong_map, overlong_unsigned, some_set, verdict}
 pub use Rattle.fast_wire.specs.Nullable.{received_signed}
-pub use Rattle.fast_wire.specs.PresenceMap.{HasSetBit, bit_at}
+pub use Rattle.fast_wire.specs.PresenceMap.{HasSetBit, IsWholeMap, bit_at}
 pub use Rattle.fast_wire.specs.Reader.{IsBytes}
 pub use Rattle.fast_wire.specs.Reading.{◌>>=◌}
 unfoldable pub use Rattle.fast_wire.specs.Reading.{ascii_at, ascii_nullable_at, behind_length, entity_at, signed_at, signed_nullable_at, unsigned_at, unsigned_nullable_at, vector_at, vector_nullable_at}
@@ -77,16 +77,17 @@ pub use Rattle.fast_stream.specs.declared.message.Node.{Node, fold_out-Node}
 pub use Rattle.fast_walk.specs.Lacks.{AreUnstopped, EntityLacks, FieldLacks, HasSecond, IsCount, IsFirst, IsLacking, IsNextPart, IsVectorKind, Lacks, StopsShort, VectorLacks, WalkLacks, Wants, WantsByte, WholeLacks, WholeWaits, first_limit, sends, takes_two, whole_limit}
 pub use Rattle.fast_walk.specs.Messages.{CanRead, IsStep, LeftOf, MapRead, MessageRead, MessageStops, ReadsMessage}
 pub use Rattle.fast_walk.specs.OpenSegments.{Body, Inside, Next, Reading, Sequel, Waiting, all_around, around_on, at_element, at_instruction, at_mantissa, behind_inside, body_on, cursor, elements_before, elements_on, ended_on, fewer, in_group, in_sequence, items_before, mantissa_on, message_of, named_on, top_on, under_bits, with_element, with_item}
-pub use Rattle.fast_walk.specs.Passing.{Passes}
+pub use Rattle.fast_walk.specs.Passing.{Passes, TakesFields, next_behind}
 pub use Rattle.fast_walk.specs.Pieces.{CanWalk, Holds, Reaches, Stops}
 pub use Rattle.fast_walk.specs.Received.{Carries, CarriesOpen, Completes, Faults, Goes, Having, Received, Same, Took, TookFrom, after_sequence, behind_last, closed_in, ended_in, entered, in_element, left_of, moved, opened, passed}
-pub use Rattle.fast_walk.specs.Room.{CarriesRoom, HasRoomBehind, left_around}
+pub use Rattle.fast_walk.specs.Awaited.{AwaitsBehind, IsMapped, IsOwnMap, StillAwaits, left_around}
 pub use Rattle.fast_walk.specs.ShortMaps.{BeginsShortMap}
 pub use Rattle.fast_walk.specs.Told.{HoldScalars, IsKeptScalar, IsTold, KeepScalars, KeepsInitial, KeepsScalar}
 pub use Rattle.fast_walk.specs.Traversals.{Continues, ContinuesAt, IsOpen, ServesAll, identifier_on, stop_of}
 pub use Rattle.fast_walk.specs.Walks.{AreAllServed, AreServed, At, Begins, HaltsAs, IsAt, IsBehind, IsLast, IsNextServed, IsOpened, IsServed, IsServedWith, IsWaitingServed, IsWhole, Moves, bare, bare_inside, bare_next, bare_sequel, frame_of, inside_of, next_of, rank_of, reads_on, sequel_of, weight_of}
 pub use Rattle.fast_walk.specs.declared.halt.Halt.{Halt}
 pub use Rattle.fast_walk.specs.declared.halt.HaltedBy.{HaltedBy}
+pub use Rattle.fast_walk.specs.declared.receiver.Fields.{Fields}
 pub use Rattle.fast_walk.specs.declared.lack.Lack.{Lack}
 pub use Rattle.fast_walk.specs.declared.traversal.Stage.{Stage}
 pub use Rattle.fast_walk.specs.declared.traversal.Traversal.{Traversal}

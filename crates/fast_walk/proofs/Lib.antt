@@ -4,6 +4,7 @@ pub mod ShortWalks
 pub mod Steps
 pub mod Passings
 pub mod Walking
+mod Taking
 pub mod Views
 pub mod Putting
 pub mod Serving

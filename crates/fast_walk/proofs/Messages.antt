@@ -1,5 +1,5 @@
 -- Reading a message piece by piece: a step in front of what is read behind it, and where nothing is read.
-use Rattle.fast_walk.proofs.Common.{◌≡◌, ◌≢◌, ◌≤◌, ◌++◌, ℕ, true, List, [], Result, Ok, Err, length, drop, map, refl, sym, ap, subst, ◌∙◌, inl, inr, arith, list_of, no_instructions, templates_in, IsLeftClear, some_set, Strict, Dictionary, Ghosts, Truncated, Memory, R8, Content, Items, items_of, Reads, message_at, identifier, CanRead, IsStep, LeftOf, MapRead, MessageRead, MessageStops, ReadsMessage, Reading, at_instruction, cursor, message_of, Holds, Carries, Completes, KeepScalars, ContinuesAt, IsOpen, identifier_on, stop_of, IsWhole, Moves, bare, frame_of, next_of, reads_on, Halt, Stage, Traversal as TraversalNow, Walk as WalkNow}
+use Rattle.fast_walk.proofs.Common.{◌≡◌, ◌≢◌, ◌≤◌, ◌++◌, ℕ, Bool, true, IsTrue, List, [], Result, Ok, Err, length, drop, map, refl, sym, ap, subst, ◌∙◌, inl, inr, arith, slice_range, IsWholeMap, list_of, no_instructions, templates_in, IsLeftClear, some_set, Strict, Dictionary, Ghosts, Truncated, Memory, R8, Content, Items, items_of, Reads, message_at, identifier, CanRead, IsStep, LeftOf, MapRead, MessageRead, MessageStops, ReadsMessage, Reading, at_instruction, cursor, message_of, Holds, Carries, Completes, KeepScalars, ContinuesAt, IsOpen, identifier_on, stop_of, IsWhole, Moves, bare, frame_of, next_of, reads_on, Halt, Stage, Traversal as TraversalNow, Walk as WalkNow}
 use Rattle.fast_walk.specs.declared.receiver.Receiver.{Ghosts as Receiving}
 use Rattle.fast_walk.proofs.Heads.{content_fails, content_goes, content_stops}
 use Rattle.fast_walk.proofs.ShortWalks.{behind_few, identifier_few_at, map_few_at, walk_few, want_of_bytes}
@@ -67,20 +67,21 @@ module _ {R E : Type 0} {receiver : Receiving R} {entries : Ghosts E} {t : Trave
   }
 
   -- a message's map is the first step
-  pub read_behind_map : {m : ℕ} {u : TraversalNow} (v : TraversalNow) (q : R) (f : E) (result : Result ℕ (ℕ × Halt)) → CanRead receiver entries t r d → t.stage ≡ Stage.Map → MapRead t bytes at m u → ReadsMessage receiver entries u r d bytes m result v q f
-      → ReadsMessage receiver entries t r d bytes at result v q f
-  read_behind_map {m = m} {u = u} v q f result can map read behind = read_behind {m = m} {u = u} {s = r} {e = d} v q f result (record {
+  pub read_behind_map : {m : ℕ} {u : TraversalNow} {s : R} (v : TraversalNow) (q : R) (f : E) (result : Result ℕ (ℕ × Halt)) → CanRead receiver entries t r d → t.stage ≡ Stage.Map → MapRead t bytes at m u → Carries (receiver.stands r) (receiver.stands s)
+      → ReadsMessage receiver entries u s d bytes m result v q f → ReadsMessage receiver entries t r d bytes at result v q f
+  read_behind_map {m = m} {u = u} {s = s} v q f result can map read carries behind = read_behind {m = m} {u = u} {s = s} {e = d} v q f result (record {
     place = (let p = read.place.0 in omega (arith, p), read.place.1);
     took = λ other. read.place.0;
     inside = λ other. let k : Stage.Identifier ≡ Stage.Map = sym read.stage ∙ other in absurd cc;
     leaves = λ before start now was.
-        let s = rw map at was in
+        let b = rw map at was in
         let later = identifier_on t.level (templates_in t.set.now) (entries.contents d) u.walk.bits in
-        (later, rw (read.stage, read.level, read.set) (record { stands = s.stands; start_is = s.start_is; reads = λ bytes. refl }), λ more. s.reads (drop at bytes ++ more) ∙ read.goes (entries.contents d) more);
+        (later, rw (read.stage, read.level, read.set) (record { stands = carries (templates_in t.set.now) before (entries.contents d) b.stands; start_is = b.start_is; reads = λ bytes. refl }), λ more. b.reads (drop at bytes ++ more) ∙ read.goes (entries.contents d) more);
   }) behind
 
-  pub map_can : {m : ℕ} {u : TraversalNow} → t.stage ≡ Stage.Map → MapRead t bytes at m u → CanRead receiver entries t r d → CanRead receiver entries u r d
-  map_can map read can = record { ready = rw (read.stage) (read.template ∙ rw map at can.ready, read.spare); kept = can.kept; room = rw (read.stage) read.room }
+  -- a message's map is read, and its receiver is open
+  pub map_can : {m : ℕ} {u : TraversalNow} {s : R} → t.stage ≡ Stage.Map → MapRead t bytes at m u → CanRead receiver entries t r d → ((bits : List Bool) → IsWholeMap (slice_range bytes at m) bits → IsTrue (receiver.begun s bits)) → CanRead receiver entries u s d
+  map_can {u = u} map read can begun = record { ready = rw (read.stage) (read.template ∙ rw map at can.ready, read.spare); kept = can.kept; awaited = rw (read.stage) (begun u.walk.bits read.map) }
 
   -- a message's map is not read
   pub map_stops : {u : TraversalNow} {h : Halt} → t.stage ≡ Stage.Map → at ≤ length bytes → CanRead receiver entries t r d
@@ -102,7 +103,7 @@ module _ {R E : Type 0} {receiver : Receiving R} {entries : Ghosts E} {t : Trave
   -- a message's identifier is not read
   pub identifier_stops : {h : Halt} {s : R} {e : E} → t.stage ≡ Stage.Identifier → at ≤ length bytes → CanRead receiver entries t r d → entries.serves e ≡ entries.serves d → Carries (receiver.stands r) (receiver.keeps s)
       → (h.cause ≢ Memory → identifier_on t.level (templates_in t.set.now) (entries.contents d) t.walk.bits (drop at bytes) ≡ Err (stop_of 0 h (drop at bytes)))
-      → (h.cause ≡ Truncated → (entries.contents e ≡ entries.contents d) × Carries (receiver.stands r) (receiver.stands s))
+      → (h.cause ≡ Truncated → (entries.contents e ≡ entries.contents d) × Carries (receiver.stands r) (receiver.stands s) × ((bits : List Bool) → IsTrue (receiver.begun r bits) → IsTrue (receiver.begun s bits)))
       → MessageStops receiver entries t r d bytes at (at, h) t s e
   identifier_stops {h = h} at_identifier place can keys keeps stops waits =
       let set = templates_in t.set.now in
@@ -117,7 +118,7 @@ module _ {R E : Type 0} {receiver : Receiving R} {entries : Ghosts E} {t : Trave
           between = λ map. (map, refl);
           begun = λ map begun. absurd (begun map);
           few = behind_few bytes at (identifier_few_at t.level set (entries.contents d) t.walk.bits (drop at bytes) h (stops (want_of_bytes h.cause wanted)) wanted);
-          can = record { ready = rw at_identifier now_at; kept = rw (w.0) can.kept; room = rw at_identifier (rw at_identifier at can.room) };
+          can = record { ready = rw at_identifier now_at; kept = rw (w.0) can.kept; awaited = rw at_identifier (w.2 t.walk.bits (rw at_identifier at can.awaited)) };
         };
       }
 
@@ -151,7 +152,7 @@ module _ {R E : Type 0} {receiver : Receiving R} {entries : Ghosts E} {t : Trave
 
   -- it is read on to a place, and stops there
   pub walk_halts : {w : WalkNow} {s : R} {e : E} {x : ℕ × Halt} (is : t.identifier ≡ identifier) → t.stage ≡ Stage.Body → (at ≤ x.0) × (x.0 ≤ length bytes) → Carries (receiver.keeps r) (receiver.keeps s)
-      → ((x.1).cause ≢ Memory → Holds t.level receiver.has receiver.room (entries.serves e) t.walk r (entries.contents d) w s (entries.contents e) (drop at bytes) (drop x.0 bytes) x.1)
+      → ((x.1).cause ≢ Memory → Holds t.level receiver.has receiver.awaits (entries.serves e) t.walk r (entries.contents d) w s (entries.contents e) (drop at bytes) (drop x.0 bytes) x.1)
       → MessageStops receiver entries t r d bytes at x (record t { walk = w; identifier_is = is }) s e
   walk_halts {w = w} {s = s} {e = e} {x = x} is at_body place carries holds =
       let rest = drop x.0 bytes in
@@ -172,7 +173,7 @@ module _ {R E : Type 0} {receiver : Receiving R} {entries : Ghosts E} {t : Trave
               between = λ map. let k : Stage.Body ≡ Stage.Map = sym at_body ∙ map in absurd cc;
               begun = λ map. let k : Stage.Body ≡ Stage.Map = sym at_body ∙ map in absurd cc;
               few = behind_few bytes x.0 (walk_few t.level w (entries.contents e) rest x.1 h.halts wanted);
-              can = record { ready = rw at_body h.on.ready; kept = h.on.kept; room = rw at_body h.on.room };
+              can = record { ready = rw at_body h.on.ready; kept = h.on.kept; awaited = rw at_body h.on.awaited };
             };
       }
 

@@ -1,5 +1,5 @@
 -- How a walk takes a piece, and where it stops at one.
-use Rattle.fast_walk.proofs.Common.{◌≡◌, ◌≢◌, ◌≤◌, ◌<◌, ◌-◌, ◌++◌, ◌+◌, ◌*◌, ◌∷◌, [], ℕ, Bool, List, Option, Ok, Err, drop, length, get_or, map, refl, sym, ap, ◌∙◌, arith, Vec, IsTrue, Key, Kind, Part, Presence, Scalar, FieldPart, Flat, fold_out-Flat, Field, Parts, Group, Sequence, outs-Field, outs-Parts, outs-Group, outs-Sequence, Instruction, Instructions, flat_step, instruction_of, whole_field, field_in_parts, group_of, sequence_of, then_instruction, list_of, part_needs_bit, Dictionary, IsKindOfPart, FieldFault, Level, after_bit, bit_for, Stop, cause_of_field, Item, Cursor, field_part_at, node_at, piece_at, stopped, Cause, Inside, Next, all_around, at_instruction, cursor, top_on, CanWalk, Holds, Reaches, Stops, IsTold, KeepScalars, CarriesOpen, Faults, Having, Received, Took, moved, CarriesRoom, HasRoomBehind, left_around, AreAllServed, AreServed, At, Begins, HaltsAs, IsBehind, IsNextServed, IsOpened, IsServed, IsWaitingServed, Moves, bare_next, frame_of, next_of, rank_of, reads_on, weight_of, Halt, Frame as FrameNow, Walk as WalkNow, bytes_from, IsBytes}
+use Rattle.fast_walk.proofs.Common.{◌≡◌, ◌≢◌, ◌≤◌, ◌<◌, ◌-◌, ◌++◌, ◌+◌, ◌*◌, ◌∷◌, [], ℕ, Bool, List, Option, Ok, Err, drop, length, get_or, map, refl, sym, ap, ◌∙◌, arith, Vec, IsTrue, Key, Kind, Part, Presence, Scalar, FieldPart, Flat, fold_out-Flat, Field, Parts, Group, Sequence, outs-Field, outs-Parts, outs-Group, outs-Sequence, Instruction, Instructions, flat_step, instruction_of, whole_field, field_in_parts, group_of, sequence_of, then_instruction, list_of, part_needs_bit, Dictionary, IsKindOfPart, FieldFault, Level, after_bit, bit_for, Stop, cause_of_field, Item, Cursor, field_part_at, node_at, piece_at, stopped, Cause, Inside, Next, all_around, at_instruction, cursor, top_on, CanWalk, Holds, Reaches, Stops, IsTold, KeepScalars, CarriesOpen, Faults, Having, Received, Took, moved, StillAwaits, AwaitsBehind, left_around, AreAllServed, AreServed, At, Begins, HaltsAs, IsBehind, IsNextServed, IsOpened, IsServed, IsWaitingServed, Moves, bare_next, frame_of, next_of, rank_of, reads_on, weight_of, Halt, Frame as FrameNow, Walk as WalkNow, bytes_from, IsBytes}
 use Rattle.fast_walk.specs.declared.walk.Next.{Next as NextNow}
 use Rattle.fast_walk.proofs.Steps.{count_goes, items_on, part_goes, part_stops}
 use Rattle.fast_walk.proofs.Telling.{asked_for, taken_keeps, told_part}
@@ -33,28 +33,28 @@ pub weighs : (n : NextNow) → (0 < weight_of n) × (weight_of n ≤ 2)
 weighs NextNow.Instruction = (omega arith, omega arith)
 weighs n = (omega arith, omega arith)
 
-module _ {serves : Key → Bool} {d : Dictionary} {Room : List (List Bool) → List Bool → Bool} {w : WalkNow} where
-  pub begins_served : {i : Instruction} {is : Instructions} → CanWalk serves d Room w → Begins w i is → IsServed serves i × AreServed serves is
+module _ {serves : Key → Bool} {d : Dictionary} {Awaits : List (List Bool) → List Bool → Bool} {w : WalkNow} where
+  pub begins_served : {i : Instruction} {is : Instructions} → CanWalk serves d Awaits w → Begins w i is → IsServed serves i × AreServed serves is
   begins_served can begins = rw (begins.first) at can.ready.rest
 
   -- it can go on behind a part
-  pub part_on : {v : WalkNow} {Later : List (List Bool) → List Bool → Bool} {e : Dictionary} {p : FieldPart} {level asked : Level} {needs bit : Bool} {x : Option Scalar} {bytes rest : List ℕ} {part : Part} {kind : Kind} → CanWalk serves d Room w
-      → asked ≡ level → needs ≡ part_needs_bit p → bit ≡ bit_for needs w.bits → IsKindOfPart part kind → IsTold part kind p → IsBytes bytes → Took asked p bit d e x bytes rest → HasRoomBehind bit p Room Later
+  pub part_on : {v : WalkNow} {Later : List (List Bool) → List Bool → Bool} {e : Dictionary} {p : FieldPart} {level asked : Level} {needs bit : Bool} {x : Option Scalar} {bytes rest : List ℕ} {part : Part} {kind : Kind} → CanWalk serves d Awaits w
+      → asked ≡ level → needs ≡ part_needs_bit p → bit ≡ bit_for needs w.bits → IsKindOfPart part kind → IsTold part kind p → IsBytes bytes → Took asked p bit d e x bytes rest → AwaitsBehind bit p Awaits Later
       → v.bits ≡ after_bit needs w.bits → v.around.items ≡ w.around.items → IsNextServed serves (next_of v.next) → AreServed serves (list_of v.rest.now) → CanWalk serves e Later v
-  part_on {v} {Later} {e} {p} {level} {asked} {needs} {bit} {x} {bytes} {rest} {part} {kind} can l need b of told fits took room bits around next rest_served = record {
+  part_on {v} {Later} {e} {p} {level} {asked} {needs} {bit} {x} {bytes} {rest} {part} {kind} can l need b of told fits took awaits bits around next rest_served = record {
     ready = record { next = next; rest = rest_served; around = rw around can.ready.around };
     kept = taken_keeps asked p bit d e x bytes rest fits (told_part part kind p of told) (asked_for p needs bit w.bits need b) took can.kept;
-    room = rw (bits, around, need) (room _ w.bits (rw need at b) can.room);
+    awaited = rw (bits, around, need) (awaits _ w.bits (rw need at b) can.awaited);
   }
 
 -- in a segment that is opened
-pub opened_on : {serves : Key → Bool} {d : Dictionary} {Room : List (List Bool) → List Bool → Bool} {v : WalkNow} {frames : List FrameNow} {outer own : List Bool} {left number : ℕ} {members is : Instructions} {i : Inside}
+pub opened_on : {serves : Key → Bool} {d : Dictionary} {Awaits : List (List Bool) → List Bool → Bool} {v : WalkNow} {frames : List FrameNow} {outer own : List Bool} {left number : ℕ} {members is : Instructions} {i : Inside}
     → IsOpened frames outer left number members is i own v → AreServed serves members → IsWaitingServed serves (record { bits = outer; number = number; body = record { rest = is; done = [] }; inside = i })
-    → AreAllServed serves (map frame_of frames) → KeepScalars d → IsTrue (Room (left_around (map frame_of frames) ++ outer ∷ []) own) → CanWalk serves d Room v
-opened_on {serves} end members waits served kept room = record {
+    → AreAllServed serves (map frame_of frames) → KeepScalars d → IsTrue (Awaits (left_around (map frame_of frames) ++ outer ∷ []) own) → CanWalk serves d Awaits v
+opened_on {serves} end members waits served kept awaits = record {
   ready = record { next = rw (end.next) tt; rest = rw (end.rest) members; around = rw (end.around) (served_push serves _ _ served waits) };
   kept = kept;
-  room = rw (end.bits, left_last _ _ _ end.around) room;
+  awaited = rw (end.bits, left_last _ _ _ end.around) awaits;
 }
 
 pub less_opened : (n : NextNow) {v : WalkNow} {frames : List FrameNow} {outer own : List Bool} {left number : ℕ} {members is : Instructions} {i : Inside} → 0 < left → IsOpened frames outer left number members is i own v
@@ -75,25 +75,25 @@ pub halts_at : (level : Level) (d : Dictionary) (bytes : List ℕ) (h : Halt) {w
 halts_at level d bytes h {w} {i} {is} begins k o at =
     piece_stops_on level o.around o.next o.body i is (cursor d w.bits w.spare bytes) _ (is_instruction o.next (at.next ∙ ap next_of begins.next)) (at.rest ∙ begins.first) k
 
-module _ {R : Type 0} {level : Level} {Has : Having R} {Room : R → List (List Bool) → List Bool → Bool} {w : WalkNow} {r : R} {d : Dictionary} {bytes : List ℕ} {h : Halt} where
+module _ {R : Type 0} {level : Level} {Has : Having R} {Awaits : R → List (List Bool) → List Bool → Bool} {w : WalkNow} {r : R} {d : Dictionary} {bytes : List ℕ} {h : Halt} where
   -- ---- where it stops
 
   -- nothing has changed
-  pub stops_here : {serves : Key → Bool} → CanWalk serves d (Room r) w → HaltsAs level w d bytes h → Stops level Has Room w r d w r d bytes h
-  stops_here can halts = record { halts = halts; walk = refl; entries = refl; has = λ o e had. had; room = can.room }
+  pub stops_here : {serves : Key → Bool} → CanWalk serves d (Awaits r) w → HaltsAs level w d bytes h → Stops level Has Awaits w r d w r d bytes h
+  stops_here can halts = record { halts = halts; walk = refl; entries = refl; has = λ o e had. had; awaited = can.awaited }
 
   -- a node too many
-  pub count_stops : {serves : Key → Bool} {j i : Instruction} {is : Instructions} → CanWalk serves d (Room r) w → Begins w j is → j ≡ i
-      → ((e : Dictionary) (bits : List Bool) (b : List ℕ) → node_at (number_in i) (cursor e bits w.spare b) ≡ stopped h.number b h.cause) → h.cause ≢ Cause.Memory → Stops level Has Room w r d w r d bytes h
+  pub count_stops : {serves : Key → Bool} {j i : Instruction} {is : Instructions} → CanWalk serves d (Awaits r) w → Begins w j is → j ≡ i
+      → ((e : Dictionary) (bits : List Bool) (b : List ℕ) → node_at (number_in i) (cursor e bits w.spare b) ≡ stopped h.number b h.cause) → h.cause ≢ Cause.Memory → Stops level Has Awaits w r d w r d bytes h
   count_stops {i = i} can first same stops other = stops_here can (halts_at level d bytes h (rw same at first) (not_counted level i _ _ (stops d w.bits bytes)))
 
   -- a part that has a fault
-  pub fault_stops : {serves : Key → Bool} {s : R} {e : Dictionary} {f : FieldFault} {asked : Level} {needs bit : Bool} (p : FieldPart) → CanWalk serves d (Room r) w → asked ≡ level → needs ≡ part_needs_bit p → bit ≡ bit_for needs w.bits
+  pub fault_stops : {serves : Key → Bool} {s : R} {e : Dictionary} {f : FieldFault} {asked : Level} {needs bit : Bool} (p : FieldPart) → CanWalk serves d (Awaits r) w → asked ≡ level → needs ≡ part_needs_bit p → bit ≡ bit_for needs w.bits
       → h.cause ≡ cause_of_field f → h.number ≡ p.number
-      → (f ≢ FieldFault.Memory → Faults asked p bit d e bytes f (CarriesOpen (Has r) (Has s))) → (f ≢ FieldFault.Memory → CarriesRoom (Room r) (Room s))
+      → (f ≢ FieldFault.Memory → Faults asked p bit d e bytes f (CarriesOpen (Has r) (Has s))) → (f ≢ FieldFault.Memory → StillAwaits (Awaits r) (Awaits s))
       → (((spare : ℕ) → field_part_at level p (cursor d w.bits spare bytes) ≡ stopped h.number bytes h.cause) → HaltsAs level w d bytes h)
-      → h.cause ≢ Cause.Memory → Stops level Has Room w r d w s e bytes h
-  fault_stops {serves} {s} {e} {f} p can l n b caused numbered faults room halts other =
+      → h.cause ≢ Cause.Memory → Stops level Has Awaits w r d w s e bytes h
+  fault_stops {serves} {s} {e} {f} p can l n b caused numbered faults awaits halts other =
       let memory : f ≢ FieldFault.Memory = λ is. other (caused ∙ ap cause_of_field is) in
       let stops = faults memory in
       record {
@@ -101,17 +101,17 @@ module _ {R : Type 0} {level : Level} {Has : Having R} {Room : R → List (List 
         walk = refl;
         entries = stops.1;
         has = stops.2;
-        room = room memory _ _ can.room;
+        awaited = awaits memory _ _ can.awaited;
       }
 
   -- the first part of an instruction
-  pub first_stops : {serves : Key → Bool} {s : R} {e : Dictionary} {f : FieldFault} {asked : Level} {needs bit : Bool} {j i : Instruction} {is : Instructions} (p : FieldPart) → CanWalk serves d (Room r) w → Begins w j is → j ≡ i → 0 < w.spare
+  pub first_stops : {serves : Key → Bool} {s : R} {e : Dictionary} {f : FieldFault} {asked : Level} {needs bit : Bool} {j i : Instruction} {is : Instructions} (p : FieldPart) → CanWalk serves d (Awaits r) w → Begins w j is → j ≡ i → 0 < w.spare
       → asked ≡ level → needs ≡ part_needs_bit p → bit ≡ bit_for needs w.bits → h.cause ≡ cause_of_field f → h.number ≡ p.number
-      → (f ≢ FieldFault.Memory → Faults asked p bit d e bytes f (CarriesOpen (Has r) (Has s))) → (f ≢ FieldFault.Memory → CarriesRoom (Room r) (Room s))
+      → (f ≢ FieldFault.Memory → Faults asked p bit d e bytes f (CarriesOpen (Has r) (Has s))) → (f ≢ FieldFault.Memory → StillAwaits (Awaits r) (Awaits s))
       → ((c k : Cursor) (t : Stop) → node_at (number_in i) c ≡ Ok k → field_part_at level p k ≡ Err t → piece_at level i c ≡ Err t)
-      → h.cause ≢ Cause.Memory → Stops level Has Room w r d w s e bytes h
-  first_stops {i = i} p can first same some l n b caused numbered faults room begins =
-      fault_stops p can l n b caused numbered faults room (λ stops. halts_at level d bytes h (rw same at first) (begins _ _ _ (count_goes (number_in i) w.spare d w.bits bytes some) (stops (w.spare - 1))))
+      → h.cause ≢ Cause.Memory → Stops level Has Awaits w r d w s e bytes h
+  first_stops {i = i} p can first same some l n b caused numbered faults awaits begins =
+      fault_stops p can l n b caused numbered faults awaits (λ stops. halts_at level d bytes h (rw same at first) (begins _ _ _ (count_goes (number_in i) w.spare d w.bits bytes some) (stops (w.spare - 1))))
 
 -- ---- where it goes on
 
@@ -132,29 +132,29 @@ moves_on level Has r s d e bytes rest {w} {v} {i} {is} next f begins some end sa
           (piece_on level o.around o.next o.body i is _ here first ∙ ap (all_around level o.around) (reads o.body.done more (count_goes (number_in i) w.spare d w.bits _ some))),
     )
 
-module _ {R : Type 0} {level : Level} {Has : Having R} {Room : R → List (List Bool) → List Bool → Bool} {serves : Key → Bool} {w v : WalkNow} {r s : R} {d e : Dictionary} {bytes : List ℕ} {at n : ℕ} where
+module _ {R : Type 0} {level : Level} {Has : Having R} {Awaits : R → List (List Bool) → List Bool → Bool} {serves : Key → Bool} {w v : WalkNow} {r s : R} {d e : Dictionary} {bytes : List ℕ} {at n : ℕ} where
   -- the first part of an instruction
   pub part_takes : {i : Instruction} {is : Instructions} {p : FieldPart} {asked : Level} {needs bit : Bool} {x : Option Scalar} {part : Part} {kind : Kind} {nextNow : NextNow}
-      (next : Next) (f : List Item → List Item) → CanWalk serves d (Room r) w → Begins w i is → 0 < w.spare → IsBehind w v needs nextNow is → bare_next next ≡ next_of nextNow → asked ≡ level → needs ≡ part_needs_bit p → bit ≡ bit_for needs w.bits
-      → IsKindOfPart part kind → IsTold part kind p → ((k : ℕ) → get_or bytes k 0 < 256) → Took asked p bit d e x (drop at bytes) (drop n bytes) → HasRoomBehind bit p (Room r) (Room s) → IsNextServed serves (next_of nextNow)
+      (next : Next) (f : List Item → List Item) → CanWalk serves d (Awaits r) w → Begins w i is → 0 < w.spare → IsBehind w v needs nextNow is → bare_next next ≡ next_of nextNow → asked ≡ level → needs ≡ part_needs_bit p → bit ≡ bit_for needs w.bits
+      → IsKindOfPart part kind → IsTold part kind p → ((k : ℕ) → get_or bytes k 0 < 256) → Took asked p bit d e x (drop at bytes) (drop n bytes) → AwaitsBehind bit p (Awaits r) (Awaits s) → IsNextServed serves (next_of nextNow)
       → (at ≤ n) × (n ≤ length bytes)
       → ((o : Received) → o.next ≡ at_instruction → o.body.rest ≡ then_instruction i is → Has r o d → Has s (moved o next (record { rest = is; done = f o.body.done }) o.around) e)
       → ((done : List Item) (c k l : Cursor) → node_at (number_in i) c ≡ Ok k → field_part_at level p k ≡ Ok (x, l) → items_on level is done (piece_at level i c) ≡ top_on level next (record { rest = is; done = f done }) l)
-      → Reaches level Has Room serves w r d v s e bytes at n × (rank_of v < rank_of w)
-  part_takes {is = is} next f can begins some end same l need b of told fits took room served place has reads = (
+      → Reaches level Has Awaits serves w r d v s e bytes at n × (rank_of v < rank_of w)
+  part_takes {is = is} next f can begins some end same l need b of told fits took awaits served place has reads = (
     record {
       from = place.0;
       within = place.1;
       goes = moves_on level Has r s d e (drop at bytes) (drop n bytes) next f begins some end same has (λ done more h. reads done _ _ _ h (part_took w.bits l need b took (w.spare - 1) more));
-      on = part_on can l need b of told (bytes_from bytes at fits) took room end.bits end.around (rw (end.next) served) (rw (end.rest) (begins_served can begins).1);
+      on = part_on can l need b of told (bytes_from bytes at fits) took awaits end.bits end.around (rw (end.next) served) (rw (end.rest) (begins_served can begins).1);
     },
     less_behind some end,
   )
 
 -- ---- one place behind the other
 
-pub reaches_on : {R : Type 0} {level : Level} {Has : Having R} {Room : R → List (List Bool) → List Bool → Bool} {serves : Key → Bool} {w v u : WalkNow} {r s t : R} {d e f : Dictionary} {bytes : List ℕ} {at n m : ℕ}
-    → Reaches level Has Room serves w r d v s e bytes at n → Reaches level Has Room serves v s e u t f bytes n m → Reaches level Has Room serves w r d u t f bytes at m
+pub reaches_on : {R : Type 0} {level : Level} {Has : Having R} {Awaits : R → List (List Bool) → List Bool → Bool} {serves : Key → Bool} {w v u : WalkNow} {r s t : R} {d e f : Dictionary} {bytes : List ℕ} {at n m : ℕ}
+    → Reaches level Has Awaits serves w r d v s e bytes at n → Reaches level Has Awaits serves v s e u t f bytes n m → Reaches level Has Awaits serves w r d u t f bytes at m
 reaches_on {level = level} {Has = Has} {w = w} {v = v} {u = u} {r = r} {s = s} {t = t} {d = d} {e = e} {f = f} {bytes = bytes} {at = at} {n = n} {m = m} one more = record {
   from = omega (arith, one.from, more.from);
   within = more.within;
@@ -163,12 +163,12 @@ reaches_on {level = level} {Has = Has} {w = w} {v = v} {u = u} {r = r} {s = s} {
 }
 
 -- where a piece stops, the walk is as it was, and can go on
-pub holds_at : {R : Type 0} {level : Level} {Has : Having R} {Room : R → List (List Bool) → List Bool → Bool} {serves : Key → Bool} {w v u : WalkNow} {r s t : R} {d e f : Dictionary} {bytes : List ℕ} {at n : ℕ} {h : Halt}
-    → Reaches level Has Room serves w r d v s e bytes at n → Stops level Has Room v s e u t f (drop n bytes) h → Holds level Has Room serves w r d u t f (drop at bytes) (drop n bytes) h
+pub holds_at : {R : Type 0} {level : Level} {Has : Having R} {Awaits : R → List (List Bool) → List Bool → Bool} {serves : Key → Bool} {w v u : WalkNow} {r s t : R} {d e f : Dictionary} {bytes : List ℕ} {at n : ℕ} {h : Halt}
+    → Reaches level Has Awaits serves w r d v s e bytes at n → Stops level Has Awaits v s e u t f (drop n bytes) h → Holds level Has Awaits serves w r d u t f (drop at bytes) (drop n bytes) h
 holds_at {level = level} {Has = Has} {w = w} {v = v} {r = r} {s = s} {t = t} {d = d} {e = e} {bytes = bytes} {at = at} {n = n} one stops = record {
   goes = rw (stops.walk, stops.entries)
       (goes_on (At Has w r d) (At Has v s e) (At Has v t e) (reads_on level w d) (reads_on level v e) (reads_on level v e) (drop at bytes) (drop n bytes) (drop n bytes) one.goes
       (λ o at. (o, (at.0, stops.has o e at.1), record { set = refl; before = refl; template = refl; members = refl; start = refl }, λ more. refl)));
   halts = rw (stops.walk, stops.entries) stops.halts;
-  on = record { ready = rw (stops.walk) one.on.ready; kept = rw (stops.entries) one.on.kept; room = stops.room };
+  on = record { ready = rw (stops.walk) one.on.ready; kept = rw (stops.entries) one.on.kept; awaited = stops.awaited };
 }

@@ -5,7 +5,7 @@ pub mod Walks
 pub mod Traversals
 pub mod Passing
 pub mod Told
-pub mod Room
+pub mod Awaited
 pub mod OneProof
 pub mod Lacks
 pub mod ShortMaps

@@ -1,7 +1,7 @@
 -- What reading the next message comes to.
-use Rattle.std.specs.Prelude.{◌≡◌, ◌≢◌, ◌≤◌, ◌<◌, ◌+◌, ◌++◌, ℕ, List, Result, Ok, Err, length, drop}
-use Rattle.fast_walk.specs.Prelude.{templates_in, CanBeMap, Dictionary, Ghosts, Truncated, Memory, node_limit, message_at}
-use Rattle.fast_walk.specs.Room.{HasRoomAt}
+use Rattle.std.specs.Prelude.{◌≡◌, ◌≢◌, ◌≤◌, ◌<◌, ◌+◌, ◌++◌, ℕ, List, Result, Ok, Err, length, drop, slice_range}
+use Rattle.fast_walk.specs.Prelude.{templates_in, IsWholeMap, Dictionary, Ghosts, Truncated, Memory, node_limit, message_at}
+use Rattle.fast_walk.specs.Awaited.{IsAwaitedAt}
 use Rattle.fast_walk.specs.Told.{KeepScalars}
 use Rattle.fast_walk.specs.Traversals.{CanGoOn, Continues, Finishes, KeepsBefore, LeavesOn, Left, StopsAt, identifier_on}
 use Rattle.fast_walk.specs.declared.halt.Halt.{Halt}
@@ -13,11 +13,11 @@ use Rattle.fast_walk.specs.declared.traversal.Traversal.{Traversal as TraversalN
 abbrev pub LeftOf : {R E : Type 0} → Receiving R → Ghosts E → TraversalNow → R → E → Left
 LeftOf receiver entries t r d before start read = Continues receiver.has receiver.stands receiver.keeps t r (templates_in t.set.now) (entries.contents d) before start read
 
--- A traversal can read on: what it may come to is served, each entry is within its type, and its receiver has room.
+-- A traversal can read on: what it may come to is served, each entry is within its type, and its receiver knows the bits that are left.
 pub record CanRead {R E : Type 0} (receiver : Receiving R) (entries : Ghosts E) (t : TraversalNow) (r : R) (d : E) : Type 0 where
   pub ready : CanGoOn (entries.serves d) t
   pub kept : KeepScalars (entries.contents d)
-  pub room : HasRoomAt (receiver.room r) t.stage t.walk
+  pub awaited : IsAwaitedAt (receiver.awaits r) (receiver.begun r) t.stage t.walk
 
 -- what no call changes
 pub record IsSameSet {E : Type 0} (entries : Ghosts E) (t : TraversalNow) (d : E) (u : TraversalNow) (e : E) : Type 0 where
@@ -33,7 +33,7 @@ pub record MapRead (t : TraversalNow) (bytes : List ℕ) (at n : ℕ) (u : Trave
   pub stage : u.stage ≡ Stage.Identifier
   pub template : u.template ≡ t.template
   pub spare : u.walk.spare ≡ node_limit
-  pub room : CanBeMap u.walk.bits
+  pub map : IsWholeMap (slice_range bytes at n) u.walk.bits
   pub set : u.set ≡ t.set
   pub level : u.level ≡ t.level
 

@@ -2,7 +2,7 @@
 pub use mathlib.Core.Bool.{Bool-set}
 pub use Rattle.fast_wire.specs.Reading.{◌>>=◌}
 unfoldable pub use Rattle.fast_wire.specs.Reading.{unsigned_at, unsigned_nullable_at}
-pub use Rattle.fast_wire.specs.Sizes.{CanBeMap}
+pub use Rattle.fast_wire.specs.PresenceMap.{IsWholeMap}
 pub use Rattle.fast_wire.specs.declared.level.Level.{Level}
 pub use Rattle.fast_wire.specs.declared.level.Level.TheVariants.{Strict, Usual}
 pub use Rattle.fast_wire.specs.declared.nullable.Nullable.TheVariants.{Value}

@@ -1,6 +1,6 @@
 //! The bits of a segment's map, as pieces take them.
 
-ghost use Rattle.std.specs.Prelude.{◌≡◌, ◌≢◌, ◌≤◌, ◌<◌, ◌++◌, ℕ, Bool, List, Ok, true, false, IfOk, IfErr, IsTrue, length, drop};
+ghost use Rattle.std.specs.Prelude.{◌≡◌, ◌≢◌, ◌≤◌, ◌<◌, ◌++◌, ℕ, Bool, List, Ok, true, false, IfOk, IfErr, IsTrue, length, drop, slice_range};
 ghost use Rattle.fast_dictionary.specs.Dictionary.{Dictionary};
 ghost use Rattle.fast_stream.specs.Bits.{after_bit, bit_for};
 ghost use Rattle.fast_walk.specs.OpenSegments.{cursor};
@@ -9,7 +9,7 @@ ghost use Rattle.fast_stream.specs.Faults.{cause_of_wire};
 ghost use Rattle.fast_stream.specs.Reading.{own_map_at, stopped};
 ghost use Rattle.fast_wire.specs.Level.{judge, overlong_map as overlong_map_of};
 ghost use Rattle.fast_field.specs.Calls.{Answers};
-ghost use Rattle.fast_wire.specs.Sizes.{CanBeMap};
+ghost use Rattle.fast_walk.specs.Awaited.{IsOwnMap};
 
 use crate::halt::{Halt, wire_cause};
 use fast_stream::Cause;
@@ -88,7 +88,7 @@ pub(crate) fn read_own_map(
     requires { at ≤ length bytes.now }
     ensures place { IfOk result (λ x. (at ≤ x.1) × (x.1 ≤ length bytes.now)) }
     ensures took { IfOk result (λ x. IsTrue own_map → at < x.1) }
-    ensures room { IfOk result (λ x. CanBeMap x.0) }
+    ensures map { IfOk result (λ x. IsOwnMap own_map (slice_range bytes.now at x.1) x.0) }
     ensures goes { IfOk result (λ x. (d : Dictionary) (bits : List Bool) (spare : ℕ) (more : List ℕ)
         → own_map_at level number own_map (cursor d bits spare (drop at bytes.now ++ more))
         ≡ Ok (cursor d x.0 spare (drop x.1 bytes.now ++ more))) }

@@ -50,8 +50,9 @@ pub trait Output: Receiver {
             (d : Dictionary)
             → Self.keeps self.old set (handed_on handed ∷ ms) d
             → Self.keeps self.new set (handed_on (handed ++ ready self.old) ∷ ms) d) }
-        ensures room { (around : List (List Bool)) (b : List Bool) → IsTrue (Self.room self.old around b)
-            → IsTrue (Self.room self.new around b) }
+        ensures awaits { (around : List (List Bool)) (b : List Bool) → IsTrue (Self.awaits self.old around b)
+            → IsTrue (Self.awaits self.new around b) }
+        ensures begun { (b : List Bool) → IsTrue (Self.begun self.old b) → IsTrue (Self.begun self.new b) }
         ensures rest { OnOk result (waiting self.old ≡ ready self.old ++ waiting self.new) }
         ensures more { IfOk result (λ more. more ≡ true → left self.new < left self.old) }
         ensures none { IfOk result (λ more. more ≡ false → waiting self.new ≡ []) };

@@ -8,7 +8,7 @@ ghost use Rattle.fast_stream.specs.Reading.{message_at};
 ghost use Rattle.fast_wire.specs.Level.{IsLeftClear, some_set};
 ghost use Rattle.fast_walk.specs.Walks.{IsWhole};
 ghost use Rattle.fast_walk.specs.Received.{Carries, Completes};
-ghost use Rattle.fast_walk.specs.Room.{HasRoom};
+ghost use Rattle.fast_walk.specs.Awaited.{IsAwaited};
 
 use crate::bits::{first_for, read_own_map};
 use crate::halt::Halt;
@@ -261,7 +261,10 @@ impl<'a> Traversal<'a> {
         match self.stage {
             Stage::Map => match self.map(bytes, at) {
                 Err(halt) => Err((at, halt)),
-                Ok(next) => self.behind_map(receiver, entries, bytes, next),
+                Ok(next) => match receiver.open(&bytes[at..next]) {
+                    Err(error) => Err((next, Halt::from(error))),
+                    Ok(()) => self.behind_map(receiver, entries, bytes, next),
+                },
             },
             Stage::Identifier => self.behind_map(receiver, entries, bytes, at),
             Stage::Body => unreachable!(),

@@ -12,7 +12,7 @@ ghost use Rattle.fast_walk.specs.OpenSegments.{Waiting, at_instruction, cursor, 
 ghost use Rattle.fast_walk.specs.Received.{Received, Carries, closed_in};
 ghost use Rattle.fast_walk.specs.Passing.{next_behind};
 ghost use Rattle.fast_walk.specs.Walks.{next_of, weight_of};
-ghost use Rattle.fast_walk.specs.Room.{HasRoom, HasRoomInside, HasRoomOutside};
+ghost use Rattle.fast_walk.specs.Awaited.{IsAwaited, AwaitsInside, AwaitsOutside};
 ghost use Rattle.fast_walk.specs.Pieces.{CanWalk, IsTaken, Reaches, Runs};
 
 use crate::bits::{first_for, read_own_map, take_for};
@@ -232,7 +232,7 @@ impl<'a> Walk<'a> {
     ) -> Result<usize, Halt>
         requires place { at ≤ length bytes.now }
         requires first { Begins self.now (instruction_of flat.now) (list_of others.now) }
-        requires walk { CanWalk (E.serves entries.now) (E.contents entries.now) (R.room receiver.now) self.now }
+        requires walk { CanWalk (E.serves entries.now) (E.contents entries.now) (R.awaits receiver.now) self.now }
         ensures piece { IsTaken L.at R.Receiver E.Entries self.old receiver.old entries.old self.new receiver.new entries.new bytes.now at result }
         ensures keeps { Carries (R.keeps receiver.old) (R.keeps receiver.new) }
         ensures same_keys { E.serves entries.new ≡ E.serves entries.old }
@@ -293,7 +293,8 @@ impl<'a> Walk<'a> {
                 if present {
                     let own_map = has_map(members);
                     let (bits, next) = read_own_map(alloc, *number, own_map, level, bytes, at)?;
-                    receiver.enter(alloc, name, *number, optional, own_map, members.len())?;
+                    let map = &bytes[at..next];
+                    receiver.enter(alloc, name, *number, optional, map, members.len())?;
                     take_for(&mut self.bits, optional);
                     self.open(members, others, bits, Inside::Group(*number))?;
                     Ok(next)
@@ -426,7 +427,7 @@ impl<'a> Walk<'a> {
         inside: Inside<'a>,
     ) -> Result<(), AllocError>
         requires next { self.now.next ≡ Next.Instruction }
-        requires room { HasRoomInside (R.room receiver.now) }
+        requires awaits { AwaitsInside (R.awaits receiver.now) }
         ensures has { OnOk result ((o : Received) (d : Dictionary) (ws : List Waiting) (w : Waiting)
             → o.next ≡ at_instruction → o.body.rest ≡ no_instructions → o.around ≡ ws ++ w ∷ []
             → bare_inside w.inside ≡ inside_of inside.entry → R.has receiver.old o d
@@ -439,7 +440,7 @@ impl<'a> Walk<'a> {
         ensures served { OnOk result ((serves : key_type.Key → Bool)
             → IsInsideServed serves (inside_of inside.entry)
             → IsNextServed serves (next_of self.new.next)) }
-        ensures room { OnOk result (HasRoomOutside (R.room receiver.old) (R.room receiver.new)) }
+        ensures awaits { OnOk result (AwaitsOutside (R.awaits receiver.old) (R.awaits receiver.new)) }
         ensures keeps { Carries (R.keeps receiver.old) (R.keeps receiver.new) }
         ensures weight { weight_of self.new.next ≤ 2 }
     {
@@ -484,7 +485,7 @@ impl<'a> Walk<'a> {
     ) -> Result<usize, Halt>
         requires inside { IsInside self.now }
         requires place { at ≤ length bytes.now }
-        requires walk { CanWalk (E.serves entries.now) (E.contents entries.now) (R.room receiver.now) self.now }
+        requires walk { CanWalk (E.serves entries.now) (E.contents entries.now) (R.awaits receiver.now) self.now }
         ensures piece { IsTaken L.at R.Receiver E.Entries self.old receiver.old entries.old self.new receiver.new entries.new bytes.now at result }
         ensures keeps { Carries (R.keeps receiver.old) (R.keeps receiver.new) }
         ensures same_keys { E.serves entries.new ≡ E.serves entries.old }
@@ -513,7 +514,8 @@ impl<'a> Walk<'a> {
                 let own_map = sequel.own_map;
                 self.count(number)?;
                 let (bits, next) = read_own_map(alloc, number, own_map, level, bytes, at)?;
-                receiver.enter_element(alloc, number, own_map, sequel.members.len())?;
+                let map = &bytes[at..next];
+                receiver.enter_element(alloc, number, map, sequel.members.len())?;
                 let others = Sequel {
                     number,
                     own_map,
@@ -539,7 +541,8 @@ impl<'a> Walk<'a> {
                             let (bits, next) = read_own_map(
                                 alloc, number, own_map, strictness, bytes, at,
                             )?;
-                            receiver.next_element(alloc, number, own_map, sequel.members.len())?;
+                            let map = &bytes[at..next];
+                            receiver.next_element(alloc, number, map, sequel.members.len())?;
                             self.go_on(sequel, bits);
                             Ok(next)
                         }
@@ -570,8 +573,8 @@ impl<'a> Walk<'a> {
         at: usize,
     ) -> Result<usize, AllocError>
         requires place { at ≤ length bytes.now }
-        requires walk { CanWalk (E.serves entries.now) (E.contents entries.now) (R.room receiver.now) self.now }
-        ensures fields { IfOk result (λ n. Reaches L.at R.has R.room (E.serves entries.old) self.old receiver.old (E.contents entries.old)
+        requires walk { CanWalk (E.serves entries.now) (E.contents entries.now) (R.awaits receiver.now) self.now }
+        ensures fields { IfOk result (λ n. Reaches L.at R.has R.awaits (E.serves entries.old) self.old receiver.old (E.contents entries.old)
             self.new receiver.new (E.contents entries.new) bytes.now at n × (rank_of self.new ≤ rank_of self.old)) }
         ensures keeps { Carries (R.keeps receiver.old) (R.keeps receiver.new) }
         ensures same_keys { E.serves entries.new ≡ E.serves entries.old }
@@ -608,7 +611,7 @@ impl<'a> Walk<'a> {
         at: usize,
     ) -> Result<usize, (usize, Halt)>
         requires place { at ≤ length bytes.now }
-        requires walk { CanWalk (E.serves entries.now) (E.contents entries.now) (R.room receiver.now) self.now }
+        requires walk { CanWalk (E.serves entries.now) (E.contents entries.now) (R.awaits receiver.now) self.now }
         ensures runs { Runs L.at R.Receiver E.Entries self.old receiver.old entries.old self.new receiver.new entries.new bytes.now at result }
         ensures keeps { Carries (R.keeps receiver.old) (R.keeps receiver.new) }
         ensures same_keys { E.serves entries.new ≡ E.serves entries.old }
@@ -648,7 +651,7 @@ impl<'a> Walk<'a> {
         at: usize,
     ) -> Result<usize, (usize, Halt)>
         requires place { at ≤ length bytes.now }
-        requires walk { CanWalk (E.serves entries.now) (E.contents entries.now) (R.room receiver.now) self.now }
+        requires walk { CanWalk (E.serves entries.now) (E.contents entries.now) (R.awaits receiver.now) self.now }
         ensures runs { Runs level R.Receiver E.Entries self.old receiver.old entries.old self.new receiver.new entries.new bytes.now at result }
         ensures keeps { Carries (R.keeps receiver.old) (R.keeps receiver.new) }
         ensures same_keys { E.serves entries.new ≡ E.serves entries.old }

@@ -1,5 +1,5 @@
 -- What the proofs of this crate cite from elsewhere, passed on from one place. Declares nothing.
-pub use Rattle.std.proofs.Common.{Bool, Err, IfSome, IsTrue, List, None, Ok, Option, Result, Some, [], ap, append-nil, arith, codes, cond, drop, false, if◌then◌else◌, inl, inr, length, length-append, length-drop, lit<, lit≤, map, nat_lt, negsuc, not, pos, refl, rules, slice_index, slice_index_or, slice_set, subst, suc, sym, take, true, true≢false, zero, ℕ, ℤ, ◌&&◌, ◌++◌, ◌+ℤ◌, ◌+◌, ◌-◌, ◌<◌, ◌^◌, ◌∙◌, ◌∷◌, ◌≡◌, ◌≤◌, ◌⊎◌}
+pub use Rattle.std.proofs.Common.{Bool, Err, IfSome, IsTrue, List, None, Ok, Option, Result, Some, [], ap, append-nil, arith, codes, cond, drop, false, if◌then◌else◌, inl, inr, length, length-append, length-drop, lit<, lit≤, map, nat_lt, negsuc, not, pos, refl, rules, slice_index, slice_index_or, slice_set, subst, suc, sym, take, true, true≢false, zero, ℕ, ℤ, ◌&&◌, ◌++◌, ◌+ℤ◌, ◌+◌, ◌-◌, ◌<◌, ◌^◌, ◌∙◌, ◌∷◌, ◌≡◌, ◌≢◌, ◌≤◌, ◌⊎◌, ◌*◌, nat_eq}
 pub use Rattle.std.proofs.Math.IntN.{+ℤ_idl}
 pub use Rattle.std.proofs.Math.ListN.{drop_of_length-le}
 pub use Rattle.std.proofs.Math.Seq.{take-suc}
@@ -17,7 +17,7 @@ pub use Rattle.fast_wire.proofs.ShortMaps.{none_set, shortest_map_begins}
 pub use Rattle.fast_wire.proofs.UnsignedForms.{entity_some}
 pub use Rattle.fast_wire.specs.Entity.{groups}
 pub use Rattle.fast_wire.specs.Integer.{IsSigned, magnitude, unsigned_of}
-pub use Rattle.fast_wire.specs.PresenceMap.{HasSetBit, IsMap, bit_at, bits_of, later_bits, next_bit}
+pub use Rattle.fast_wire.specs.PresenceMap.{HasSetBit, IsMap, IsWholeMap, bit_at, bits_of, later_bits, next_bit}
 pub use Rattle.fast_wire.specs.Reader.{IsBytes}
 pub use Rattle.fast_wire.specs.Sizes.{CanBeMap, ascii_size}
 unfoldable pub use Rattle.fast_wire.specs.Sizes.{groups_from, signed_size}
@@ -84,15 +84,13 @@ pub use Rattle.fast_walk.proofs.Walking.{exponent_on, is_instruction, is_mantiss
 pub use Rattle.fast_walk.specs.OpenSegments.{Body, Inside, Next, Sequel, Waiting, at_element, at_instruction, at_mantissa, cursor, fewer, in_group, in_sequence, with_element, with_item}
 pub use Rattle.fast_walk.specs.Passing.{next_behind}
 pub use Rattle.fast_walk.specs.Received.{IsExponent, Received, Took, after_exponent, after_length, after_sequence, bytes_in, content_received, ended_in, entered, exponent_of, in_element, length_of, moved, opened, passed}
-pub use Rattle.fast_walk.specs.Room.{HasRoomInside}
 pub use Rattle.fast_walk.specs.Told.{HoldScalars, IsTold, KeepScalars}
 pub use Rattle.fast_walk.specs.Walks.{AreServed, IsNextServed, IsServed, bare_next}
 pub use Rattle.fast_writer.specs.Canonical.{CanonBody, CanonFrom, CanonMessage, IsCanonical, IsShortestMap}
-pub use Rattle.fast_writer.specs.Levels.{level_in, level_of}
+pub use Rattle.fast_writer.specs.Levels.{level_of}
 pub use Rattle.fast_writer.specs.Quick.{Relayed, RelaysEntry, RelaysPart, StopsPart}
-pub use Rattle.fast_writer.specs.Room.{has_room, have_room}
 pub use Rattle.fast_writer.specs.Runs.{IsRun}
-pub use Rattle.fast_writer.specs.Takings.{BeginsWith, EndsPart, Front, MatchTaken, Takes, TakesPart, TakesUnder, TookFields, TookUnder, behind}
+pub use Rattle.fast_writer.specs.Takings.{BeginsWith, Front, MatchTaken, Takes, TakesPart, TakesUnder, TookFields, TookUnder, behind}
 pub use Rattle.fast_writer.specs.Written.{AppendsForm, Asked, Chain, Closes, Ended, IsBehind, IsEmpty, IsFinished, IsOpened, IsTop, IsWritten, Leaves, Opening, Segment, Spelt, Waits, bits_for, has_set, more_of, of_message, state, with_bytes}
 pub use Rattle.fast_writer.specs.declared.fields.Taken.{Taken}
 pub use Rattle.fast_writer.specs.declared.run.Run.{Run}

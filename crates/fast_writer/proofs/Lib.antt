@@ -6,6 +6,10 @@ pub mod Writings
 mod Runs
 pub mod Relays
 pub mod Writers
-pub mod MapRoom
+pub mod SetBits
+mod Drafting
+mod Same
+mod Opened
+mod Awaiting
 pub mod Takings
 mod SpeltParts

@@ -1,5 +1,5 @@
 -- A part that was read and written at once.
-use Rattle.fast_writer.proofs.Common.{◌≡◌, ◌<◌, ℕ, ◌+◌, Bool, List, ◌++◌, ◌∷◌, Option, Some, None, true, false, [], drop, length, refl, sym, ap, subst, ◌∙◌, append-nil, arith, slice_index, FieldPart, Scalar, part_needs_bit, Entry, Dictionary, entry_at, set_entry, set_entry-there, Level, ReadsAsUsual, Judges, RelaysByte, Run, length_of, Passes as FieldPasses, Relayed, RelaysEntry, RelaysPart, StopsPart, took_of, FieldFault, Segment, AppendsForm, Asked, Spelt, Operator, operator_needs_bit, Usual, IsBest, Cut, FormOf}
+use Rattle.fast_writer.proofs.Common.{◌≡◌, ◌<◌, ℕ, ◌+◌, Bool, List, ◌++◌, ◌∷◌, Option, Some, None, true, false, [], drop, length, refl, sym, ap, subst, ◌∙◌, append-nil, arith, slice_index, FieldPart, Scalar, part_needs_bit, Entry, Dictionary, entry_at, set_entry, set_entry-there, Level, ReadsAsUsual, Judges, RelaysByte, Run, length_of, Passes as FieldPasses, Relayed, RelaysEntry, RelaysPart, StopsPart, took_of, FieldFault, AppendsForm, Operator, operator_needs_bit, Usual, IsBest, Cut, FormOf}
 use Rattle.std.proofs.Common.{◌⊎◌}
 use Rattle.fast_writer.proofs.Common.{IfSome, IsTrue, Kind, inl, inr, is_of, is_some, IsThere}
 use Rattle.fast_take.specs.Takes.{IsStopped, IsTakenAs, best_bit, best_form, count_of, place_of}
@@ -7,16 +7,15 @@ use Rattle.fast_take.specs.declared.took.Aside.{Aside}
 use Rattle.fast_take.specs.declared.took.Took.{Took}
 use Rattle.fast_writer.specs.Runs.{written}
 use Rattle.fast_writer.proofs.Runs.{settled}
-use Rattle.fast_writer.proofs.MapRoom.{asked_room}
+use Rattle.fast_draft.specs.Segments.{Segment as Drafted, ahead, with_more}
+use Rattle.fast_writer.specs.Drafts.{Marked, SpeltIn, noted}
 
-spelt_entry : {p : FieldPart} {old : Entry} {v : Option Scalar} {bit needed : Bool} {l k : Segment} {bytes : List ℕ} → needed ≡ part_needs_bit p → AppendsForm p old v bit l.bytes bytes
-    → Asked needed bit (record { bits = l.bits; own = l.own; bytes = bytes }) k → Spelt p old v l k
-spelt_entry {bit = bit} needs form asked = record {
+spelt_entry : {p : FieldPart} {old : Entry} {v : Option Scalar} {bit needed : Bool} {s t : Drafted} → needed ≡ part_needs_bit p → AppendsForm p old v bit s.bytes t.bytes → Marked needed bit s t → SpeltIn p old v s t
+spelt_entry {bit = bit} needs form marked = record {
   bit = bit;
   form = form.form;
-  bits = rw (needs) at asked.bits;
-  own = asked.own;
-  bytes = asked.bytes ∙ form.appended;
+  marked = rw (needs) at marked;
+  bytes = form.appended;
   needs = form.needs;
   best = form.best;
 }
@@ -79,25 +78,34 @@ but_memory (inl h) other = h
 but_memory (inr h) other = absurd (other h.0)
 
 -- what stops it, but for memory
-pub took_stops : {level : Level} {p : FieldPart} {d e : Dictionary} {old new : Entry} {bit : Bool} {bytes : List ℕ} {at : ℕ} {f : FieldFault} (l : Segment)
-    → old ≡ entry_at d p.key → e ≡ set_entry d p.key new → IsStopped level p old new bit bytes at f → StopsPart level p d e bit (drop at bytes) l l f
-took_stops {p = p} l is put s other = (rw (is) at (but_memory s.fault other), still p is put s.entry, refl)
+pub took_stops : {level : Level} {p : FieldPart} {d e : Dictionary} {old new : Entry} {bit : Bool} {bytes : List ℕ} {at : ℕ} {f : FieldFault} (s : Drafted)
+    → old ≡ entry_at d p.key → e ≡ set_entry d p.key new → IsStopped level p old new bit bytes at f → StopsPart level p d e bit (drop at bytes) s s f
+took_stops {p = p} s is put stopped other = (rw (is) at (but_memory stopped.fault other), still p is put stopped.entry, refl)
 
 -- where nothing is noted yet
-pub begun : (bytes : List ℕ) (r s : Run) (at : ℕ) → s.out.items ≡ r.out.items → s.from ≡ at → s.place ≡ at → written bytes s ≡ r.out.items
-begun bytes r s at out from place = rw (out, from, place) (settled bytes r.out.items at)
+pub begun : (bytes : List ℕ) (r s : Run) (at : ℕ) → s.draft ≡ r.draft → s.from ≡ at → s.place ≡ at → s.passed ≡ 0 → noted bytes s ≡ r.draft.inner
+begun bytes r s at draft from place none = rw (draft, from, place, none, settled bytes r.draft.inner.bytes at) refl
+
+drafted_is : (a b : List ℕ) (x y : List Bool) (c d : List ℕ) → a ≡ b → x ≡ y → c ≡ d → ◌≡◌ {A = Drafted} (record { map = a; left = x; bytes = c }) (record { map = b; left = y; bytes = d })
+drafted_is a b x y c d map left bytes = rw (map, left, bytes) refl
+
+-- where all that was noted is appended, and the draft is told of the bits that were passed
+pub flushed : (bytes : List ℕ) (r s q : Run) → s.draft.inner ≡ ahead r.passed r.draft.inner → s.from ≡ r.from → s.place ≡ r.place
+    → q.draft.inner.map ≡ s.draft.inner.map → q.draft.inner.left ≡ s.draft.inner.left → q.draft.inner.bytes ≡ written bytes s → q.draft.inner ≡ noted bytes r
+flushed bytes r s q inner from place map left same =
+    drafted_is q.draft.inner.map r.draft.inner.map q.draft.inner.left (drop r.passed r.draft.inner.left) q.draft.inner.bytes (written bytes r)
+    (map ∙ ap (λ (d : Drafted). d.map) inner) (left ∙ ap (λ (d : Drafted). d.left) inner) (same ∙ rw (inner, from, place) refl)
 
 -- ---- under a key
 
--- what was relayed into the entry that is put, and its bit asked for
-pub relays_under : {level : Level} {p : FieldPart} {d e : Dictionary} {old new : Entry} {bit best needed : Bool} {v : Option Scalar} {bytes : List ℕ} {at next : ℕ} {l k : Segment} {after : List ℕ}
+-- what was relayed into the entry that is put, and its bit passed
+pub relays_under : {level : Level} {p : FieldPart} {d e : Dictionary} {old new : Entry} {bit best needed : Bool} {v : Option Scalar} {bytes : List ℕ} {at next : ℕ} {s t : Drafted}
     → old ≡ entry_at d p.key → e ≡ set_entry d p.key new → needed ≡ part_needs_bit p
-    → RelaysEntry level p old new bit best v bytes at next l.bytes after → Asked needed best (record { bits = l.bits; own = l.own; bytes = after }) k → RelaysPart level p d e bit v bytes at next l k
-relays_under {p = p} {bit = bit} {best = best} {v = v} {l = l} {k = k} is put needs r asked = record {
+    → RelaysEntry level p old new bit best v bytes at next s.bytes t.bytes → Marked needed best s t → RelaysPart level p d e bit v bytes at next s t
+relays_under {p = p} {v = v} {s = s} {t = t} is put needs r marked = record {
   place = r.place;
   took = took_of is put r.relayed.entry r.relayed.read;
-  spelt = subst (λ (x : Entry). Spelt p x v l k) is (spelt_entry needs r.relayed.form asked);
-  room = λ around left is room. asked_room (part_needs_bit p) bit best l k left around is r.lower (rw (needs) at asked.bits) asked.own room;
+  spelt = subst (λ (x : Entry). SpeltIn p x v s t) is (spelt_entry needs r.relayed.form marked);
 }
 
 -- a length in one byte, whose entry stays
@@ -107,11 +115,11 @@ byte_relayed level i (Some n) bytes at usual relays e out = judged_relayed usual
 byte_relayed level i None bytes at usual relays e out = judged_relayed usual (relays e) refl
 
 -- where no bit is asked for
-pub byte_relays : (level : Level) (p : FieldPart) (bit : Bool) (d : Dictionary) (count : Option ℕ) (bytes : List ℕ) (at : ℕ) (l k : Segment)
+pub byte_relays : (level : Level) (p : FieldPart) (bit : Bool) (d : Dictionary) (count : Option ℕ) (bytes : List ℕ) (at : ℕ) (s t : Drafted)
     → part_needs_bit p ≡ false → bit ≡ true → at < length bytes → ReadsAsUsual level p (drop at bytes) → RelaysByte p count bytes at
-    → k.bits ≡ l.bits → k.own ≡ l.own → k.bytes ≡ l.bytes ++ slice_index bytes at ∷ [] → RelaysPart level p d d bit (length_of count) bytes at (at + 1) l k
-byte_relays level p bit d count bytes at l k none is within usual relays bits own pushed =
+    → t ≡ with_more s (slice_index bytes at ∷ []) → RelaysPart level p d d bit (length_of count) bytes at (at + 1) s t
+byte_relays level p bit d count bytes at s t none is within usual relays pushed =
     let e = entry_at d p.key in
-    relays_under {best = true} {after = l.bytes ++ slice_index bytes at ∷ []} refl (sym (set_entry-there d p.key)) (sym none)
-    (record { place = (omega arith, omega (arith, within)); relayed = rw (is) (byte_relayed level p count bytes at usual relays e l.bytes); lower = λ zero. absurd (let both = sym is ∙ zero in cc) })
-    (record { bits = bits ∙ sym (append-nil l.bits); own = own; bytes = pushed })
+    relays_under {best = true} refl (sym (set_entry-there d p.key)) (sym none)
+    (rw pushed (record { place = (omega arith, omega (arith, within)); relayed = rw (is) (byte_relayed level p count bytes at usual relays e s.bytes); lower = λ zero. absurd (let both = sym is ∙ zero in cc) }))
+    (rw pushed (record { left = refl; map = refl }))

@@ -1,5 +1,7 @@
 -- What is spelled of a part of a set: a value of its type, and of a mandatory part a value.
-use Rattle.fast_writer.proofs.Common.{◌≡◌, ℕ, Bool, true, false, List, Option, Some, None, refl, sym, ap, subst, ◌∙◌, Bor, is_some, option_copied, ℤ, IfSome, IsTrue, is_of, Kind, Part, Mandatory, Scalar, I32, I64, FieldPart, IsTyped, Entry, Dictionary, entry_at, IsFieldPart, value_kind, value_there, written, exponent_of, HoldScalars, KeepScalars, IsTold, are_kept, form_holds, kept_hold, told_part, IsThere, AppendsForm, Segment, Spelt}
+use Rattle.fast_writer.proofs.Common.{◌≡◌, ℕ, Bool, true, false, List, Option, Some, None, refl, sym, ap, subst, ◌∙◌, Bor, is_some, option_copied, ℤ, IfSome, IsTrue, is_of, Kind, Part, Mandatory, Scalar, I32, I64, FieldPart, IsTyped, Entry, Dictionary, entry_at, IsFieldPart, value_kind, value_there, written, exponent_of, HoldScalars, KeepScalars, IsTold, are_kept, form_holds, kept_hold, told_part, IsThere, AppendsForm}
+use Rattle.fast_draft.specs.Segments.{Segment as Drafted}
+use Rattle.fast_writer.specs.Drafts.{SpeltIn}
 
 -- ---- values
 
@@ -29,8 +31,8 @@ exponent_there k true v is h =
 exponent_there k false v is h = (None, h, refl)
 
 -- a mantissa has a value, which is an integer of 64 bits
-pub mantissa_taken : {p : FieldPart} {e : Entry} {v : Option Scalar} {l k : Segment} (there : Bool) → IsTold Part.Mantissa Kind.Int64 p → p.presence ≡ Mandatory
-    → IsThere p.kind there v → Spelt p e v l k → (m : ℤ) × (v ≡ Some (I64 m))
+pub mantissa_taken : {p : FieldPart} {e : Entry} {v : Option Scalar} {s t : Drafted} (there : Bool) → IsTold Part.Mantissa Kind.Int64 p → p.presence ≡ Mandatory
+    → IsThere p.kind there v → SpeltIn p e v s t → (m : ℤ) × (v ≡ Some (I64 m))
 mantissa_taken true told mandatory is s =
     let w = is_int64 is.0 (rw (told.kind_is) at is.2) in
     (w.0, is.1 ∙ ap (λ (x : Scalar). Some x) w.1)
@@ -40,6 +42,6 @@ mantissa_taken {p} {e} false told mandatory is s =
 
 -- ---- entries
 
-pub spelt_keeps : (p : FieldPart) (d e : Dictionary) (v : Option Scalar) (l k : Segment) → IsFieldPart p → KeepScalars d → e ≡ written p d v → Spelt p (entry_at d p.key) v l k → KeepScalars e
-spelt_keeps p d e v l k is kept after s =
-    are_kept e (subst HoldScalars (sym after) (form_holds p d s.bit s.form v is (kept_hold d kept) (s.best.cut, s.best.form)))
+pub spelt_keeps : (p : FieldPart) (d e : Dictionary) (v : Option Scalar) (s t : Drafted) → IsFieldPart p → KeepScalars d → e ≡ written p d v → SpeltIn p (entry_at d p.key) v s t → KeepScalars e
+spelt_keeps p d e v s t is kept after x =
+    are_kept e (subst HoldScalars (sym after) (form_holds p d x.bit x.form v is (kept_hold d kept) (x.best.cut, x.best.form)))

@@ -1,11 +1,15 @@
 -- Fields that are taken one after the other into the segment that is open.
-use Rattle.fast_writer.proofs.Common.{◌≡◌, ◌≤◌, ◌<◌, ◌-◌, ◌+◌, ℕ, suc, ℤ, pos, Bool, false, List, [], ◌∷◌, ◌++◌, length, Option, Some, None, drop, take, refl, sym, ap, ◌∙◌, subst, arith, drop-drop, take_all, is_some, slice_get, Bor, Scalar, I64, Decimal, Presence, FieldPart, Flat, Instruction, Instructions, instruction_of, whole_field, field_in_parts, group_of, sequence_of, then_instruction, list_of, part_needs_bit, Dictionary, entry_at, set_entry, Entry, Level, single, bit_for, after_bit, at_instruction, at_mantissa, cursor, with_item, Took, exponent_of, next_behind, AreServed, IsNextServed, IsServed, Key, passes_field, passes_on, passes_one, count_goes, part_goes, exponent_on, no_exponent_on, mantissa_on_goes, is_instruction, is_mantissa, Segment, Spelt, BeginsWith, EndsPart, Front, MatchTaken, Takes, TakesPart, TakesUnder, TookFields, TookUnder, behind, level_in, level_of, Relayed, RelaysPart, Taken, IsThere, Run, IsFieldPart, KeepScalars}
-use Rattle.fast_writer.specs.declared.segment.Segment.{Segment as LevelNow}
+use Rattle.fast_writer.proofs.Common.{◌≡◌, ◌≤◌, ◌<◌, ◌-◌, ◌+◌, ℕ, suc, ℤ, pos, Bool, false, List, [], ◌∷◌, ◌++◌, length, Option, Some, None, drop, take, refl, sym, ap, ◌∙◌, subst, arith, drop-drop, take_all, is_some, slice_get, Bor, Scalar, I64, Decimal, Presence, FieldPart, Flat, Instruction, Instructions, instruction_of, whole_field, field_in_parts, group_of, sequence_of, then_instruction, list_of, part_needs_bit, Dictionary, entry_at, set_entry, Entry, Level, single, bit_for, after_bit, at_instruction, at_mantissa, cursor, with_item, Took, exponent_of, next_behind, AreServed, IsNextServed, IsServed, Key, passes_field, passes_on, passes_one, count_goes, part_goes, exponent_on, no_exponent_on, mantissa_on_goes, is_instruction, is_mantissa, BeginsWith, Front, Takes, TakesPart, TakesUnder, TookFields, TookUnder, behind, Relayed, RelaysPart, Taken, IsThere, Run, IsFieldPart, KeepScalars}
+use Rattle.fast_draft.specs.Segments.{Segment as Drafted}
+use Rattle.fast_writer.specs.Drafts.{Marked, SpeltIn, noted}
 use Rattle.fast_writer.specs.declared.fields.Taken.TheVariants.{Part, Elsewhere, Refused}
 use Rattle.fast_writer.specs.Runs.{IsRun, written}
-use Rattle.fast_writer.proofs.Relays.{relays_under, still}
+use Rattle.fast_writer.specs.Quick.{RelaysEntry}
+use Rattle.fast_writer.specs.Takings.{TookThere}
+use Rattle.fast_writer.proofs.Relays.{passes_relayed, relays_under, still}
+use Rattle.fast_writer.proofs.Common.{true, Passes as FieldPasses}
 use Rattle.fast_writer.proofs.SpeltParts.{exponent_there, mantissa_taken, spelt_keeps}
-use Rattle.fast_writer.proofs.Writers.{has_field, has_exponent, has_mantissa}
+use Rattle.fast_writer.proofs.Opened.{drafts_exponent, drafts_field, drafts_mantissa}
 
 abbrev behind_first : List Flat → List Flat
 behind_first others = take (length others - 1) (drop 1 others)
@@ -44,105 +48,98 @@ served_ahead serves front served = subst (AreServed serves) front.goes served
 
 -- ---- a part
 
--- the bit is taken and asked for behind what is noted
-pub ended : {bytes : List ℕ} {next : ℕ} (there needed best : Bool) (bits later : List Bool) (l k : LevelNow) (r : Run) (t : Taken) → IsRun bytes next r
-    → MatchTaken t (λ is. (is ≡ there) × EndsPart needed best bits later (record { bits = l.bits; own = l.own; bytes = r.out.items }) (level_of k) × (k.bytes ≡ r)) ⊥
-    → MatchTaken t (λ is. (is ≡ there) × EndsPart needed best bits later (record { bits = l.bits; own = l.own; bytes = written bytes r }) (level_in bytes k) × IsRun bytes next k.bytes) ⊥
-ended {bytes} {next} there needed best bits later l k r (Part is) run e = (
-  e.0,
-  record { asked = record { bits = e.1.asked.bits; own = e.1.asked.own; bytes = ap (written bytes) e.2 }; left = e.1.left },
-  subst (λ (s : Run). IsRun bytes next s) (sym e.2) run,
-)
-ended there needed best bits later l k r Elsewhere run e = e
-ended there needed best bits later l k r Refused run e = e
-
--- its best form is written
-pub taken : {p : FieldPart} {old new : Entry} {bit best needed : Bool} {v : Option Scalar} {after : List ℕ} (level : Level) (there : Bool) (bits later : List Bool) (bytes : List ℕ) (at next : ℕ) (l k : LevelNow) (t : Taken)
-    → bit_for (part_needs_bit p) bits ≡ bit → needed ≡ part_needs_bit p → (bit ≡ false → best ≡ false) → at ≤ next → IsThere p.kind there v
-    → Relayed level p old new bit best v (drop at bytes) (drop next bytes) (written bytes l.bytes) after
-    → MatchTaken t (λ is. (is ≡ there) × EndsPart needed best bits later (record { bits = l.bits; own = l.own; bytes = after }) (level_in bytes k) × IsRun bytes next k.bytes) ⊥
-    → TakesPart level p old new bits later bytes at l k t
-taken {best = best} {v = v} level there bits later bytes at next l k (Part is) bit needs low forward value relayed e = record {
-  run = subst (λ (n : ℕ). IsRun bytes n k.bytes) (sym e.2.place) e.2;
+-- its best form is noted, and its bit passed
+pub taken : {p : FieldPart} {old new : Entry} {bit best : Bool} {v : Option Scalar} (level : Level) (there : Bool) (bits later : List Bool) (bytes : List ℕ) (at next : ℕ) (r q : Run)
+    → bit_for (part_needs_bit p) bits ≡ bit → (bit ≡ false → best ≡ false) → at ≤ next → IsThere p.kind there v → Relayed level p old new bit best v (drop at bytes) (drop next bytes) (written bytes r) (written bytes q)
+    → IsRun bytes next q → Marked (part_needs_bit p) best (noted bytes r) (noted bytes q) → later ≡ after_bit (part_needs_bit p) bits → TookThere level p there old new bits later bytes at r q
+taken {p = p} {old = old} {new = new} {bit = bit} {best = best} {v = v} level there bits later bytes at next r q is low forward value relayed run marked left = record {
+  run = subst (λ (n : ℕ). IsRun bytes n q) (sym run.place) run;
   value = v;
-  is_there = rw (e.0) value;
+  is_there = value;
   best = best;
-  relayed = rw (bit, e.1.asked.bytes, e.2.place) (record { place = (forward, e.2.within); relayed = relayed; lower = low });
-  asked = record { bits = rw (needs) at e.1.asked.bits; own = e.1.asked.own; bytes = refl };
-  left = rw (needs) at e.1.left;
+  relayed = rw is (subst (λ (n : ℕ). RelaysEntry level p old new bit best v bytes at n (written bytes r) (written bytes q)) (sym run.place) (record { place = (forward, run.within); relayed = relayed; lower = low }));
+  marked = marked;
+  left = left;
 }
-taken level there bits later bytes at next l k Elsewhere bit needs low forward value relayed e = absurd e
-taken level there bits later bytes at next l k Refused bit needs low forward value relayed e = tt
+
+-- bit 0 gives it
+pub given : {p : FieldPart} {old new : Entry} {v : Option Scalar} (level : Level) (there : Bool) (bits later : List Bool) (bytes : List ℕ) (r q : Run)
+    → part_needs_bit p ≡ true → bit_for true bits ≡ false → IsThere p.kind there v → FieldPasses p old new v → IsRun bytes r.place r
+    → q.from ≡ r.from → q.place ≡ r.place → q.draft.inner.bytes ≡ r.draft.inner.bytes → Marked true false (noted bytes r) (noted bytes q) → later ≡ after_bit true bits → TookThere level p there old new bits later bytes r.place r q
+given {v = v} level there bits later bytes r q needs bit value passes run from place same marked left =
+    let noted_is : written bytes q ≡ written bytes r = rw (from, place, same) refl in
+    taken {bit = false} {best = false} {v = v} level there bits later bytes r.place r.place r q (rw needs bit) (λ low. refl) (omega arith) value (rw noted_is (passes_relayed needs passes))
+    (record { from = rw (from, place) (run.from); place = place; within = run.within }) (rw needs marked) (rw needs left)
 
 -- its entry is put under its key
-pub taken_under : (level : Level) (p : FieldPart) (d e : Dictionary) (old new : Entry) (bits later : List Bool) (bytes : List ℕ) (at : ℕ) (l k : LevelNow) (t : Taken)
+pub taken_under : (level : Level) (p : FieldPart) (d e : Dictionary) (old new : Entry) (bits later : List Bool) (bytes : List ℕ) (at : ℕ) (r q : Run) (t : Taken)
     → IsFieldPart p → KeepScalars d → old ≡ entry_at d p.key → e ≡ set_entry d p.key new
-    → TakesPart level p old new bits later bytes at l k t → TakesUnder level p d e bits later bytes at l k t
-taken_under level p d e old new bits later bytes at l k (Part there) part kept is put t =
-    let r : RelaysPart level p d e (bit_for (part_needs_bit p) bits) t.value bytes at k.bytes.place (level_in bytes l) (level_in bytes k) = relays_under is put refl t.relayed t.asked in
-    record { run = t.run; value = t.value; is_there = t.is_there; relayed = r; left = t.left; kept = spelt_keeps p d e t.value (level_in bytes l) (level_in bytes k) part kept r.took.entry r.spelt }
-taken_under level p d e old new bits later bytes at l k Elsewhere part kept is put s =
+    → TakesPart level p old new bits later bytes at r q t → TakesUnder level p d e bits later bytes at r q t
+taken_under level p d e old new bits later bytes at r q (Part there) part kept is put t =
+    let x : RelaysPart level p d e (bit_for (part_needs_bit p) bits) t.value bytes at q.place (noted bytes r) (noted bytes q) = relays_under is put refl t.relayed t.marked in
+    record { run = t.run; value = t.value; is_there = t.is_there; relayed = x; left = t.left; kept = spelt_keeps p d e t.value (noted bytes r) (noted bytes q) part kept x.took.entry x.spelt }
+taken_under level p d e old new bits later bytes at r q Elsewhere part kept is put s =
     record { same = still p is put s.same; segment = s.segment; left = s.left; run = s.run }
-taken_under level p d e old new bits later bytes at l k Refused part kept is put t = tt
+taken_under level p d e old new bits later bytes at r q Refused part kept is put t = tt
 
 -- ---- fields
 
 module _ {level : Level} {bytes : List ℕ} where
   -- one behind the other
-  takes_on : {l k j : Segment} {d e c : Dictionary} {bits later last : List Bool} {f g h : Front} → Takes level bytes l d bits f k e later g → Takes level bytes k e later g j c last h → Takes level bytes l d bits f j c last h
+  takes_on : {s t u : Drafted} {d e c : Dictionary} {bits later last : List Bool} {f g h : Front} → Takes level bytes s d bits f t e later g → Takes level bytes t e later g u c last h → Takes level bytes s d bits f u c last h
   takes_on one two = record {
-    passes = λ out outer o next first opened.
-        let p = one.passes out outer o next first opened in
-        passes_on p (two.passes out outer p.received p.next_is p.left_is p.has);
+    passes = λ out around o next first opened.
+        let p = one.passes out around o next first opened in
+        passes_on p (two.passes out around p.received p.next_is p.left_is p.has);
   }
 
   -- a field
-  takes_field : {l k : Segment} {d e : Dictionary} {bits later : List Bool} {p : FieldPart} {v : Option Scalar} (name : List ℕ) (number : ℕ) (presence : Presence) (is : Instructions) (spare place next : ℕ) → 0 < spare
-      → Took level p (bit_for (part_needs_bit p) bits) d e v (drop place bytes) (drop next bytes) → Spelt p (entry_at d p.key) v l k → later ≡ after_bit (part_needs_bit p) bits
-      → Takes level bytes l d bits (record { mantissa = None; rest = then_instruction (whole_field name number presence p) is; spare = spare; place = place }) k e later (record { mantissa = None; rest = is; spare = spare - 1; place = next })
-  takes_field {l} {k} {d} {e} {p = p} {v} name number presence is spare place next some took spelt map = record {
-    passes = λ out outer o at left opened. passes_field o name number presence is at left some took map (has_field (is_instruction o.next at) left took.entry spelt opened);
+  takes_field : {s t : Drafted} {d e : Dictionary} {bits later : List Bool} {p : FieldPart} {v : Option Scalar} (name : List ℕ) (number : ℕ) (presence : Presence) (is : Instructions) (spare place next : ℕ) → 0 < spare
+      → Took level p (bit_for (part_needs_bit p) bits) d e v (drop place bytes) (drop next bytes) → SpeltIn p (entry_at d p.key) v s t → later ≡ after_bit (part_needs_bit p) bits
+      → Takes level bytes s d bits (record { mantissa = None; rest = then_instruction (whole_field name number presence p) is; spare = spare; place = place }) t e later (record { mantissa = None; rest = is; spare = spare - 1; place = next })
+  takes_field {s} {t} {d} {e} {p = p} {v} name number presence is spare place next some took spelt map = record {
+    passes = λ out around o at left opened. passes_field o name number presence is at left some took map (drafts_field (is_instruction o.next at) left took.entry spelt opened);
   }
 
   -- the exponent of a decimal in parts
-  takes_exponent : {l k : Segment} {d e : Dictionary} {bits later : List Bool} {p : FieldPart} (z : Option ℤ) (name : List ℕ) (number : ℕ) (presence : Presence) (q : Bor FieldPart) (is : Instructions) (spare place next : ℕ) → 0 < spare
-      → Took level p (bit_for (part_needs_bit p) bits) d e (exponent_of z) (drop place bytes) (drop next bytes) → Spelt p (entry_at d p.key) (exponent_of z) l k → later ≡ after_bit (part_needs_bit p) bits
-      → Takes level bytes l d bits (record { mantissa = None; rest = then_instruction (field_in_parts name number presence p q.now) is; spare = spare; place = place })
-      k e later (record { mantissa = behind (is_some z) (Some q); rest = is; spare = spare - 1; place = next })
-  takes_exponent {l} {k} {d} {e} {bits} {later} {p} None name number presence q is spare place next some took spelt map = record {
-    passes = λ out outer o at left opened.
+  takes_exponent : {s t : Drafted} {d e : Dictionary} {bits later : List Bool} {p : FieldPart} (z : Option ℤ) (name : List ℕ) (number : ℕ) (presence : Presence) (q : Bor FieldPart) (is : Instructions) (spare place next : ℕ) → 0 < spare
+      → Took level p (bit_for (part_needs_bit p) bits) d e (exponent_of z) (drop place bytes) (drop next bytes) → SpeltIn p (entry_at d p.key) (exponent_of z) s t → later ≡ after_bit (part_needs_bit p) bits
+      → Takes level bytes s d bits (record { mantissa = None; rest = then_instruction (field_in_parts name number presence p q.now) is; spare = spare; place = place })
+      t e later (record { mantissa = behind (is_some z) (Some q); rest = is; spare = spare - 1; place = next })
+  takes_exponent {s} {t} {d} {e} {bits} {later} {p} None name number presence q is spare place next some took spelt map = record {
+    passes = λ out around o at left opened.
         let here = is_instruction o.next at in
-        passes_one o at_instruction (record { rest = is; done = o.body.done ++ single None ∷ [] }) refl refl (has_exponent None here left took.entry spelt opened) (λ more. rw (map, took.entry)
+        passes_one o at_instruction (record { rest = is; done = o.body.done ++ single None ∷ [] }) refl refl (drafts_exponent None here left took.entry spelt opened) (λ more. rw (map, took.entry)
         (no_exponent_on level [] o.next o.body name number presence p q.now is (cursor d bits spare (drop place bytes ++ more)) (cursor d bits (spare - 1) (drop place bytes ++ more)) _ None here left refl
         (count_goes number spare d bits (drop place bytes ++ more) some)
         (part_goes level p d bits (spare - 1) (drop place bytes ++ more) (drop next bytes ++ more) None (took.value more))));
   }
-  takes_exponent {l} {k} {d} {e} {bits} {later} {p} (Some z) name number presence q is spare place next some took spelt map = record {
-    passes = λ out outer o at left opened.
+  takes_exponent {s} {t} {d} {e} {bits} {later} {p} (Some z) name number presence q is spare place next some took spelt map = record {
+    passes = λ out around o at left opened.
         let here = is_instruction o.next at in
-        passes_one o (at_mantissa z q.now) (record { rest = is; done = o.body.done }) refl refl (has_exponent (Some z) here left took.entry spelt opened) (λ more. rw (map, took.entry)
+        passes_one o (at_mantissa z q.now) (record { rest = is; done = o.body.done }) refl refl (drafts_exponent (Some z) here left took.entry spelt opened) (λ more. rw (map, took.entry)
         (exponent_on level [] o.next o.body name number presence p q.now is (cursor d bits spare (drop place bytes ++ more)) (cursor d bits (spare - 1) (drop place bytes ++ more)) _ (exponent_of (Some z)) z here left refl
         (count_goes number spare d bits (drop place bytes ++ more) some)
         (part_goes level p d bits (spare - 1) (drop place bytes ++ more) (drop next bytes ++ more) (exponent_of (Some z)) (took.value more))));
   }
 
   -- the mantissa of a decimal whose exponent is there
-  takes_mantissa : {l k : Segment} {d e : Dictionary} {bits later : List Bool} (q : Bor FieldPart) (m : ℤ) (is : Instructions) (spare place next : ℕ)
-      → Took level q.now (bit_for (part_needs_bit q.now) bits) d e (Some (I64 m)) (drop place bytes) (drop next bytes) → Spelt q.now (entry_at d q.now.key) (Some (I64 m)) l k → later ≡ after_bit (part_needs_bit q.now) bits
-      → Takes level bytes l d bits (record { mantissa = Some q; rest = is; spare = spare; place = place }) k e later (record { mantissa = None; rest = is; spare = spare; place = next })
-  takes_mantissa {l} {k} {d} {e} {bits} {later} q m is spare place next took spelt map = record {
-    passes = λ out outer o at left opened.
+  takes_mantissa : {s t : Drafted} {d e : Dictionary} {bits later : List Bool} (q : Bor FieldPart) (m : ℤ) (is : Instructions) (spare place next : ℕ)
+      → Took level q.now (bit_for (part_needs_bit q.now) bits) d e (Some (I64 m)) (drop place bytes) (drop next bytes) → SpeltIn q.now (entry_at d q.now.key) (Some (I64 m)) s t → later ≡ after_bit (part_needs_bit q.now) bits
+      → Takes level bytes s d bits (record { mantissa = Some q; rest = is; spare = spare; place = place }) t e later (record { mantissa = None; rest = is; spare = spare; place = next })
+  takes_mantissa {s} {t} {d} {e} {bits} {later} q m is spare place next took spelt map = record {
+    passes = λ out around o at left opened.
         let here = is_mantissa o.next (pos 0) q.now at in
-        passes_one o at_instruction (with_item o.body (single (Some (Decimal here.exponent m)))) refl left (has_mantissa here.is took.entry spelt opened) (λ more. rw (map, took.entry)
+        passes_one o at_instruction (with_item o.body (single (Some (Decimal here.exponent m)))) refl left (drafts_mantissa here.is took.entry spelt opened) (λ more. rw (map, took.entry)
         (mantissa_on_goes level [] o.next here.exponent m q.now o.body (cursor d bits spare (drop place bytes ++ more)) _ here.is
         (part_goes level q.now d bits spare (drop place bytes ++ more) (drop next bytes ++ more) (Some (I64 m)) (took.value more))));
   }
 
   -- an instruction that is a field, or begins with the exponent of a decimal in parts
-  takes_first : (i : Instruction) {there : Bool} {p : FieldPart} {d e : Dictionary} {bits later : List Bool} {k j : LevelNow} (m : Option (Bor FieldPart)) (is : Instructions) (spare : ℕ)
-      → BeginsWith i p m → 0 < spare → TookUnder level p there d e bits later bytes k.bytes.place k j
-      → Takes level bytes (level_in bytes k) d bits (record { mantissa = None; rest = then_instruction i is; spare = spare; place = k.bytes.place })
-      (level_in bytes j) e later (record { mantissa = behind there m; rest = is; spare = spare - 1; place = j.bytes.place })
+  takes_first : (i : Instruction) {there : Bool} {p : FieldPart} {d e : Dictionary} {bits later : List Bool} {r q : Run} (m : Option (Bor FieldPart)) (is : Instructions) (spare : ℕ)
+      → BeginsWith i p m → 0 < spare → TookUnder level p there d e bits later bytes r.place r q
+      → Takes level bytes (noted bytes r) d bits (record { mantissa = None; rest = then_instruction i is; spare = spare; place = r.place })
+      (noted bytes q) e later (record { mantissa = behind there m; rest = is; spare = spare - 1; place = q.place })
   takes_first (whole_field name number presence whole) {there} m is spare begins some t =
       rw (begins.1, sym begins.0) (takes_field name number presence is spare _ _ some t.relayed.took t.relayed.spelt t.left)
   takes_first (field_in_parts name number presence exponent q) {there} {p} m is spare begins some t =
@@ -151,10 +148,14 @@ module _ {level : Level} {bytes : List ℕ} where
   takes_first (group_of name number presence members) m is spare begins some t = absurd begins
   takes_first (sequence_of name number presence part members) m is spare begins some t = absurd begins
 
+  -- the bits that are left of what is walked are those that are left of the map
+  pub left_on : {p : FieldPart} {d e : Dictionary} {there : Bool} {bits later : List Bool} {at : ℕ} {r q : Run} → TookUnder level p there d e bits later bytes at r q → bits ≡ (noted bytes r).left → later ≡ (noted bytes q).left
+  left_on {p} t same = t.left ∙ ap (after_bit (part_needs_bit p)) same ∙ sym t.relayed.spelt.marked.left
+
   -- ---- fields from the front of a body
 
-  pub took_none : {serves : Key → Bool} {rest : List Flat} {l : Segment} {d : Dictionary} {bits : List Bool} {at : ℕ} → AreServed serves (list_of rest) → KeepScalars d
-      → TookFields level serves rest bytes l d bits at 0 None l d bits at
+  pub took_none : {serves : Key → Bool} {rest : List Flat} {s : Drafted} {d : Dictionary} {bits : List Bool} {at : ℕ} → AreServed serves (list_of rest) → KeepScalars d
+      → TookFields level serves rest bytes s d bits at 0 None s d bits at
   took_none served kept = record {
     place = omega arith;
     within = omega arith;
@@ -163,16 +164,16 @@ module _ {level : Level} {bytes : List ℕ} where
     next_served = tt;
     takes = λ spare few.
         let whole : spare - 0 ≡ spare = omega arith in
-        rw whole (record { passes = λ out outer o at left opened. passes_one o o.next o.body at left opened (λ more. refl) });
-    room = λ around room. room;
+        rw whole (record { passes = λ out around o at left opened. passes_one o o.next o.body at left opened (λ more. refl) });
+    left = λ same. same;
     kept = kept;
   }
 
   -- the first part of the instruction behind those that were taken
-  pub took_next : {serves : Key → Bool} {rest others : List Flat} {l : Segment} {d e c : Dictionary} {bits later last : List Bool} {at : ℕ} {f : Flat} {there : Bool} {p : FieldPart} {k j : LevelNow} (m n : Option (Bor FieldPart)) → Ahead rest others f
-      → TookUnder level p there e c later last bytes k.bytes.place k j → TookFields level serves rest bytes l d bits at (length rest - length others) None (level_in bytes k) e later k.bytes.place
+  pub took_next : {serves : Key → Bool} {rest others : List Flat} {s : Drafted} {d e c : Dictionary} {bits later last : List Bool} {at : ℕ} {f : Flat} {there : Bool} {p : FieldPart} {r q : Run} (m n : Option (Bor FieldPart)) → Ahead rest others f
+      → TookUnder level p there e c later last bytes r.place r q → TookFields level serves rest bytes s d bits at (length rest - length others) None (noted bytes r) e later r.place
       → BeginsWith (instruction_of f) p m → n ≡ behind there m → IsNextServed serves (next_behind n)
-      → TookFields level serves rest bytes l d bits at (length rest - length others + 1) n (level_in bytes j) c last j.bytes.place
+      → TookFields level serves rest bytes s d bits at (length rest - length others + 1) n (noted bytes q) c last q.place
   took_next {serves = serves} {rest = rest} {others = others} {f = f} m n front t so_far begins after next =
       let count = length rest - length others in
       record {
@@ -185,16 +186,16 @@ module _ {level : Level} {bytes : List ℕ} where
             let less : spare - (count + 1) ≡ spare - count - 1 = omega arith in
             takes_on (so_far.takes spare few)
             (rw (after, less, front.goes) (takes_first (instruction_of f) m (list_of (drop (count + 1) rest)) (spare - count) begins (omega (arith, few, front.within)) t));
-        room = λ around room. rw (t.left) (t.relayed.room around _ refl (so_far.room around room));
+        left = λ same. left_on t (so_far.left same);
         kept = t.kept;
       }
 
   -- the mantissa that is next
-  pub took_mantissa : {serves : Key → Bool} {rest : List Flat} {l : Segment} {d e c : Dictionary} {bits later last : List Bool} {at count : ℕ} {there : Bool} {q : Bor FieldPart} {k j : LevelNow}
-      → TookUnder level q.now there e c later last bytes k.bytes.place k j
-      → TookFields level serves rest bytes l d bits at count (Some q) (level_in bytes k) e later k.bytes.place
-      → TookFields level serves rest bytes l d bits at count None (level_in bytes j) c last j.bytes.place
-  took_mantissa {rest = rest} {e = e} {count = count} {there = there} {q = q} {k = k} {j = j} t so_far =
+  pub took_mantissa : {serves : Key → Bool} {rest : List Flat} {s : Drafted} {d e c : Dictionary} {bits later last : List Bool} {at count : ℕ} {there : Bool} {m : Bor FieldPart} {r q : Run}
+      → TookUnder level m.now there e c later last bytes r.place r q
+      → TookFields level serves rest bytes s d bits at count (Some m) (noted bytes r) e later r.place
+      → TookFields level serves rest bytes s d bits at count None (noted bytes q) c last q.place
+  took_mantissa {rest = rest} {e = e} {count = count} {there = there} {m = m} t so_far =
       let told = so_far.next_served in
       let x = mantissa_taken there told.0.1 told.1 t.is_there t.relayed.spelt in
       record {
@@ -203,7 +204,7 @@ module _ {level : Level} {bytes : List ℕ} where
         some = λ one. absurd cc;
         served = so_far.served;
         next_served = tt;
-        takes = λ spare few. takes_on (so_far.takes spare few) (takes_mantissa q x.0 (list_of (drop count rest)) (spare - count) _ _ (rw (x.1) at t.relayed.took) (rw (x.1) at t.relayed.spelt) t.left);
-        room = λ around room. rw (t.left) (t.relayed.room around _ refl (so_far.room around room));
+        takes = λ spare few. takes_on (so_far.takes spare few) (takes_mantissa m x.0 (list_of (drop count rest)) (spare - count) _ _ (rw (x.1) at t.relayed.took) (rw (x.1) at t.relayed.spelt) t.left);
+        left = λ same. left_on t (so_far.left same);
         kept = t.kept;
       }

@@ -4,5 +4,5 @@ pub mod Written
 pub mod Quick
 pub mod Runs
 pub mod Levels
-pub mod Room
+pub mod Drafts
 pub mod Takings

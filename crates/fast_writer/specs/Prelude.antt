@@ -1,5 +1,6 @@
 -- What the definitions of this crate cite from elsewhere, passed on from one place. Declares nothing.
-pub use Rattle.fast_wire.specs.PresenceMap.{IsMap, IsWholeMap, bit_at, later_bits, next_bit}
+pub use Rattle.fast_wire.specs.Entity.{groups}
+pub use Rattle.fast_wire.specs.PresenceMap.{IsMap, IsWholeMap, bit_at, bits_of, later_bits, next_bit}
 pub use Rattle.fast_wire.specs.Writing.{IsShortest}
 pub use Rattle.fast_wire.specs.declared.level.Level.{Level}
 pub use Rattle.fast_value.specs.declared.key.Key.{Key}

@@ -149,13 +149,6 @@ pub record Closes (outer : List Segment) (now : Segment) (later : List Segment) 
   pub next_is : next ≡ record { bits = around.bits; own = around.own; bytes = bytes }
   pub ended : Ended now around.bytes bytes
 
--- the innermost segment has ended in the one around it, which is still around
-pub record ClosesIn (outer : List Segment) (now : Segment) (later : List Segment) : Type 0 where
-  pub fore : List Segment
-  pub next : Segment
-  pub closes : Closes outer now fore next
-  pub later_is : later ≡ fore ++ next ∷ []
-
 -- whether a bit is 1
 abbrev pub has_set : List Bool → Bool
 has_set [] = false

@@ -10,10 +10,11 @@ ghost use Rattle.fast_field.specs.Passed.{Passes};
 ghost use Rattle.fast_relay.specs.OneByte.{StandsByte};
 ghost use Rattle.fast_walk.specs.Received.{length_of};
 ghost use Rattle.fast_walk.specs.Told.{KeepScalars};
-ghost use Rattle.fast_writer.specs.Levels.{level_of};
+ghost use Rattle.fast_wire.specs.PresenceMap.{next_bit};
 ghost use Rattle.fast_writer.specs.Quick.{RelaysCount};
 
-use crate::segment::Segment;
+use crate::relay::put_at_once;
+use crate::run::Run;
 use fast_dictionary::{Entries, Entry};
 use fast_field::{FieldFault, Passed, pass_left_out, reads_as_usual};
 use fast_relay::take_short_number;
@@ -51,24 +52,27 @@ pub(crate) fn relay_count<E: Entries>(
     level: Level,
     bytes: &[u8],
     at: usize,
-    segment: &mut Segment,
+    run: &mut Run,
     aside: &mut Aside,
 ) -> Result<(Option<u32>, usize), FieldFault>
     requires place { at ≤ length bytes.now }
     requires bit { part_needs_bit_of part.now ≡ false → bit ≡ true }
+    requires none { run.now.passed ≡ 0 }
+    requires next { part_needs_bit_of part.now ≡ true → bit ≡ next_bit run.now.draft.inner.left }
     requires served { IsTrue (E.serves entries.now part.now.key) }
     requires part { IsFieldPart part.now }
     requires kept { KeepScalars (E.contents entries.now) }
     requires kind { part.now.kind ≡ UInt32 }
     ensures relays { RelaysCount level part.now (E.contents entries.old) (E.contents entries.new) bit
-        bytes.now at (level_of segment.old) (level_of segment.new) result }
+        bytes.now at run.old.draft.inner run.new.draft.inner result }
+    ensures around { run.new.draft.around ≡ run.old.draft.around }
+    ensures none { run.new.passed ≡ 0 }
     ensures same_keys { E.serves entries.new ≡ E.serves entries.old }
 {
     let entry = entries.entry_mut(&part.key)?;
     let took = take(part, entry, bit, level, bytes, at, aside)?;
     let count = aside.count_in(took, part, entry, bit);
-    aside.append_best(took, bytes, at, &mut segment.bytes.out)?;
-    segment.ask(part_needs_bit(part), took.best_bit(bit, aside))?;
+    put_at_once(run, part_needs_bit(part), bit, took, aside, bytes, at)?;
     Ok((count, took.place()))
 }
 
@@ -103,28 +107,32 @@ fn relay_sent_identifier<E: Entries>(
     level: Level,
     bytes: &[u8],
     at: usize,
-    segment: &mut Segment,
+    run: &mut Run,
     aside: &mut Aside,
 ) -> Result<(Option<u32>, usize), FieldFault>
     requires place { at ≤ length bytes.now }
+    requires none { run.now.passed ≡ 0 }
+    requires next { part_needs_bit_of part.now ≡ true → true ≡ next_bit run.now.draft.inner.left }
     requires served { IsTrue (E.serves entries.now part.now.key) }
     requires part { IsFieldPart part.now }
     requires kept { KeepScalars (E.contents entries.now) }
     requires kind { part.now.kind ≡ UInt32 }
     requires whole { part.now.part ≡ Whole }
     ensures relays { RelaysCount level part.now (E.contents entries.old) (E.contents entries.new) true
-        bytes.now at (level_of segment.old) (level_of segment.new) result }
+        bytes.now at run.old.draft.inner run.new.draft.inner result }
+    ensures around { run.new.draft.around ≡ run.old.draft.around }
+    ensures none { run.new.passed ≡ 0 }
     ensures same_keys { E.serves entries.new ≡ E.serves entries.old }
 {
     let entry = entries.entry_mut(&part.key)?;
     match short_count(part, entry, level, bytes, at) {
-        None => relay_count(entries, part, true, level, bytes, at, segment, aside),
+        None => relay_count(entries, part, true, level, bytes, at, run, aside),
         Some(count) => {
-            match segment.bytes.out.push(bytes[at]) {
+            match run.draft.push(bytes[at]) {
                 Err(_) => return Err(FieldFault::Memory),
                 Ok(()) => {}
             }
-            segment.ask(part_needs_bit(part), true)?;
+            run.mark_at_once(part_needs_bit(part), true, true);
             Ok((Some(count), at + 1))
         }
     }
@@ -139,28 +147,32 @@ pub(crate) fn relay_identifier<E: Entries>(
     level: Level,
     bytes: &[u8],
     at: usize,
-    segment: &mut Segment,
+    run: &mut Run,
     aside: &mut Aside,
 ) -> Result<(Option<u32>, usize), FieldFault>
     requires place { at ≤ length bytes.now }
     requires bit { part_needs_bit_of part.now ≡ false → bit ≡ true }
+    requires none { run.now.passed ≡ 0 }
+    requires next { part_needs_bit_of part.now ≡ true → bit ≡ next_bit run.now.draft.inner.left }
     requires served { IsTrue (E.serves entries.now part.now.key) }
     requires part { IsFieldPart part.now }
     requires kept { KeepScalars (E.contents entries.now) }
     requires kind { part.now.kind ≡ UInt32 }
     requires whole { part.now.part ≡ Whole }
     ensures relays { RelaysCount level part.now (E.contents entries.old) (E.contents entries.new) bit
-        bytes.now at (level_of segment.old) (level_of segment.new) result }
+        bytes.now at run.old.draft.inner run.new.draft.inner result }
+    ensures around { run.new.draft.around ≡ run.old.draft.around }
+    ensures none { run.new.passed ≡ 0 }
     ensures same_keys { E.serves entries.new ≡ E.serves entries.old }
 {
     if bit {
-        return relay_sent_identifier(entries, part, level, bytes, at, segment, aside);
+        return relay_sent_identifier(entries, part, level, bytes, at, run, aside);
     }
     let entry = entries.entry_mut(&part.key)?;
     match repeat_count(part, entry) {
-        None => relay_count(entries, part, bit, level, bytes, at, segment, aside),
+        None => relay_count(entries, part, bit, level, bytes, at, run, aside),
         Some(count) => {
-            segment.ask(part_needs_bit(part), false)?;
+            run.mark_at_once(part_needs_bit(part), false, false);
             Ok((count, at))
         }
     }

@@ -1,10 +1,10 @@
 //! Fields that are taken one after the other, with no call of the walk between them.
 
-ghost use Rattle.std.specs.Prelude.{◌≡◌, ◌≢◌, ◌≤◌, ◌<◌, ◌+◌, ◌-◌, ◌&&◌, Bool, true, false, Option, None, IsSome, IfOk, IfSome, MatchOption, OnOk, IsTrue, length, drop, slice_range};
+ghost use Rattle.std.specs.Prelude.{◌≡◌, ◌≢◌, ◌≤◌, ◌<◌, ◌+◌, ◌-◌, ◌*◌, ◌^◌, ℕ, Bool, List, true, false, Option, None, IsSome, IfOk, IfSome, MatchOption, OnOk, IsTrue, length, drop, slice_range};
 ghost use Rattle.fast_template.specs.Resolved.{instruction_of, list_of, part_needs_bit as part_needs_bit_of};
 ghost use Rattle.fast_value.specs.declared.scalar.Scalar.{Scalar as ScalarOf};
 ghost use Rattle.fast_dictionary.specs.declared.entry.Entry.{Entry as EntryOf};
-ghost use Rattle.fast_stream.specs.Bits.{bit_for};
+ghost use Rattle.fast_stream.specs.Bits.{after_bit, bit_for};
 ghost use Rattle.fast_field.specs.Parts.{IsFieldPart};
 ghost use Rattle.fast_field.specs.Passed.{Passes};
 ghost use Rattle.fast_field.specs.AsUsual.{ReadsAsUsual};
@@ -16,21 +16,19 @@ ghost use Rattle.fast_relay.specs.Relayed.{IsThere};
 ghost use Rattle.fast_relay.specs.Best.{form_of};
 ghost use Rattle.fast_relay.specs.Judged.{IsJudged};
 ghost use Rattle.fast_take.specs.Takes.{best_bit, best_form, first_of, is_there, place_of};
-ghost use Rattle.fast_writer.specs.Runs.{IsRun};
-ghost use Rattle.fast_writer.specs.Levels.{level_in, level_of};
-ghost use Rattle.fast_writer.specs.Room.{has_room};
+ghost use Rattle.fast_writer.specs.Drafts.{Marked, noted};
+ghost use Rattle.fast_writer.specs.Runs.{IsRun, written};
 ghost use Rattle.fast_wire.specs.PresenceMap.{next_bit};
-ghost use Rattle.fast_writer.specs.Written.{with_bytes};
-ghost use Rattle.fast_writer.specs.Takings.{BeginsWith, EndsPart, IsFirstTold, MatchTaken, Takes, TakesPart, TakesUnder, TookFields, front_of};
+ghost use Rattle.fast_writer.specs.Takings.{BeginsWith, IsFirstTold, MatchTaken, Takes, TakesPart, TakesUnder, TookFields, front_of};
 ghost use Rattle.fast_value.specs.declared.key.Key.{Key};
 ghost use Rattle.fast_value.specs.declared.kind.Kind.TheVariants.{Int32};
 ghost use Rattle.fast_value.specs.declared.kind.Part.TheVariants.{Exponent, Whole};
 
-use crate::segment::Segment;
+use crate::run::Run;
 use fast_dictionary::{Entries, Entry};
 use fast_field::{FieldFault, Passed};
 use fast_relay::{Judged, pass_quickly};
-use fast_take::{Aside, Took, judge_sent, relay_judged};
+use fast_take::{Aside, judge_sent, relay_judged};
 use fast_template::{FieldPart, Flat, Part, part_needs_bit};
 use fast_walk::{Fields, Leveled, take_for};
 use fast_wire::{Bits, Level};
@@ -46,52 +44,6 @@ pub(crate) enum Taken {
     Refused,
 }
 
-// Takes the bit of a part that was taken, and asks for the one of its best form.
-#[inline(always)]
-fn end_part(bits: &mut Bits, needs: bool, best: bool, segment: &mut Segment, there: bool) -> Taken
-    ensures { MatchTaken result (λ is. (is ≡ there)
-        × EndsPart needs best bits.old bits.new (level_of segment.old) (level_of segment.new)
-        × (segment.new.bytes ≡ segment.old.bytes)) ⊥ }
-{
-    take_for(bits, needs);
-    match segment.ask(needs, best) {
-        Err(_) => Taken::Refused,
-        Ok(()) => Taken::Part(there),
-    }
-}
-
-// Takes a part that was taken: its best form is written.
-#[inline(always)]
-fn end_taken(
-    bits: &mut Bits,
-    needs: bool,
-    bit: bool,
-    took: Took,
-    bytes: &[u8],
-    segment: &mut Segment,
-    aside: &Aside,
-) -> Taken
-    requires run { IsRun bytes.now segment.now.bytes.place segment.now.bytes }
-    requires place { (segment.now.bytes.place ≤ place_of took) × (place_of took ≤ length bytes.now) }
-    requires first { first_of segment.now.bytes.place aside.now took ≤ place_of took }
-    ensures { MatchTaken result (λ is. (is ≡ is_there took aside.now)
-        × EndsPart needs (best_bit bit aside.now took) bits.old bits.new
-        (with_bytes (level_in bytes.now segment.old) (best_form bytes.now segment.old.bytes.place aside.now took))
-        (level_in bytes.now segment.new) × IsRun bytes.now (place_of took) segment.new.bytes) ⊥ }
-{
-    let best = took.best_bit(bit, aside);
-    match end_part(bits, needs, best, segment, took.is_there(aside)) {
-        Taken::Part(there) => {
-            if segment.bytes.put_taken(took, aside, bytes) {
-                Taken::Part(there)
-            } else {
-                Taken::Refused
-            }
-        }
-        Taken::Elsewhere | Taken::Refused => Taken::Refused,
-    }
-}
-
 // Takes a part that bit 0 gives.
 #[inline(always)]
 fn take_given<L: Leveled>(
@@ -101,19 +53,31 @@ fn take_given<L: Leveled>(
     bits: &mut Bits,
     level: L,
     bytes: &[u8],
-    segment: &mut Segment,
+    run: &mut Run,
 ) -> Taken
-    requires run { IsRun bytes.now segment.now.bytes.place segment.now.bytes }
+    requires run { IsRun bytes.now run.now.place run.now }
     requires which { which ≡ part.now.part }
     requires part { IsFieldPart part.now }
     requires needs { IsTrue (part_needs_bit_of part.now) }
     requires bit { next_bit bits.now ≡ false }
-    ensures { TakesPart L.at part.now entry.old entry.new bits.old bits.new bytes.now
-        segment.old.bytes.place segment.old segment.new result }
+    requires left { bits.now ≡ drop run.now.passed run.now.draft.inner.left }
+    requires few { run.now.passed < 2 ^ 60 }
+    ensures taken { TakesPart L.at part.now entry.old entry.new bits.old bits.new bytes.now
+        run.old.place run.old run.new result }
+    ensures around { run.new.draft.around ≡ run.old.draft.around }
+    ensures few { run.new.passed ≤ run.old.passed + 1 }
 {
     match pass_quickly(which, part, entry) {
-        Passed::Present => end_part(bits, true, false, segment, true),
-        Passed::Absent => end_part(bits, true, false, segment, false),
+        Passed::Present => {
+            take_for(bits, true);
+            run.mark(true, false, false);
+            Taken::Part(true)
+        }
+        Passed::Absent => {
+            take_for(bits, true);
+            run.mark(true, false, false);
+            Taken::Part(false)
+        }
         Passed::Elsewhere => Taken::Elsewhere,
     }
 }
@@ -128,32 +92,37 @@ fn take_rest(
     bits: &mut Bits,
     level: Level,
     bytes: &[u8],
-    segment: &mut Segment,
+    run: &mut Run,
     aside: &mut Aside,
 ) -> Taken
-    requires run { IsRun bytes.now segment.now.bytes.place segment.now.bytes }
-    requires judged { (before : EntryOf) × IsJudged part.now before entry.now bytes.now segment.now.bytes.place judged }
-    requires usual { judged ≢ Judged.Elsewhere → ReadsAsUsual level part.now (drop segment.now.bytes.place bytes.now) }
+    requires run { IsRun bytes.now run.now.place run.now }
+    requires judged { (before : EntryOf) × IsJudged part.now before entry.now bytes.now run.now.place judged }
+    requires usual { judged ≢ Judged.Elsewhere → ReadsAsUsual level part.now (drop run.now.place bytes.now) }
     requires kept { judged ≡ Judged.Elsewhere → HoldsScalar entry.now }
     requires part { IsFieldPart part.now }
     requires bit { bit_for (part_needs_bit_of part.now) bits.now ≡ true }
-    ensures { (before : EntryOf) → IsJudged part.now before entry.old bytes.now segment.old.bytes.place judged
-        → TakesPart level part.now before entry.new bits.old bits.new bytes.now segment.old.bytes.place
-        segment.old segment.new result }
+    requires left { bits.now ≡ drop run.now.passed run.now.draft.inner.left }
+    requires few { run.now.passed < 2 ^ 60 }
+    ensures taken { (before : EntryOf) → IsJudged part.now before entry.old bytes.now run.old.place judged
+        → TakesPart level part.now before entry.new bits.old bits.new bytes.now run.old.place
+        run.old run.new result }
+    ensures around { run.new.draft.around ≡ run.old.draft.around }
+    ensures few { run.new.passed ≤ run.old.passed + 1 }
 {
-    let at = segment.bytes.place;
+    let at = run.place;
     match relay_judged(judged, part, entry, level, bytes, at, aside) {
         Err(FieldFault::Memory) => Taken::Refused,
         Err(_) => Taken::Elsewhere,
-        Ok(took) => end_taken(
-            bits,
-            part_needs_bit(part),
-            true,
-            took,
-            bytes,
-            segment,
-            aside,
-        ),
+        Ok(took) => {
+            let needs = part_needs_bit(part);
+            take_for(bits, needs);
+            run.mark(needs, true, took.best_bit(true, aside));
+            if run.put_taken(took, aside, bytes) {
+                Taken::Part(took.is_there(aside))
+            } else {
+                Taken::Refused
+            }
+        }
     }
 }
 
@@ -166,34 +135,32 @@ fn take_sent<L: Leveled>(
     bits: &mut Bits,
     level: L,
     bytes: &[u8],
-    segment: &mut Segment,
+    run: &mut Run,
     aside: &mut Aside,
 ) -> Taken
-    requires run { IsRun bytes.now segment.now.bytes.place segment.now.bytes }
+    requires run { IsRun bytes.now run.now.place run.now }
     requires which { which ≡ part.now.part }
     requires kept { HoldsScalar entry.now }
     requires part { IsFieldPart part.now }
     requires bit { bit_for (part_needs_bit_of part.now) bits.now ≡ true }
-    ensures { TakesPart L.at part.now entry.old entry.new bits.old bits.new bytes.now
-        segment.old.bytes.place segment.old segment.new result }
+    requires left { bits.now ≡ drop run.now.passed run.now.draft.inner.left }
+    requires few { run.now.passed < 2 ^ 60 }
+    ensures taken { TakesPart L.at part.now entry.old entry.new bits.old bits.new bytes.now
+        run.old.place run.old run.new result }
+    ensures around { run.new.draft.around ≡ run.old.draft.around }
+    ensures few { run.new.passed ≤ run.old.passed + 1 }
 {
-    let at = segment.bytes.place;
+    let at = run.place;
     let spare = &mut aside.spare;
     match judge_sent(which, spare, part, entry, level.level(), bytes, at) {
         Judged::Stands(next) => {
-            segment.bytes.keep(next);
-            end_part(bits, part_needs_bit(part), true, segment, true)
+            run.keep(next);
+            let needs = part_needs_bit(part);
+            take_for(bits, needs);
+            run.mark(needs, true, true);
+            Taken::Part(true)
         }
-        judged => take_rest(
-            judged,
-            part,
-            entry,
-            bits,
-            level.level(),
-            bytes,
-            segment,
-            aside,
-        ),
+        judged => take_rest(judged, part, entry, bits, level.level(), bytes, run, aside),
     }
 }
 
@@ -207,16 +174,20 @@ fn take_part<L: Leveled, E: Entries>(
     bits: &mut Bits,
     level: L,
     bytes: &[u8],
-    segment: &mut Segment,
+    run: &mut Run,
     aside: &mut Aside,
 ) -> Taken
-    requires run { IsRun bytes.now segment.now.bytes.place segment.now.bytes }
+    requires run { IsRun bytes.now run.now.place run.now }
     requires which { which ≡ part.now.part }
     requires served { IsTrue (E.serves entries.now part.now.key) }
     requires part { IsFieldPart part.now }
     requires kept { KeepScalars (E.contents entries.now) }
+    requires left { bits.now ≡ drop run.now.passed run.now.draft.inner.left }
+    requires few { run.now.passed < 2 ^ 60 }
     ensures taken { TakesUnder L.at part.now (E.contents entries.old) (E.contents entries.new) bits.old bits.new
-        bytes.now segment.old.bytes.place segment.old segment.new result }
+        bytes.now run.old.place run.old run.new result }
+    ensures around { run.new.draft.around ≡ run.old.draft.around }
+    ensures few { run.new.passed ≤ run.old.passed + 1 }
     ensures same_keys { E.serves entries.new ≡ E.serves entries.old }
 {
     match entries.entry_mut(&part.key) {
@@ -224,9 +195,9 @@ fn take_part<L: Leveled, E: Entries>(
         Ok(entry) => {
             // one way for each bit, so that nothing is asked twice of what they answer
             if part_needs_bit(part) && !bits.first() {
-                take_given(which, part, entry, bits, level, bytes, segment)
+                take_given(which, part, entry, bits, level, bytes, run)
             } else {
-                take_sent(which, part, entry, bits, level, bytes, segment, aside)
+                take_sent(which, part, entry, bits, level, bytes, run, aside)
             }
         }
     }
@@ -260,17 +231,21 @@ fn take_all<'a, L: Leveled, E: Entries>(
     bits: &mut Bits,
     level: L,
     bytes: &[u8],
-    segment: &mut Segment,
+    run: &mut Run,
     aside: &mut Aside,
 ) -> Result<(&'a [Flat], Option<&'a FieldPart>), AllocError>
-    requires run { IsRun bytes.now segment.now.bytes.place segment.now.bytes }
+    requires run { IsRun bytes.now run.now.place run.now }
     requires served { AreServed (E.serves entries.now) (list_of rest.now) }
     requires kept { KeepScalars (E.contents entries.now) }
-    ensures run { OnOk result (IsRun bytes.now segment.new.bytes.place segment.new.bytes) }
+    requires left { bits.now ≡ run.now.draft.inner.left }
+    requires few { length rest.now < 2 ^ 32 }
+    requires none { run.now.passed ≡ 0 }
+    ensures run { OnOk result (IsRun bytes.now run.new.place run.new) }
+    ensures around { run.new.draft.around ≡ run.old.draft.around }
     ensures fewer { IfOk result (λ x. length x.0.now ≤ length rest.now) }
     ensures took { IfOk result (λ x. TookFields L.at (E.serves entries.old) rest.now bytes.now
-        (level_in bytes.now segment.old) (E.contents entries.old) bits.old segment.old.bytes.place
-        (length rest.now - length x.0.now) x.1 (level_in bytes.now segment.new) (E.contents entries.new) bits.new segment.new.bytes.place) }
+        (noted bytes.now run.old) (E.contents entries.old) bits.old run.old.place
+        (length rest.now - length x.0.now) x.1 (noted bytes.now run.new) (E.contents entries.new) bits.new run.new.place) }
     ensures same_keys { E.serves entries.new ≡ E.serves entries.old }
 {
     // no function of its own: what it changes stays in registers here (the instructions go by a slice, since an index would not)
@@ -285,7 +260,7 @@ fn take_all<'a, L: Leveled, E: Entries>(
                 bits,
                 level,
                 bytes,
-                segment,
+                run,
                 aside,
             ) {
                 Taken::Part(_there) => others = &others[1..],
@@ -299,7 +274,7 @@ fn take_all<'a, L: Leveled, E: Entries>(
                 bits,
                 level,
                 bytes,
-                segment,
+                run,
                 aside,
             ) {
                 Taken::Part(true) => match take_part(
@@ -309,7 +284,7 @@ fn take_all<'a, L: Leveled, E: Entries>(
                     bits,
                     level,
                     bytes,
-                    segment,
+                    run,
                     aside,
                 ) {
                     Taken::Part(_there) => others = &others[1..],
@@ -334,21 +309,27 @@ fn take_run<'a, L: Leveled, E: Entries>(
     bits: &mut Bits,
     level: L,
     bytes: &[u8],
-    segment: &mut Segment,
+    run: &mut Run,
     aside: &mut Aside,
     mantissa: &mut Option<&'a FieldPart>,
 ) -> Result<usize, AllocError>
-    requires run { IsRun bytes.now segment.now.bytes.place segment.now.bytes }
+    requires run { IsRun bytes.now run.now.place run.now }
     requires served { AreServed (E.serves entries.now) (list_of rest.now) }
     requires kept { KeepScalars (E.contents entries.now) }
-    ensures within { OnOk result (segment.new.bytes.place ≤ length bytes.now) }
+    requires left { bits.now ≡ run.now.draft.inner.left }
+    requires few { length rest.now < 2 ^ 32 }
+    requires none { run.now.passed ≡ 0 }
+    ensures none { OnOk result (run.new.passed ≡ 0) }
+    ensures within { OnOk result (run.new.place ≤ length bytes.now) }
+    ensures around { run.new.draft.around ≡ run.old.draft.around }
     ensures took { IfOk result (λ n. TookFields L.at (E.serves entries.old) rest.now bytes.now
-        (level_in bytes.now segment.old) (E.contents entries.old) bits.old segment.old.bytes.place
-        n mantissa.new (level_of segment.new) (E.contents entries.new) bits.new segment.new.bytes.place) }
+        (noted bytes.now run.old) (E.contents entries.old) bits.old run.old.place
+        n mantissa.new run.new.draft.inner (E.contents entries.new) bits.new run.new.place) }
     ensures same_keys { E.serves entries.new ≡ E.serves entries.old }
 {
-    let (others, next) = take_all(rest, entries, bits, level, bytes, segment, aside)?;
-    if !segment.bytes.flush(bytes) {
+    let (others, next) = take_all(rest, entries, bits, level, bytes, run, aside)?;
+    run.settle();
+    if !run.flush_short(bytes) {
         return Err(AllocError);
     }
     *mantissa = next;
@@ -365,23 +346,26 @@ pub(crate) fn take_fields<'a, L: Leveled, E: Entries>(
     level: L,
     bytes: &[u8],
     at: usize,
-    segment: &mut Segment,
+    run: &mut Run,
     aside: &mut Aside,
 ) -> Result<Fields<'a>, AllocError>
     requires place { at ≤ length bytes.now }
     requires served { AreServed (E.serves entries.now) (list_of rest.now) }
     requires kept { KeepScalars (E.contents entries.now) }
+    requires left { bits.now ≡ run.now.draft.inner.left }
+    requires none { run.now.passed ≡ 0 }
+    ensures none { OnOk result (run.new.passed ≡ 0) }
     ensures place { IfOk result (λ f. (at ≤ f.place) × (f.place ≤ length bytes.now)) }
     ensures few { IfOk result (λ f. f.spare ≤ spare) }
     ensures fewer { IfOk result (λ f. IsSome f.mantissa → f.spare < spare) }
     ensures served { IfOk result (λ f. AreServed (E.serves entries.old) (list_of f.rest.now)
         × IsNextServed (E.serves entries.old) (next_behind f.mantissa)) }
-    ensures takes { IfOk result (λ f. Takes L.at bytes.now (level_of segment.old)
+    ensures takes { IfOk result (λ f. Takes L.at bytes.now run.old.draft.inner
         (E.contents entries.old) bits.old
         (record { mantissa = None; rest = list_of rest.now; spare = spare; place = at })
-        (level_of segment.new) (E.contents entries.new) bits.new (front_of f)) }
-    ensures room { OnOk result ((around : Bool) → IsTrue (has_room (level_of segment.old) bits.old && around)
-        → IsTrue (has_room (level_of segment.new) bits.new && around)) }
+        run.new.draft.inner (E.contents entries.new) bits.new (front_of f)) }
+    ensures around { run.new.draft.around ≡ run.old.draft.around }
+    ensures left { OnOk result (bits.new ≡ run.new.draft.inner.left) }
     ensures kept { OnOk result (KeepScalars (E.contents entries.new)) }
     ensures same_keys { E.serves entries.new ≡ E.serves entries.old }
 {
@@ -394,22 +378,13 @@ pub(crate) fn take_fields<'a, L: Leveled, E: Entries>(
             place: at,
         });
     }
-    segment.bytes.begin(at);
+    run.begin(at);
     let mut mantissa = None;
-    let count = take_run(
-        rest,
-        entries,
-        bits,
-        level,
-        bytes,
-        segment,
-        aside,
-        &mut mantissa,
-    )?;
+    let count = take_run(rest, entries, bits, level, bytes, run, aside, &mut mantissa)?;
     Ok(Fields {
         mantissa,
         rest: &rest[count..],
         spare: spare - count as u32,
-        place: segment.bytes.place,
+        place: run.place,
     })
 }

@@ -6,7 +6,6 @@
 //! [`Segment`] is one segment that is being written.
 #![tactic(auto)]
 
-mod around;
 mod count;
 mod fields;
 mod laws;
@@ -16,6 +15,5 @@ mod segment;
 mod writer;
 
 pub use laws::canonical_bytes_carry;
-pub use run::Run;
 pub use segment::Segment;
 pub use writer::Writer;

@@ -5,7 +5,6 @@ ghost use Rattle.fast_wire.specs.declared.fault.WireFault.TheVariants as fault;
 ghost use Rattle.fast_writer.specs.Written.{Asked, Ended, IsEmpty, has_set};
 ghost use Rattle.fast_writer.specs.Levels.{level_of};
 
-use crate::run::Run;
 use fast_wire::{MapBuilder, WireFault};
 use std::alloc::{AllocError, Global};
 
@@ -17,7 +16,7 @@ pub struct Segment {
     /// Whether they stand in a map of its own.
     pub own: bool,
     /// What stands behind the map.
-    pub bytes: Run,
+    pub bytes: Vec<u8>,
 }
 
 impl Segment {
@@ -29,7 +28,7 @@ impl Segment {
         Segment {
             bits: MapBuilder::new(alloc),
             own,
-            bytes: Run::new(alloc),
+            bytes: Vec::new(alloc),
         }
     }
 
@@ -40,7 +39,7 @@ impl Segment {
     {
         self.bits.clear();
         self.own = own;
-        self.bytes.out.clear();
+        self.bytes.clear();
     }
 
     /// One bit more, where one is needed.
@@ -95,7 +94,7 @@ impl Segment {
                 Ok(()) => {}
             }
         }
-        match out.extend_from_slice(&self.bytes.out) {
+        match out.extend_from_slice(&self.bytes) {
             Err(_) => {
                 out.truncate(start);
                 Err(WireFault::Memory)

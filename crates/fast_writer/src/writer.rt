@@ -1,10 +1,9 @@
 //! Writes the canonical bytes of messages as they are read.
 
-use crate::around::Around;
 use crate::count::{relay_count, relay_identifier};
 use crate::fields::take_fields;
 use crate::relay::relay_part;
-use crate::segment::Segment;
+use crate::run::Run;
 use fast_dictionary::Entries;
 use fast_field::{FieldFault, reads_as_usual};
 use fast_relay::read_short_length;
@@ -20,9 +19,8 @@ use std::alloc::{AllocError, Global};
 /// are no part of them.
 #[derive(Drop)]
 pub struct Writer {
-    // the innermost open segment, and those around it
-    inner: Segment,
-    outer: Around,
+    // of the message that is open
+    run: Run,
     // of the messages that are finished and not handed on
     out: Vec<u8>,
     // what is told of a field that was taken
@@ -30,16 +28,10 @@ pub struct Writer {
 }
 
 impl Writer {
-    ghost use Rattle.std.specs.Prelude.{◌≡◌, [], ◌∷◌, ◌++◌, List, map, OnOk};
+    ghost use Rattle.std.specs.Prelude.{◌≡◌, [], ◌∷◌, List};
     ghost use Rattle.std.specs.FinMap as finite;
-    ghost use Rattle.fast_template.specs.Resolved.{Resolved, no_instructions};
-    ghost use Rattle.fast_dictionary.specs.Dictionary.{Dictionary};
-    ghost use Rattle.fast_walk.specs.OpenSegments.{Inside, Waiting, at_instruction};
-    ghost use Rattle.fast_walk.specs.Received.{Received, ended_in, handed_on};
-    ghost use Rattle.fast_walk.specs.Room.{HasRoomInside, HasRoomOutside};
-    ghost use Rattle.fast_writer.specs.Levels.{HasWritten, level_of};
-    ghost use Rattle.fast_writer.specs.Room.{writer_room};
-    ghost use Rattle.fast_writer.specs.Written.{IsEmpty};
+    ghost use Rattle.fast_template.specs.Resolved.{Resolved};
+    ghost use Rattle.fast_walk.specs.Received.{handed_on};
 
     /// With no message, and nothing handed on. Takes no memory.
     #[inline(always)]
@@ -49,44 +41,15 @@ impl Writer {
         ensures empty { result.out.items ≡ [] }
     {
         Writer {
-            inner: Segment::new(alloc, true),
-            outer: Around::new(alloc),
+            run: Run::new(alloc),
             out: Vec::new(alloc),
             aside: Aside::new(alloc),
         }
     }
-
-    // Begins a segment inside the one that is open.
-    #[inline(always)]
-    fn open(&mut self, alloc: Global, own: bool) -> Result<(), AllocError>
-        ensures outer { OnOk result (map level_of self.new.outer
-            ≡ map level_of self.old.outer ++ level_of self.old.inner ∷ []) }
-        ensures begun { OnOk result (IsEmpty own (level_of self.new.inner)) }
-        ensures out { self.new.out ≡ self.old.out }
-    {
-        self.outer.push(alloc, &mut self.inner)?;
-        self.inner.begin(own);
-        Ok(())
-    }
-
-    // Ends the segment that is open, in the one around it.
-    #[inline(always)]
-    fn close(&mut self) -> Result<(), AllocError>
-        requires room { HasRoomInside (writer_room self.now) }
-        ensures ended { OnOk result ((inside : Inside) (o : Received) (d : Dictionary) (ws : List Waiting) (w : Waiting)
-            → o.next ≡ at_instruction → o.body.rest ≡ no_instructions → o.around ≡ ws ++ w ∷ [] → w.inside ≡ inside
-            → HasWritten self.old o d → HasWritten self.new (ended_in o ws w.body inside) d) }
-        ensures room { OnOk result (HasRoomOutside (writer_room self.old) (writer_room self.new)) }
-        ensures out { self.new.out ≡ self.old.out }
-    {
-        self.outer.close(&mut self.inner)?;
-        Ok(())
-    }
 }
 
 impl Receiver for Writer {
-    ghost use Rattle.fast_writer.specs.Levels.{HasFinished, HasWritten};
-    ghost use Rattle.fast_writer.specs.Room.{writer_room};
+    ghost use Rattle.fast_writer.specs.Drafts.{HasFinished, HasWritten, run_awaits, run_begun};
 
     ghost has = { λ w o d. HasWritten w o d };
 
@@ -94,7 +57,16 @@ impl Receiver for Writer {
 
     ghost keeps = { λ w set ms d. HasFinished w set ms d };
 
-    ghost room = { λ w around left. writer_room w around left };
+    ghost awaits = { λ w around left. run_awaits w.run around left };
+
+    ghost begun = { λ w bits. run_begun w.run bits };
+
+    #[inline(always)]
+    fn open(&mut self, map: &[u8]) -> Result<(), AllocError> {
+        self.run.passed = 0;
+        self.run.draft.begin(map)?;
+        Ok(())
+    }
 
     #[inline(always)]
     fn begin<E: Entries>(
@@ -107,8 +79,7 @@ impl Receiver for Writer {
         bytes: &[u8],
         at: usize,
     ) -> Result<(u32, usize), FieldFault> {
-        self.outer.clear();
-        self.inner.begin(true);
+        self.run.draft.is_sound();
         let (id, next) = relay_identifier(
             entries,
             identifier,
@@ -116,7 +87,7 @@ impl Receiver for Writer {
             level,
             bytes,
             at,
-            &mut self.inner,
+            &mut self.run,
             &mut self.aside,
         )?;
         match id {
@@ -128,14 +99,12 @@ impl Receiver for Writer {
     #[inline(always)]
     #[tactic(auto, using(crate::proofs::Writers::has_finished))]
     fn finish(&mut self, _alloc: Global) -> Result<(), AllocError> {
-        self.inner.end(&mut self.out)?;
+        self.run.draft.finish(&mut self.out)?;
         Ok(())
     }
 
     #[inline(always)]
-    fn back(&mut self, _alloc: Global) {
-        self.outer.clear();
-    }
+    fn back(&mut self, _alloc: Global) {}
 
     #[inline(always)]
     fn reset_entries<E: Entries>(&mut self, entries: &mut E) {
@@ -156,8 +125,8 @@ impl Receiver for Writer {
         bytes: &[u8],
         at: usize,
     ) -> Result<usize, FieldFault> {
-        let (inner, aside) = (&mut self.inner, &mut self.aside);
-        let (_there, next) = relay_part(entries, part, bit, level, bytes, at, inner, aside)?;
+        let (run, aside) = (&mut self.run, &mut self.aside);
+        let (_there, next) = relay_part(entries, part, bit, level, bytes, at, run, aside)?;
         Ok(next)
     }
 
@@ -173,13 +142,11 @@ impl Receiver for Writer {
         bytes: &[u8],
         at: usize,
     ) -> Result<Fields<'a>, AllocError> {
-        let (inner, aside) = (&mut self.inner, &mut self.aside);
+        let (run, aside) = (&mut self.run, &mut self.aside);
         match level {
-            Level::Usual => take_fields(
-                entries, rest, bits, spare, Usually, bytes, at, inner, aside,
-            ),
+            Level::Usual => take_fields(entries, rest, bits, spare, Usually, bytes, at, run, aside),
             Level::Strict => take_fields(
-                entries, rest, bits, spare, Strictly, bytes, at, inner, aside,
+                entries, rest, bits, spare, Strictly, bytes, at, run, aside,
             ),
         }
     }
@@ -196,8 +163,8 @@ impl Receiver for Writer {
         bytes: &[u8],
         at: usize,
     ) -> Result<(bool, usize), FieldFault> {
-        let (inner, aside) = (&mut self.inner, &mut self.aside);
-        relay_part(entries, part, bit, level, bytes, at, inner, aside)
+        let (run, aside) = (&mut self.run, &mut self.aside);
+        relay_part(entries, part, bit, level, bytes, at, run, aside)
     }
 
     #[inline(always)]
@@ -210,8 +177,8 @@ impl Receiver for Writer {
         bytes: &[u8],
         at: usize,
     ) -> Result<usize, FieldFault> {
-        let (inner, aside) = (&mut self.inner, &mut self.aside);
-        let (_there, next) = relay_part(entries, part, bit, level, bytes, at, inner, aside)?;
+        let (run, aside) = (&mut self.run, &mut self.aside);
+        let (_there, next) = relay_part(entries, part, bit, level, bytes, at, run, aside)?;
         Ok(next)
     }
 
@@ -228,43 +195,43 @@ impl Receiver for Writer {
         bytes: &[u8],
         at: usize,
     ) -> Result<(Option<u32>, usize), FieldFault> {
-        let inner = &mut self.inner;
+        let run = &mut self.run;
         // most stand in one byte and are kept nowhere, so that no entry is asked for
         if reads_as_usual(level, part, bytes, at)
             && let Some(count) = read_short_length(part, bytes, at)
         {
-            match inner.bytes.out.push(bytes[at]) {
+            match run.draft.push(bytes[at]) {
                 Err(_) => return Err(FieldFault::Memory),
                 Ok(()) => return Ok((count, at + 1)),
             }
         }
-        relay_count(entries, part, bit, level, bytes, at, inner, &mut self.aside)
+        relay_count(entries, part, bit, level, bytes, at, run, &mut self.aside)
     }
 
     #[inline(always)]
     fn left_out(&mut self, _name: &Name, _number: u32) -> Result<(), AllocError> {
-        self.inner.ask(true, false)?;
+        self.run.draft.pass(1);
         Ok(())
     }
 
     #[inline(always)]
     fn enter(
         &mut self,
-        alloc: Global,
+        _alloc: Global,
         _name: &Name,
         _number: u32,
         optional: bool,
-        own_map: bool,
+        map: &[u8],
         _size: usize,
     ) -> Result<(), AllocError> {
-        self.inner.ask(optional, true)?;
-        self.open(alloc, own_map)?;
+        self.run.mark_at_once(optional, true, true);
+        self.run.draft.enter(map)?;
         Ok(())
     }
 
     #[inline(always)]
     fn leave(&mut self, _alloc: Global) -> Result<(), AllocError> {
-        self.close()?;
+        self.run.draft.leave();
         Ok(())
     }
 
@@ -272,18 +239,18 @@ impl Receiver for Writer {
     #[tactic(auto, using(crate::proofs::Writers::has_element))]
     fn enter_element(
         &mut self,
-        alloc: Global,
+        _alloc: Global,
         _number: u32,
-        own_map: bool,
+        map: &[u8],
         _size: usize,
     ) -> Result<(), AllocError> {
-        self.open(alloc, own_map)?;
+        self.run.draft.enter(map)?;
         Ok(())
     }
 
     #[inline(always)]
     fn leave_element(&mut self, _alloc: Global) -> Result<(), AllocError> {
-        self.close()?;
+        self.run.draft.leave();
         Ok(())
     }
 
@@ -292,12 +259,10 @@ impl Receiver for Writer {
         &mut self,
         _alloc: Global,
         _number: u32,
-        own_map: bool,
+        map: &[u8],
         _size: usize,
     ) -> Result<(), AllocError> {
-        self.outer.end(&self.inner)?;
-        // (the next one in the same memory)
-        self.inner.begin(own_map);
+        self.run.draft.go_on(map)?;
         Ok(())
     }
 

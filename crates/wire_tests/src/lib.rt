@@ -1,10 +1,12 @@
-//! The tests of fast_io and fast_wire.
+//! The tests of fast_io, fast_wire and fast_draft.
 #![tactic(auto)]
 
 #[cfg(test)]
 mod builder;
 #[cfg(test)]
 mod devices;
+#[cfg(test)]
+mod drafts;
 #[cfg(test)]
 mod forms;
 #[cfg(test)]

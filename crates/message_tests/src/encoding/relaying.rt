@@ -136,11 +136,10 @@ fn all_relayed(rt: &impl Abort, alloc: Global, rows: &[Row]) -> Tried {
 #[test]
 fn growths_are_told_apart(rt: HostRuntime) -> Tried {
     const ROWS: &[Growing] = rows! { Growing { stream, of_receiver }:
-        // the bytes of an identifier that is not whole
-        b"\xc0\x01", false;
-        // the bits of a map of ten bytes too
-        b"\x40\x00\x00\x00\x00\x00\x00\x00\x00\x80\x01", false;
-        // numbers and texts, and their entries
+        // the bytes of a map that is not whole (one that is, is the writer's too)
+        b"\x40", false;
+        b"\x40\x00\x00\x00\x00\x00\x00\x00\x00\x00", false;
+        // maps, numbers and texts, and their entries
         b"\xf0\x81\x81\x41\xc2\xfe\x00\xe4", true;
     };
     let set = worked(&rt, rt.alloc())?;

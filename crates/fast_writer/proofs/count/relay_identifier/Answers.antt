@@ -10,9 +10,9 @@ pub returns-in-None-clause-relays : goal.returns-in-None-clause-relays
 returns-in-None-clause-relays g c =
     rw (still c.args.part.now c.in_ok-entry.ensures.value (c.entry_mut.follows.holds c.repeat_count.new.entry (ap is_ok c.in_ok-entry.was)).0 c.in-None.ensures) at c.relay_count.ensures.relays
 
-pub returns-in_ok-ask-in-Some-clause-relays : goal.returns-in_ok-ask-in-Some-clause-relays
-returns-in_ok-ask-in-Some-clause-relays g c =
+pub returns-in-Some-clause-relays : goal.returns-in-Some-clause-relays
+returns-in-Some-clause-relays g c =
     let relayed = passes_relayed (true_from_ne_false _ (λ none. true≢false (sym (c.requires.bit none) ∙ c.if-bit.false))) c.in-Some.ensures in
     rw (c.if-bit.false)
     (relays_under c.in_ok-entry.ensures.value (c.entry_mut.follows.holds c.repeat_count.new.entry (ap is_ok c.in_ok-entry.was)).0 c.part_needs_bit.ensures
-    (record { place = (omega arith, c.requires.place); relayed = relayed; lower = λ none. refl }) c.in_ok-ask-in-Some.ensures.asked)
+    (rw (c.mark_at_once.ensures.bytes) (record { place = (omega arith, c.requires.place); relayed = relayed; lower = λ none. refl })) c.mark_at_once.ensures.marked)

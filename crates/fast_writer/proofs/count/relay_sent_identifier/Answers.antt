@@ -1,4 +1,5 @@
-use Rattle.fast_writer.proofs.Common.{ap, arith, is_ok}
+use Rattle.fast_writer.proofs.Common.{ap, arith, is_ok, refl}
+use Rattle.fast_writer.proofs.Drafting.{marked_as}
 use Rattle.fast_writer.proofs.Relays.{judged_relayed, relays_under, still}
 use Rattle.fast_writer.proofs.count.relay_sent_identifier.Goals as goal
 
@@ -10,8 +11,9 @@ pub returns-in-None-clause-relays : goal.returns-in-None-clause-relays
 returns-in-None-clause-relays g c =
     rw (still c.args.part.now c.in_ok-entry.ensures.value (c.entry_mut.follows.holds c.short_count.new.entry (ap is_ok c.in_ok-entry.was)).0 c.in-None.ensures) at c.relay_count.ensures.relays
 
-pub returns-in_ok-ask-in-Some-clause-relays : goal.returns-in_ok-ask-in-Some-clause-relays
-returns-in_ok-ask-in-Some-clause-relays g c =
+pub returns-in-Ok-clause-relays : goal.returns-in-Ok-clause-relays
+returns-in-Ok-clause-relays g c =
     let s = c.in-Some.ensures in
     relays_under c.in_ok-entry.ensures.value (c.entry_mut.follows.holds c.short_count.new.entry (ap is_ok c.in_ok-entry.was)).0 c.part_needs_bit.ensures
-    (record { place = (omega arith, omega (arith, s.0)); relayed = judged_relayed s.1 s.2 c.in-Ok.ensures.items; lower = λ zero. absurd (let both = zero in cc) }) c.in_ok-ask-in-Some.ensures.asked
+    (rw (c.mark_at_once.ensures.bytes, c.in-Ok.ensures.inner) (record { place = (omega arith, omega (arith, s.0)); relayed = judged_relayed s.1 s.2 refl; lower = λ zero. absurd (let both = zero in cc) }))
+    (marked_as (rw (c.in-Ok.ensures.inner) refl) (rw (c.in-Ok.ensures.inner) refl) refl refl c.mark_at_once.ensures.marked)

@@ -25,7 +25,7 @@ returns-in-Err-clause-reads g c =
       part_stops old.level identifier d old.walk.bits node_limit (drop c.args.at c.args.bytes.now) c.in-Err.fault
           (rw (c.level-level.ensures, c.first_for-bit.ensures, c.part_needs_bit-needs.ensures, old.identifier_is) at (stops (field other)).0),
     ) refl)
-    (λ wanted. let f = stops (field (want_of_bytes c.part_halt.result.cause wanted)) in (f.1, f.2))
+    (λ wanted. let other = field (want_of_bytes c.part_halt.result.cause wanted) in let f = stops other in (f.1, f.2, c.in-Err.ensures.begun_on other))
 
 pub returns-in-None-clause-reads : goal.returns-in-None-clause-reads
 returns-in-None-clause-reads g c =
@@ -92,5 +92,5 @@ returns-in-Some-clause-can g c =
       kept = told_keeps c.level-level.result old.identifier c.first_for-bit.result (g.E.Entries.contents c.args.entries.now) (g.E.Entries.contents c.begin.new.entries) c.args.bytes.now c.args.at c.in-Ok.next
           (λ k. omega (arith, c.type_inv.bytes k)) (asked_for old.identifier c.part_needs_bit-needs.result c.first_for-bit.result old.walk.bits c.part_needs_bit-needs.ensures c.first_for-bit.ensures)
           Part.Whole Kind.UInt32 (Some (U32 c.in-Ok.id)) tt (rw (old.identifier_is) identifier_told) c.in-Ok.ensures.goes.0 c.requires.can.kept;
-      room = rw (end.around, end.bits, c.part_needs_bit-needs.ensures) (c.in-Ok.ensures.room old.walk.bits (search rules) (rw (c.requires.stage) at c.requires.can.room));
+      awaited = rw (end.around, end.bits, c.part_needs_bit-needs.ensures) (c.in-Ok.ensures.awaits old.walk.bits (search rules) (rw (c.requires.stage) at c.requires.can.awaited));
     }

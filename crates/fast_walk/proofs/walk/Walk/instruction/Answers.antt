@@ -23,7 +23,7 @@ returns-in_err-count-in-Sequence-clause-piece g c =
 
 pub returns-in-Err-clause-piece : goal.returns-in-Err-clause-piece
 returns-in-Err-clause-piece g c =
-    first_stops c.in-Field.whole c.requires.walk c.requires.first (is_field c.in-Field.is) c.in_ok-count-in-Field.ensures c.level-level.ensures c.part_needs_bit-needs.ensures c.first_for-bit.ensures c.part_halt.ensures.cause c.part_halt.ensures.number c.in-Err.ensures.stops c.in-Err.ensures.room_on
+    first_stops c.in-Field.whole c.requires.walk c.requires.first (is_field c.in-Field.is) c.in_ok-count-in-Field.ensures c.level-level.ensures c.part_needs_bit-needs.ensures c.first_for-bit.ensures c.part_halt.ensures.cause c.part_halt.ensures.number c.in-Err.ensures.stops c.in-Err.ensures.awaits_on
     (λ b k s h m. rw (h, m) refl)
 
 pub returns-in-Ok-clause-piece : goal.returns-in-Ok-clause-piece
@@ -31,13 +31,13 @@ returns-in-Ok-clause-piece g c =
     let begins = rw (is_field c.in-Field.is) at c.requires.first in
     let took = c.in-Ok.ensures.goes in
     part_takes at_instruction (λ done. done ++ single took.0 ∷ []) c.requires.walk begins c.in_ok-count-in-Field.ensures c.pass_field.ensures refl c.level-level.ensures c.part_needs_bit-needs.ensures c.first_for-bit.ensures
-    tt (begins_served c.requires.walk begins).0.0.1 (λ k. omega (arith, c.type_inv.bytes k)) took.1 c.in-Ok.ensures.room tt c.in-Ok.ensures.place (took.2 c.in-Field.number (list_of c.args.others.now))
+    tt (begins_served c.requires.walk begins).0.0.1 (λ k. omega (arith, c.type_inv.bytes k)) took.1 c.in-Ok.ensures.awaits tt c.in-Ok.ensures.place (took.2 c.in-Field.number (list_of c.args.others.now))
     (λ done b k l h m. rw (h, m) refl)
 
 pub returns-in-Err-exponent-clause-piece : goal.returns-in-Err-exponent-clause-piece
 returns-in-Err-exponent-clause-piece g c =
     first_stops c.in-Parts.exponent c.requires.walk c.requires.first (is_parts c.in-Parts.is) c.in_ok-count-in-Parts.ensures c.level-level.ensures c.part_needs_bit-needs-in-Parts.ensures c.first_for-bit-in-Parts.ensures c.part_halt-in-Err-exponent.ensures.cause c.part_halt-in-Err-exponent.ensures.number
-    c.in-Err-exponent.ensures.stops c.in-Err-exponent.ensures.room_on (λ b k s h m. rw (h, m) refl)
+    c.in-Err-exponent.ensures.stops c.in-Err-exponent.ensures.awaits_on (λ b k s h m. rw (h, m) refl)
 
 pub returns-then-present-clause-piece : goal.returns-then-present-clause-piece
 returns-then-present-clause-piece g c =
@@ -45,7 +45,7 @@ returns-then-present-clause-piece g c =
     let ok = c.in-Ok-exponent.ensures in
     let there = rw (c.if-present.true) at ok.goes.2 in
     part_takes (at_mantissa there.0 c.in-Parts.mantissa) (λ done. done) c.requires.walk begins c.in_ok-count-in-Parts.ensures c.pass.ensures refl c.level-level.ensures c.part_needs_bit-needs-in-Parts.ensures c.first_for-bit-in-Parts.ensures
-    refl (begins_served c.requires.walk begins).0.0.0.1 (λ k. omega (arith, c.type_inv.bytes k)) (rw (there.1) at ok.goes.1) ok.room (begins_served c.requires.walk begins).0.1 ok.place (rw (there.1) at ok.goes.3 c.in-Parts.number c.in-Parts.mantissa (list_of c.args.others.now))
+    refl (begins_served c.requires.walk begins).0.0.0.1 (λ k. omega (arith, c.type_inv.bytes k)) (rw (there.1) at ok.goes.1) ok.awaits (begins_served c.requires.walk begins).0.1 ok.place (rw (there.1) at ok.goes.3 c.in-Parts.number c.in-Parts.mantissa (list_of c.args.others.now))
     (λ done b k l h m. rw (h, m) refl)
 
 pub returns-else-present-clause-piece : goal.returns-else-present-clause-piece
@@ -54,7 +54,7 @@ returns-else-present-clause-piece g c =
     let ok = c.in-Ok-exponent.ensures in
     let none = rw (c.if-present.false) at ok.goes.2 in
     part_takes at_instruction (λ done. done ++ single None ∷ []) c.requires.walk begins c.in_ok-count-in-Parts.ensures c.pass-else-present.ensures refl c.level-level.ensures c.part_needs_bit-needs-in-Parts.ensures c.first_for-bit-in-Parts.ensures
-    refl (begins_served c.requires.walk begins).0.0.0.1 (λ k. omega (arith, c.type_inv.bytes k)) (rw none at ok.goes.1) ok.room tt ok.place (rw none at ok.goes.3 c.in-Parts.number c.in-Parts.mantissa (list_of c.args.others.now))
+    refl (begins_served c.requires.walk begins).0.0.0.1 (λ k. omega (arith, c.type_inv.bytes k)) (rw none at ok.goes.1) ok.awaits tt ok.place (rw none at ok.goes.3 c.in-Parts.number c.in-Parts.mantissa (list_of c.args.others.now))
     (λ done b k l h m. rw (h, m) refl)
 
 pub returns-in_err-bits-in-Group-clause-piece : goal.returns-in_err-bits-in-Group-clause-piece
@@ -91,7 +91,7 @@ returns-in_ok-left_out-in-Group-clause-piece g c =
         on = record {
           ready = record { next = rw (end.next) tt; rest = rw (end.rest) (begins_served can begins).1; around = rw (end.around) can.ready.around };
           kept = can.kept;
-          room = rw (end.bits, end.around) (left.room _ optional old.bits bit can.room);
+          awaited = rw (end.bits, end.around) (left.awaits _ optional old.bits bit can.awaited);
         };
       },
       less_behind c.in_ok-count-in-Group.ensures end,
@@ -131,7 +131,7 @@ returns-in_ok-open-in-Group-clause-piece g c =
                   around = rw (end.around) (map_push bare o.around (record { bits = bits; number = number; body = record { rest = others; done = o.body.done }; inside = in_group })
                       ∙ ap (λ (ws : List Waiting). ws ++ record { bits = bits; number = number; body = record { rest = others; done = [] }; inside = in_group } ∷ []) at.0.around);
                 },
-                enter.has c.in-Group.presence members others bits o d next first refl map_is at.1,
+                enter.has c.in-Group.presence members others bits o d next first refl (c.in_ok-bits-in-Group.bits, rw map_is at c.in_ok-bits-in-Group.ensures.map) at.1,
               ),
               record { set = refl; before = refl; template = refl; members = refl; start = refl },
               λ more.
@@ -142,7 +142,7 @@ returns-in_ok-open-in-Group-clause-piece g c =
                   (group_on g.L.Leveled.at number members others o.body.done (cursor d bits (old.spare - 1) bytes) _ (rw (c.level-level.ensures, map_is) at c.in_ok-bits-in-Group.ensures.goes d bits (old.spare - 1) more)))
                   ∙ sym (all_around-more g.L.Leveled.at o.around _ _)),
             );
-        on = opened_on end served.0 (served.1, tt) can.ready.around can.kept (enter.room (left_around (map frame_of old.around.items)) old.bits c.in_ok-bits-in-Group.bits bit c.in_ok-bits-in-Group.ensures.room can.room);
+        on = opened_on end served.0 (served.1, tt) can.ready.around can.kept (enter.awaits (left_around (map frame_of old.around.items)) c.has_map-own_map.result old.bits c.in_ok-bits-in-Group.bits bit c.in_ok-bits-in-Group.ensures.map can.awaited);
       },
       less_opened old.next c.in_ok-count-in-Group.ensures end,
     )
@@ -150,7 +150,7 @@ returns-in_ok-open-in-Group-clause-piece g c =
 pub returns-in-Err-begin_sequence-clause-piece : goal.returns-in-Err-begin_sequence-clause-piece
 returns-in-Err-begin_sequence-clause-piece g c =
     first_stops c.in-Sequence.length c.requires.walk c.requires.first (is_sequence c.in-Sequence.members c.in-Sequence.is) c.in_ok-count-in-Sequence.ensures c.level-level.ensures c.part_needs_bit-needs-in-Sequence.ensures c.first_for-bit-in-Sequence.ensures c.part_halt-in-Err-begin_sequence.ensures.cause c.part_halt-in-Err-begin_sequence.ensures.number
-    c.in-Err-begin_sequence.ensures.stops c.in-Err-begin_sequence.ensures.room_on (λ b k s h m. rw (h, m) refl)
+    c.in-Err-begin_sequence.ensures.stops c.in-Err-begin_sequence.ensures.awaits_on (λ b k s h m. rw (h, m) refl)
 
 pub returns-in-None-clause-piece : goal.returns-in-None-clause-piece
 returns-in-None-clause-piece g c =
@@ -158,7 +158,7 @@ returns-in-None-clause-piece g c =
     let ok = c.in-Ok-begin_sequence.ensures in
     let took = rw (c.in-None.is) at ok.goes in
     part_takes at_instruction (λ done. done ++ single None ∷ []) c.requires.walk begins c.in_ok-count-in-Sequence.ensures c.pass_field-in-None.ensures refl c.level-level.ensures c.part_needs_bit-needs-in-Sequence.ensures c.first_for-bit-in-Sequence.ensures
-    refl (begins_served c.requires.walk begins).0.0.0.1 (λ k. omega (arith, c.type_inv.bytes k)) took.0 ok.room tt ok.place (took.1 c.in-Sequence.number (list_of c.in-Sequence.members.items) (list_of c.args.others.now))
+    refl (begins_served c.requires.walk begins).0.0.0.1 (λ k. omega (arith, c.type_inv.bytes k)) took.0 ok.awaits tt ok.place (took.1 c.in-Sequence.number (list_of c.in-Sequence.members.items) (list_of c.args.others.now))
     (λ done b k l h m. rw (h, m) refl)
 
 pub returns-then-left-eq0-clause-piece : goal.returns-then-left-eq0-clause-piece
@@ -171,7 +171,7 @@ returns-then-left-eq0-clause-piece g c =
     let others = list_of c.args.others.now in
     let s : Sequel = record { number = c.in-Sequence.number; own_map = has_map members; members = members; left = c.in-Some.left; done = [] } in
     part_takes at_instruction (λ done. done ++ sequence_elements no_elements ∷ []) c.requires.walk begins c.in_ok-count-in-Sequence.ensures c.pass_field-then-left-eq0.ensures refl c.level-level.ensures c.part_needs_bit-needs-in-Sequence.ensures c.first_for-bit-in-Sequence.ensures
-    refl (begins_served c.requires.walk begins).0.0.0.1 (λ k. omega (arith, c.type_inv.bytes k)) took.0 (λ around b is room. ended.room _ _ (ok.room around b is room)) tt ok.place
+    refl (begins_served c.requires.walk begins).0.0.0.1 (λ k. omega (arith, c.type_inv.bytes k)) took.0 (λ around b is h. ended.awaits _ _ (ok.awaits around b is h)) tt ok.place
     (λ o next first had. ended.has (moved o (at_element s) (record { rest = others; done = o.body.done }) o.around) _ s refl c.if-left-eq0.true (took.1 c.in-Sequence.number members others o next first had))
     (λ done b k l h m. rw (h, m, c.if-left-eq0.true) refl)
 
@@ -184,5 +184,5 @@ returns-else-left-eq0-clause-piece g c =
     let others = list_of c.args.others.now in
     let s : Sequel = record { number = c.in-Sequence.number; own_map = has_map members; members = members; left = c.in-Some.left; done = [] } in
     part_takes (at_element s) (λ done. done) c.requires.walk begins c.in_ok-count-in-Sequence.ensures c.pass-in-Some.ensures (rw (c.has_map-own_map-in-Some.ensures, c.deref-in-Some.ensures.value, c.deref-in-Some-2.ensures.value) refl) c.level-level.ensures c.part_needs_bit-needs-in-Sequence.ensures c.first_for-bit-in-Sequence.ensures
-    refl (begins_served c.requires.walk begins).0.0.0.1 (λ k. omega (arith, c.type_inv.bytes k)) took.0 ok.room (rw (c.deref-in-Some-2.ensures.value) (begins_served c.requires.walk begins).0.1) ok.place (took.1 c.in-Sequence.number members others)
+    refl (begins_served c.requires.walk begins).0.0.0.1 (λ k. omega (arith, c.type_inv.bytes k)) took.0 ok.awaits (rw (c.deref-in-Some-2.ensures.value) (begins_served c.requires.walk begins).0.1) ok.place (took.1 c.in-Sequence.number members others)
     (λ done b k l h m. rw (h, m) (length_on g.L.Leveled.at c.in-Sequence.number members others c.in-Some.left done l))

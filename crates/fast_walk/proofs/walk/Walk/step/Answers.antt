@@ -1,13 +1,17 @@
-use Rattle.fast_walk.proofs.Common.{◌≡◌, ◌++◌, ◌-◌, ◌∷◌, [], List, Some, length, length-append, drop, map, refl, sym, ap, ◌∙◌, arith, rules, map_push, nil_from_length, option_to_list, Option, Decimal, list_of, bytes_from, single, Sequel, Waiting, cursor, in_sequence, after_sequence, closed_in, ended_in, passed, left_around, bare, frame_of, inside_of, next_of, weight_of, Frame as FrameNow}
+use Rattle.fast_walk.proofs.Common.{◌≡◌, ◌++◌, ◌-◌, ◌∷◌, [], ℕ, Bool, IsMapped, IsOwnMap, List, Some, length, length-append, drop, map, refl, sym, ap, ◌∙◌, arith, rules, map_push, nil_from_length, option_to_list, Option, Decimal, list_of, bytes_from, single, Sequel, Waiting, cursor, in_sequence, after_sequence, closed_in, ended_in, passed, left_around, bare, frame_of, inside_of, next_of, weight_of, Frame as FrameNow}
 use Rattle.fast_walk.proofs.Steps.{exit_is}
 use Rattle.fast_walk.proofs.Pieces.{fault_stops, less_opened, opened_on, part_on, part_took, stops_here}
 use Rattle.fast_walk.proofs.Steps.{count_goes}
 use Rattle.fast_walk.proofs.Walking.{at_element_of, closed_on, closed_same, end_on_stops, ended_at, enters, has_next, is_instruction, is_mantissa, last_frames, last_of, left_last, mantissa_on_goes, mantissa_on_stops, no_map_on, no_more_on, no_node_on, none_mapped, sequel_on, served_pop}
 use Rattle.fast_walk.proofs.walk.Walk.step.Goals as goal
 
+-- the map of an element, as its sequence has one
+mapped : (own has : Bool) (bytes : List ℕ) (bits : List Bool) → own ≡ has → IsOwnMap own bytes bits → IsMapped has bytes
+mapped own has bytes bits same is = (bits, rw same at is)
+
 pub returns-in-Err-clause-piece : goal.returns-in-Err-clause-piece
 returns-in-Err-clause-piece g c =
-    fault_stops c.in-Mantissa.mantissa.now c.requires.walk c.level.ensures c.part_needs_bit-needs.ensures c.first_for-bit.ensures c.part_halt.ensures.cause c.part_halt.ensures.number c.in-Err.ensures.stops c.in-Err.ensures.room_on (λ stops o at.
+    fault_stops c.in-Mantissa.mantissa.now c.requires.walk c.level.ensures c.part_needs_bit-needs.ensures c.first_for-bit.ensures c.part_halt.ensures.cause c.part_halt.ensures.number c.in-Err.ensures.stops c.in-Err.ensures.awaits_on (λ stops o at.
     let next = is_mantissa o.next _ c.in-Mantissa.mantissa.now (at.next ∙ ap next_of c.in-Mantissa.is) in
     mantissa_on_stops g.L.Leveled.at o.around o.next next.exponent c.in-Mantissa.mantissa.now o.body _ _ next.is (stops c.args.self.now.spare))
 
@@ -27,7 +31,7 @@ returns-in-Ok-clause-piece g c =
                   (part_took old.bits c.level.ensures c.part_needs_bit-needs.ensures c.first_for-bit.ensures took.1 old.spare more)),
             );
         on = part_on c.requires.walk c.level.ensures c.part_needs_bit-needs.ensures c.first_for-bit.ensures refl (rw (c.in-Mantissa.is) at c.requires.walk.ready.next).0.1
-            (bytes_from c.args.bytes.now c.args.at (λ k. omega (arith, c.type_inv.bytes k))) took.1 c.in-Ok.ensures.room c.take_for.ensures refl tt c.requires.walk.ready.rest;
+            (bytes_from c.args.bytes.now c.args.at (λ k. omega (arith, c.type_inv.bytes k))) took.1 c.in-Ok.ensures.awaits c.take_for.ensures refl tt c.requires.walk.ready.rest;
       },
       omega (arith, ap weight_of c.in-Mantissa.is),
     )
@@ -46,7 +50,7 @@ returns-then-sequel-eq0-clause-piece g c =
               record { set = refl; before = refl; template = refl; members = refl; start = refl },
               λ more. no_more_on g.L.Leveled.at o.around o.next o.body a.sequel _ a.next none,
             );
-        on = record { ready = record { next = tt; rest = can.ready.rest; around = can.ready.around }; kept = can.kept; room = c.in_ok-end_sequence-in-Element.ensures.room _ _ can.room };
+        on = record { ready = record { next = tt; rest = can.ready.rest; around = can.ready.around }; kept = can.kept; awaited = c.in_ok-end_sequence-in-Element.ensures.awaits _ _ can.awaited };
       },
       omega (arith, ap weight_of c.in-Element.is),
     )
@@ -76,8 +80,8 @@ returns-in_ok-open-in-Element-clause-piece g c =
         goes = λ o at.
             let a = at_element_of o at.0 c.in-Element.is in
             enters g.L.Leveled.at g.R.Receiver.has old c.enter_element.new.self d o o (drop c.args.at c.args.bytes.now) (drop bits.next c.args.bytes.now) a (record { set = refl; before = refl; template = refl; members = refl; start = refl }) (λ b. refl)
-            (omega (arith, c.if-sequel-eq0.false)) c.in_ok-count-in-Element.ensures end (rw (c.level-level.ensures) at bits.ensures.goes d old.bits (old.spare - 1)) (λ own some. enter.has a.sequel old.bits o d a.next (sym (ap (λ (s : Sequel). s.number) a.same)) own some at.1);
-        on = opened_on end members (can.ready.rest, members) can.ready.around can.kept (enter.room _ old.bits _ bits.ensures.room can.room);
+            (omega (arith, c.if-sequel-eq0.false)) c.in_ok-count-in-Element.ensures end (rw (c.level-level.ensures) at bits.ensures.goes d old.bits (old.spare - 1)) (λ own some. enter.has a.sequel old.bits o d a.next (sym (ap (λ (s : Sequel). s.number) a.same)) (mapped _ _ _ _ own bits.ensures.map) some at.1);
+        on = opened_on end members (can.ready.rest, members) can.ready.around can.kept (enter.awaits _ c.in-Element.sequel.own_map old.bits _ bits.ensures.map can.awaited);
       },
       less_opened old.next c.in_ok-count-in-Element.ensures end,
     )
@@ -120,8 +124,8 @@ returns-in_ok-next_element-in-Some-next_sequel-clause-piece g c =
             let n = has_next o.around at.0.around l in
             enters g.L.Leveled.at g.R.Receiver.has old c.next_element.new.self d o (ended_in o n.last.before n.last.last.body (in_sequence n.sequel)) (drop c.args.at c.args.bytes.now) (drop bits.next c.args.bytes.now) (ended_at o _ _ n) (record { set = refl; before = refl; template = refl; members = refl; start = refl })
             (λ b. sequel_on g.L.Leveled.at o _ _ n (cursor d old.bits old.spare b) (rw (c.level-in-None.ensures) at c.in_ok-judge_end-in-None.ensures.clear) next rest)
-            c.in-Some-next_sequel.ensures.0 c.in_ok-count-in-Some-next_sequel.ensures end (rw (c.level-strictness.ensures) at bits.ensures.goes d l.frame.bits (old.spare - 1)) (λ own some. enter.has o d n.last.before n.last.last n.sequel l.frame.bits next rest n.last.is n.is (sym (ap (λ (s : Sequel). s.number) n.same)) own some at.1);
-        on = opened_on end members (served.1.0, members) served.0 can.kept (enter.room (left_around (map frame_of l.fore)) l.frame.bits old.bits bits.bits bits.ensures.room (rw (left_last _ _ _ (last_frames l)) at can.room));
+            c.in-Some-next_sequel.ensures.0 c.in_ok-count-in-Some-next_sequel.ensures end (rw (c.level-strictness.ensures) at bits.ensures.goes d l.frame.bits (old.spare - 1)) (λ own some. enter.has o d n.last.before n.last.last n.sequel l.frame.bits next rest n.last.is n.is (sym (ap (λ (s : Sequel). s.number) n.same)) (mapped _ _ _ _ own bits.ensures.map) some at.1);
+        on = opened_on end members (served.1.0, members) served.0 can.kept (enter.awaits (left_around (map frame_of l.fore)) c.in-Some-next_sequel.sequel.own_map l.frame.bits old.bits bits.bits bits.ensures.map (rw (left_last _ _ _ (last_frames l)) at can.awaited));
       },
       omega (arith, less, ap (λ (fs : List FrameNow). length fs) l.frames ∙ length-append l.fore (l.frame ∷ [])),
     )
@@ -168,7 +172,7 @@ returns-in_ok-take_up-in-Some-pop-clause-piece g c =
         on = record {
           ready = record { next = end.served (g.E.Entries.serves c.args.entries.now) served.1.1; rest = rw (end.rest) served.1.0; around = rw (end.around) served.0 };
           kept = can.kept;
-          room = rw (end.around, end.bits) (end.room (left_around fs) f.bits old.bits (rw (left_last _ fs (frame_of f) pop) at can.room));
+          awaited = rw (end.around, end.bits) (end.awaits (left_around fs) f.bits old.bits (rw (left_last _ fs (frame_of f) pop) at can.awaited));
         };
       },
       search rules,

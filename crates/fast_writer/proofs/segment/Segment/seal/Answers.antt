@@ -1,5 +1,5 @@
 use Rattle.fast_writer.proofs.Common.{◌≡◌, zero, suc, Bool, true, false, List, [], ◌∷◌, rules, drop, inl, inr, refl, sym, ◌∙◌, WireFault, HasSetBit, has_set}
-use Rattle.fast_writer.proofs.MapRoom.{set_at}
+use Rattle.fast_writer.proofs.SetBits.{set_at}
 use Rattle.fast_writer.proofs.segment.Segment.seal.Goals.{then-self+in-Ok, else-self}
 use Rattle.fast_writer.proofs.segment.Segment.seal.Goals as goal
 

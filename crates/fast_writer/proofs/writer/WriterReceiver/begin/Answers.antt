@@ -1,15 +1,22 @@
-use Rattle.fast_writer.proofs.Common.{true, refl, ap, map, rules, ◌≡◌, identifier, level_of}
-use Rattle.fast_writer.proofs.Writers.{has_opened}
-use Rattle.fast_writer.proofs.MapRoom.{fresh_room}
+use Rattle.fast_writer.proofs.Common.{[], ap, ◌∙◌, rules, ◌≡◌, identifier, after_bit, part_needs_bit}
+use Rattle.fast_writer.proofs.Opened.{drafts_opened}
+use Rattle.fast_writer.proofs.Awaiting.{awaits, begun_drafted, begun_parts, lefts}
 use Rattle.fast_writer.proofs.writer.WriterReceiver.begin.Goals as goal
 
 pub returns-clause-goes : goal.returns-clause-goes
 returns-clause-goes g c =
     let named : c.args.identifier.now ≡ identifier = search rules in
+    let h = begun_parts c.args.self.now.run c.requires.begun.0 c.requires.begun.2 in
     let relays = rw (c.in-Some.is) at c.in_ok-id.ensures.relays in (
       relays.took,
-      λ set ms members. has_opened (ap (map level_of) c.clear.ensures) c.begin.ensures (rw (named) at relays.took.entry) (rw (named) at relays.spelt),
+      λ set ms members. drafts_opened (c.relay_identifier.ensures.around ∙ h.around) (begun_drafted h c.is_sound.ensures) (rw (named) at relays.took.entry) (rw (named) at relays.spelt),
     )
 
-pub returns-clause-room : goal.returns-clause-room
-returns-clause-room g c = λ left is few. rw (c.clear.ensures) (c.in_ok-id.ensures.relays.room true left is (fresh_room (level_of c.begin.new.self) left true c.begin.ensures.bits few refl))
+pub returns-clause-awaits : goal.returns-clause-awaits
+returns-clause-awaits g c = λ b is was.
+    let h = begun_parts c.args.self.now.run b was in
+    awaits c.relay_identifier.new.run [] (after_bit (part_needs_bit c.args.identifier.now) b) (record {
+      none = c.relay_identifier.ensures.none;
+      left = c.in_ok-id.ensures.relays.spelt.marked.left ∙ ap (after_bit (part_needs_bit c.args.identifier.now)) h.left;
+      around_is = ap lefts (c.relay_identifier.ensures.around ∙ h.around);
+    })

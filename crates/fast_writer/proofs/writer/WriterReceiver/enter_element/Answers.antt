@@ -1,9 +1,13 @@
-use Rattle.fast_writer.proofs.Common.{map, level_of}
-use Rattle.fast_writer.proofs.MapRoom.{opened_room}
+use Rattle.fast_writer.proofs.Opened.{drafts_element}
+use Rattle.fast_writer.proofs.Awaiting.{awaited, inside}
 use Rattle.fast_writer.proofs.writer.WriterReceiver.enter_element.Goals as goal
 
-pub returns-clause-room : goal.returns-clause-room
-returns-clause-room c = λ around left bits few.
-    let old = c.args.self.now in
-    let new = c.open.new.self in
-    opened_room (map level_of old.outer) (map level_of new.outer) around (level_of old.inner) (level_of new.inner) left bits c.in_ok-open.ensures.outer c.in_ok-open.ensures.begun.bits few
+pub returns-clause-has : goal.returns-clause-has
+returns-clause-has c = λ s bits o d next numbered mapped some h. rw (c.in_ok-enter.ensures.around, c.in_ok-enter.ensures.inner) (drafts_element bits next some mapped h)
+
+pub returns-clause-awaits : goal.returns-clause-awaits
+returns-clause-awaits c = λ around own b bits is was.
+    let r = c.args.self.now.run in
+    let a = awaited r around b was in
+    inside (record { draft = c.enter.new.self; from = r.from; place = r.place; passed = r.passed }) c.args.map.now r.draft.around r.draft.inner around own b bits is
+    a.left a.around_is a.none c.in_ok-enter.ensures.around c.in_ok-enter.ensures.inner

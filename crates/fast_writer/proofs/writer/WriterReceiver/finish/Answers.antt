@@ -1,6 +1,9 @@
-use Rattle.fast_writer.specs.Levels.{level_of}
-use Rattle.fast_writer.proofs.MapRoom.{end_room}
+use Rattle.fast_writer.proofs.Opened.{drafts_finished}
+use Rattle.fast_writer.proofs.Awaiting.{none_around}
 use Rattle.fast_writer.proofs.writer.WriterReceiver.finish.Goals as goal
 
-pub end-requires : goal.end-requires
-end-requires c = record { room = end_room (level_of c.args.self.now.inner) c.requires.room.0 _ c.requires.room.1 }
+pub finish-requires : goal.finish-requires
+finish-requires c = none_around c.args.self.now.run c.requires.awaits.0 c.requires.awaits.1
+
+pub returns-clause-stands : goal.returns-clause-stands
+returns-clause-stands c = λ o d next rest none known few h. drafts_finished next rest none known few c.in_ok-finish.ensures.finished h

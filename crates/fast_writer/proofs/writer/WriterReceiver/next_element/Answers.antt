@@ -1,19 +1,15 @@
-use Rattle.fast_writer.proofs.Common.{ap, map, refl, items_of, in_sequence, with_element, level_of}
-use Rattle.fast_writer.proofs.Writers.{has_element, has_ended}
-use Rattle.fast_writer.proofs.MapRoom.{closed_room, inside_room, opened_room}
+use Rattle.fast_writer.proofs.Common.{refl, in_sequence, items_of, with_element}
+use Rattle.fast_writer.proofs.Opened.{drafts_element, drafts_ended}
+use Rattle.fast_writer.proofs.Awaiting.{last_around, onwards}
 use Rattle.fast_writer.proofs.writer.WriterReceiver.next_element.Goals as goal
 
-pub end-requires : goal.end-requires
-end-requires c =
-    let r = inside_room (map level_of c.args.self.now.outer) (level_of c.args.self.now.inner) c.requires.room in
-    record { some = λ none. r.0 (ap (map level_of) none); room = r.1 }
-
 pub returns-clause-has : goal.returns-clause-has
-returns-clause-has c = λ o d ws w s bits next rest is inside numbered own some has.
-    let closed = c.in_ok-end.ensures.closed in
-    has_element {s = with_element s (items_of o.body.done)} bits refl own some closed.later_is c.begin.ensures (has_ended {inside = in_sequence s} ws w next rest is inside closed.closes has)
+returns-clause-has c = λ o d ws w s bits next rest is inside_is numbered mapped some h.
+    let l = last_around c.args.self.now.run c.requires.awaits in
+    let e = c.in_ok-go_on.ensures l.0 l.1 l.2 in
+    rw (e.2, e.3) (drafts_element {q = with_element s (items_of o.body.done)} bits refl some mapped (drafts_ended {inside = in_sequence s} ws w next rest is inside_is l.2 e.1 h))
 
-pub returns-clause-room : goal.returns-clause-room
-returns-clause-room c = λ around left bits later few room.
-    let closed = c.in_ok-end.ensures.closed in
-    opened_room closed.fore (map level_of c.end.new.self) around closed.next (level_of c.begin.new.self) left later closed.later_is c.begin.ensures.bits few (closed_room closed.closes around left bits room)
+pub returns-clause-awaits : goal.returns-clause-awaits
+returns-clause-awaits c = λ around own b bits later is was.
+    let r = c.args.self.now.run in
+    onwards r (record { draft = c.go_on.new.self; from = r.from; place = r.place; passed = r.passed }) c.args.map.now around own b bits later refl c.in_ok-go_on.ensures is was

@@ -1,0 +1,9 @@
+pub mod Clearing
+pub mod Cutting
+pub mod Places
+pub mod Passing
+pub mod OneByte
+pub mod Ending
+pub mod Leaving
+pub mod Staying
+pub mod TwoBytes

@@ -1,0 +1,68 @@
+-- The segments of a message that is open, and what each call does with them.
+use Rattle.std.specs.Prelude.{◌≡◌, ◌⊎◌, ◌-◌, ◌*◌, ℕ, Bool, List, [], ◌∷◌, ◌++◌, length, take, drop}
+use Rattle.fast_wire.specs.Entity.{groups}
+use Rattle.fast_wire.specs.PresenceMap.{IsMap, IsWholeMap, bits_of, later_bits}
+use Rattle.fast_wire.specs.Writing.{IsShortest}
+use Rattle.fast_draft.specs.Mending.{Clears}
+
+-- A segment that is open: the map that stands for it, none where it has none of its own, the bits of it that are left, and
+-- what was written behind it.
+pub record Segment : Type 0 where
+  pub map : List ℕ
+  pub left : List Bool
+  pub bytes : List ℕ
+
+-- the segments around the innermost, the message's own first, and the innermost
+pub record Segments : Type 0 where
+  pub around : List Segment
+  pub inner : Segment
+
+-- the bytes are no map, or a whole one
+abbrev pub IsOwnMap : List ℕ → Type 0
+IsOwnMap map = (map ≡ []) ⊎ ((bits : List Bool) × IsWholeMap map bits)
+
+-- a segment of which nothing was read but its map
+abbrev pub fresh : List ℕ → Segment
+fresh map = record { map = map; left = bits_of (groups map); bytes = [] }
+
+-- so many bits of the map were passed, as far as there are any
+abbrev pub ahead : ℕ → Segment → Segment
+ahead count s = record { map = s.map; left = drop count s.left; bytes = s.bytes }
+
+-- more was written
+abbrev pub with_more : Segment → List ℕ → Segment
+with_more s bytes = record { map = s.map; left = s.left; bytes = s.bytes ++ bytes }
+
+-- the next bit of the map is 0, and was passed
+pub record ClearsNext (old new : Segment) : Type 0 where
+  pub left : new.left ≡ later_bits old.left
+  pub bytes : new.bytes ≡ old.bytes
+  pub some : (old.left ≡ [] → ⊥) → Clears (7 * length old.map - length old.left) old.map new.map
+  pub none : old.left ≡ [] → new.map ≡ old.map
+
+-- what stands of a segment's map at its end: the shortest of the bits that were passed
+pub record Ends (s : Segment) (map : List ℕ) : Type 0 where
+  pub none : s.map ≡ [] → map ≡ []
+  pub shortest : (s.map ≡ [] → ⊥) → IsShortest IsMap map (take (7 * length s.map - length s.left) (bits_of (groups s.map)))
+
+-- a segment has ended in the one around it
+pub record EndsIn (around inner new : Segment) : Type 0 where
+  pub map : List ℕ
+  pub ends : Ends inner map
+  pub is : new ≡ with_more around (map ++ inner.bytes)
+
+-- the innermost ended in the last around it, which is the innermost now
+abbrev pub Leaves : Segments → Segments → Type 0
+Leaves old new = (ws : List Segment) (w : Segment) → old.around ≡ ws ++ w ∷ []
+    → (new.around ≡ ws) × EndsIn w old.inner new.inner
+
+-- the innermost ended in the last around it, where another begins
+abbrev pub GoesOn : List ℕ → Segments → Segments → Type 0
+GoesOn map old new = (ws : List Segment) (w : Segment) → old.around ≡ ws ++ w ∷ []
+    → (v : Segment) × EndsIn w old.inner v × (new.around ≡ ws ++ v ∷ []) × (new.inner ≡ fresh map)
+
+-- a segment has ended behind other bytes
+pub record EndsBehind (s : Segment) (old new : List ℕ) : Type 0 where
+  pub map : List ℕ
+  pub ends : Ends s map
+  pub out : new ≡ old ++ (map ++ s.bytes)

@@ -1,0 +1,198 @@
+//! The message that is open.
+
+ghost use Rattle.std.specs.Prelude.{◌≡◌, ◌≢◌, ◌≤◌, ◌⊎◌, ◌∷◌, ◌++◌, [], Bool, List, length, slice_range, OnOk, OnErr};
+ghost use Rattle.fast_wire.specs.Entity.{IsEntity};
+ghost use Rattle.fast_wire.specs.PresenceMap.{IsWholeMap};
+ghost use Rattle.fast_draft.specs.Segments.{ClearsNext, EndsBehind, GoesOn, IsOwnMap, Leaves, ahead, fresh, with_more};
+
+use crate::level::{Level, append_bytes, append_range, clear_next, end, start};
+use std::alloc::{AllocError, Global};
+use std::marker::Model;
+
+/// The segments of a message that is open, each map at its place and behind it what was written. Where memory is refused, a
+/// call may have done a part of its work, if it says nothing else.
+#[derive(Drop)]
+pub struct Draft {
+    out: Vec<u8>,
+    around: Vec<Level>,
+    inner: Level,
+}
+
+impl Model for Draft {
+    ghost use Rattle.fast_draft.specs.Segments.{Segments};
+    ghost use Rattle.fast_draft.specs.Standing.{IsSound, segments};
+
+    ghost Value = { Segments };
+
+    ghost view = { λ d. segments d.out.items d.around.items d.inner };
+
+    ghost invariant = { λ d. IsSound d.out.items d.around.items d.inner };
+}
+
+impl Draft {
+    /// Of nothing. Takes no memory.
+    pub fn new(alloc: Global) -> Draft
+        ensures around { result.around ≡ [] }
+        ensures inner { result.inner ≡ fresh [] }
+    {
+        Draft {
+            out: Vec::new(alloc),
+            around: Vec::new(alloc),
+            inner: Level::at(0),
+        }
+    }
+
+    /// What is true of the map of the innermost segment; it does nothing.
+    #[inline(always)]
+    pub fn is_sound(&self)
+        ensures { (self.now.inner.map ≡ []) ⊎ (IsEntity self.now.inner.map × (length self.now.inner.map ≤ 256)) }
+    {
+        let _size = self.inner.size;
+    }
+
+    /// Forgets what was open, and begins a message, whose map this is.
+    ///
+    /// # Errors
+    ///
+    /// The one growth was refused.
+    #[inline(always)]
+    pub fn begin(&mut self, map: &[u8]) -> Result<(), AllocError>
+        requires { (bits : List Bool) × IsWholeMap map.now bits }
+        ensures around { OnOk result (self.new.around ≡ []) }
+        ensures inner { OnOk result (self.new.inner ≡ fresh map.now) }
+    {
+        self.out.clear();
+        self.around.clear();
+        start(&mut self.out, &mut self.inner, map)?;
+        Ok(())
+    }
+
+    /// Begins a segment inside the innermost, whose map this is, or none where it has none of its own.
+    ///
+    /// # Errors
+    ///
+    /// A growth was refused.
+    #[inline(always)]
+    pub fn enter(&mut self, map: &[u8]) -> Result<(), AllocError>
+        requires { IsOwnMap map.now }
+        ensures around { OnOk result (self.new.around ≡ self.old.around ++ self.old.inner ∷ []) }
+        ensures inner { OnOk result (self.new.inner ≡ fresh map.now) }
+    {
+        self.around.push(self.inner)?;
+        start(&mut self.out, &mut self.inner, map)?;
+        Ok(())
+    }
+
+    /// Ends the innermost in the last around it, which goes on.
+    #[inline(always)]
+    pub fn leave(&mut self)
+        requires { self.now.around ≢ [] }
+        ensures { Leaves self.old self.new }
+    {
+        end(&mut self.out, self.inner);
+        match self.around.pop() {
+            Some(level) => self.inner = level,
+            None => unreachable!(),
+        }
+    }
+
+    /// Ends the innermost in the last around it, and begins another there, as `enter` does.
+    ///
+    /// # Errors
+    ///
+    /// The one growth was refused.
+    #[inline(always)]
+    pub fn go_on(&mut self, map: &[u8]) -> Result<(), AllocError>
+        requires some { self.now.around ≢ [] }
+        requires map { IsOwnMap map.now }
+        ensures { OnOk result (GoesOn map.now self.old self.new) }
+    {
+        end(&mut self.out, self.inner);
+        start(&mut self.out, &mut self.inner, map)?;
+        Ok(())
+    }
+
+    /// Ends the message's own segment, and appends it to other bytes. What the draft has then is not told.
+    ///
+    /// # Errors
+    ///
+    /// The one growth was refused, and nothing was appended.
+    #[inline(always)]
+    pub fn finish(&mut self, out: &mut Vec<u8>) -> Result<(), AllocError>
+        requires { self.now.around ≡ [] }
+        ensures finished { OnOk result (EndsBehind self.old.inner out.old.items out.new.items) }
+        ensures unchanged { OnErr result (out.new.items ≡ out.old.items) }
+    {
+        end(&mut self.out, self.inner);
+        let place = self.inner.place;
+        self.inner = Level::at(self.out.len());
+        out.extend_from_slice(&self.out[place..])
+    }
+
+    /// Lets so many bits of the innermost's map stand, as far as there are any.
+    #[inline(always)]
+    pub fn pass(&mut self, count: usize)
+        ensures around { self.new.around ≡ self.old.around }
+        ensures inner { self.new.inner ≡ ahead count self.old.inner }
+    {
+        let left = 7 * self.inner.size - self.inner.asked;
+        self.inner.asked += count.min(left);
+    }
+
+    /// Makes the next bit of the innermost's map 0, if one is left.
+    #[inline(always)]
+    pub fn clear(&mut self)
+        ensures around { self.new.around ≡ self.old.around }
+        ensures inner { ClearsNext self.old.inner self.new.inner }
+    {
+        clear_next(&mut self.out, &mut self.inner);
+    }
+
+    /// Appends a byte to the innermost.
+    ///
+    /// # Errors
+    ///
+    /// The one growth was refused, and nothing has changed.
+    #[inline(always)]
+    pub fn push(&mut self, byte: u8) -> Result<(), AllocError>
+        ensures around { self.new.around ≡ self.old.around }
+        ensures inner { OnOk result (self.new.inner ≡ with_more self.old.inner (byte ∷ [])) }
+        ensures unchanged { OnErr result (self.new.inner ≡ self.old.inner) }
+    {
+        self.out.push(byte)?;
+        Ok(())
+    }
+
+    /// Appends the bytes from one place to another to the innermost.
+    ///
+    /// # Errors
+    ///
+    /// The one growth was refused, and nothing has changed.
+    #[inline(always)]
+    pub fn append(&mut self, bytes: &[u8], from: usize, to: usize) -> Result<(), AllocError>
+        requires start { from ≤ to }
+        requires end { to ≤ length bytes.now }
+        ensures around { self.new.around ≡ self.old.around }
+        ensures inner { OnOk result (self.new.inner ≡ with_more self.old.inner (slice_range bytes.now from to)) }
+        ensures unchanged { OnErr result (self.new.inner ≡ self.old.inner) }
+    {
+        append_range(&mut self.out, bytes, from, to)?;
+        Ok(())
+    }
+
+    /// Appends bytes to the innermost. It is for those that are seldom wanted, or few; `append` is for those in front of a longer
+    /// input.
+    ///
+    /// # Errors
+    ///
+    /// The one growth was refused, and nothing has changed.
+    #[inline(always)]
+    pub fn append_slice(&mut self, bytes: &[u8]) -> Result<(), AllocError>
+        ensures around { self.new.around ≡ self.old.around }
+        ensures inner { OnOk result (self.new.inner ≡ with_more self.old.inner bytes.now) }
+        ensures unchanged { OnErr result (self.new.inner ≡ self.old.inner) }
+    {
+        append_bytes(&mut self.out, bytes)?;
+        Ok(())
+    }
+}
