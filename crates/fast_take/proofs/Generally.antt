@@ -23,7 +23,7 @@ use Rattle.fast_value.specs.declared.kind.Kind.{Kind}
 use Rattle.fast_value.specs.declared.kind.Operator.{Operator}
 use Rattle.fast_value.specs.declared.kind.Part.{Part}
 use Rattle.fast_template.specs.Resolved.{operator_needs_bit}
-use Rattle.fast_relay.specs.Numbers.{KeepsNothing}
+use Rattle.fast_take.specs.Numbers.{KeepsNothing}
 use Rattle.std.specs.Str.{is_utf8}
 use Rattle.fast_take.specs.Takes.{IsTook, LiesAside, best_bit, best_form, first_of, is_there, place_of, value_aside, value_taken, value_there}
 use Rattle.fast_take.specs.declared.took.Aside.{Aside}
@@ -44,7 +44,7 @@ use Rattle.fast_field.specs.Sent.{units_in}
 use Rattle.fast_wire.specs.declared.span.Span.{Span}
 use Rattle.fast_value.specs.Scalar.{is_of}
 use Rattle.std.proofs.Common.{◌⊎◌, IfSome, IsTrue}
-use Rattle.fast_relay.proofs.Ranges.{range_none}
+use Rattle.fast_take.proofs.Ranges.{range_none}
 
 zero_form : (i : FieldPart) (e : Entry) (b : List ℕ) (cut : Cut) (v : Option Scalar) → FormBy Usual i e false cut b v → (b ≡ []) × IsBest i e false [] v
 zero_form i e b cut v h = let z = bit_zero_row i.operator i e cut b v h.row in (z.1, bit_zero_is_best i e v (rw (z.0, z.1) at h))

@@ -17,7 +17,7 @@ use Rattle.fast_field.specs.Found.{assigned_of}
 use Rattle.fast_field.specs.Sent.{units_in}
 use Rattle.fast_field.specs.Values.{of_units}
 use Rattle.fast_field.specs.declared.fault.FieldFault.{FieldFault}
-use Rattle.fast_relay.specs.Numbers.{KeepsNothing}
+use Rattle.fast_take.specs.Numbers.{KeepsNothing}
 use Rattle.fast_take.specs.declared.took.Took.{Took}
 use Rattle.fast_take.specs.declared.took.Took.TheVariants.{Stands, Absent, Given, Other}
 use Rattle.fast_take.specs.declared.took.Unkept.{Unkept}

@@ -8,16 +8,16 @@ ghost use Rattle.fast_dictionary.specs.declared.entry.Entry.{Entry as EntryOf};
 ghost use Rattle.fast_field.specs.FieldReading.{field_at};
 ghost use Rattle.fast_field.specs.Parts.{IsBitOf, IsFieldPart};
 ghost use Rattle.fast_field.specs.Within.{HoldsScalar};
-ghost use Rattle.fast_relay.specs.Numbers.{KeepsNothing};
+ghost use Rattle.fast_take.specs.Numbers.{KeepsNothing};
 ghost use Rattle.fast_take.specs.Sent.{IsNumeric};
 ghost use Rattle.fast_take.specs.Takes.{IsStopped, IsTook, LiesAside, best_bit, best_form, first_of, is_there, place_of, value_aside};
 
+use crate::passed::pass_quickly;
 use crate::took::{Aside, Took, Unkept};
 use fast_dictionary::Entry;
 use fast_field::{
     FieldFault, FieldRefusal, Passed, find_field, find_units, read_in_place, write_found,
 };
-use fast_relay::pass_quickly;
 use fast_template::{FieldPart, Kind, Operator, Part, Scalar};
 use fast_wire::{Level, Nullable};
 

@@ -1,197 +1,589 @@
-//! Fields that are judged as they stand: most of those that are sent. Whatever is not judged here is taken behind it.
+//! Fields that are judged as they stand: whether their bytes are the best form of the value, or bit 0 is. The entry goes on,
+//! and nothing is written. Here are integers and constants, and the way to the others; what is not judged here goes by
+//! `judge_other`, or the general way.
 
-ghost use Rattle.std.specs.Prelude.{◌≡◌, ◌≢◌, ◌≤◌, [], ℕ, List, Some, false, true, length, drop, IfSome, IsTrue, MatchOption};
-ghost use Rattle.fast_value.specs.Scalar.{is_integer, of_integer};
-ghost use Rattle.fast_value.specs.declared.kind.Kind as kind_type;
-ghost use Rattle.fast_value.specs.declared.kind.Kind.TheVariants.{Ascii, Decimal};
+ghost use Rattle.std.specs.Prelude.{◌≡◌, ◌≤◌, ◌+◌, Some, true, false, not, length, drop, slice_range, IfSome, ⊤};
+ghost use Rattle.fast_value.specs.Scalar.{of_integer};
+ghost use Rattle.fast_value.specs.declared.kind.Operator.TheVariants as operator_type;
 ghost use Rattle.fast_value.specs.declared.kind.Part.TheVariants as part_type;
-ghost use Rattle.fast_value.specs.declared.scalar.Scalar.{Scalar as ScalarOf};
-ghost use Rattle.fast_template.specs.declared.resolved.FieldPart.{FieldPart as PartOf};
-ghost use Rattle.fast_dictionary.specs.declared.entry.Entry.{Entry as EntryOf};
-ghost use Rattle.fast_wire.specs.declared.level.Level.TheVariants.{Usual};
-ghost use Rattle.fast_field.specs.AsUsual.{ReadsAsUsual};
-ghost use Rattle.fast_field.specs.Numbers.{IsFieldNumber, IsNumber};
+ghost use Rattle.fast_wire.specs.Entity.{IsEntity};
+ghost use Rattle.fast_field.specs.Numbers.{IsFieldNumber, IsNumber, Predicts};
 ghost use Rattle.fast_field.specs.Parts.{IsFieldPart};
+ghost use Rattle.fast_field.specs.Planning.{is_same};
+ghost use Rattle.fast_field.specs.Spelled.{overlong_number};
+ghost use Rattle.fast_field.specs.Values as values;
 ghost use Rattle.fast_field.specs.Within.{HoldsScalar};
-ghost use Rattle.fast_relay.specs.Best.{HasBest, form_of};
-ghost use Rattle.fast_relay.specs.Judged.{IsJudged};
-ghost use Rattle.fast_relay.specs.Numbers.{KeepsNothing};
-ghost use Rattle.fast_relay.specs.Texts.{IsVectorKind};
-ghost use Rattle.fast_take.specs.Judged.{IfJudged, LaysAside};
-ghost use Rattle.fast_take.specs.Takes.{IsTakenAs, IsTook, best_bit, best_form, first_of, is_there, place_of, value_aside};
-ghost use Rattle.fast_take.specs.declared.took.Took.TheVariants as took_type;
-ghost use Rattle.fast_take.specs.declared.took.Unkept.{Unkept as UnkeptOf};
+ghost use Rattle.fast_take.specs.Judged.{Adds, HasAnswer, IfFound, IsBehind, IsJudged, Leaves, LeavesWhole, NumberGives, StandsAt, StandsFrom, sent_unsigned};
+ghost use Rattle.fast_take.specs.Numbers.{SpellsWhole, Spelt};
 
-use crate::general::keeps_nothing;
-use crate::strictly::is_read_as_usual;
-use crate::took::{Aside, Took, Unkept};
+use crate::integers::{is_overlong, is_unsigned, read_signed, read_unsigned};
+use crate::judged_decimal::judge_decimal;
+use crate::judged_string::judge_string;
+use crate::judged_vector::judge_vector;
+use crate::passed::can_begin;
+use crate::short_number::ShortInteger;
 use fast_dictionary::{Entry, Spare};
-use fast_field::{is_field_number, reads_as_usual};
-use fast_relay::{
-    Best, Judged, find_plain, is_sent_unsigned, judge_characters, judge_decimal, judge_null,
-    judge_other, judge_spelt, judge_string, judge_vector, read_number,
-};
-use fast_template::{FieldPart, Kind, Operator};
-use fast_wire::{Level, Span};
+use fast_field::set_number;
+use fast_template::{FieldPart, Kind, Operator, Part, Presence};
+use fast_wire::{overlong_signed, overlong_unsigned};
 
-/// A number of an integer type, as it lies aside.
+/// What the best form is of a field that was read under bit 1, and the place behind what was read.
+#[derive(Clone, Copy, Debug, PartialEq, Eq, Drop)]
+pub enum Judged {
+    /// The bytes as they stand.
+    Stands(usize),
+    /// The bytes behind the first, which is needless.
+    Behind(usize),
+    /// The bytes behind the first two, which are needless.
+    BehindTwo(usize),
+    /// Bit 0, which gives the value with no byte.
+    Given(usize),
+    /// Nothing has changed: another way tells.
+    Elsewhere,
+}
+
+/// Whether the entity that stands from one place to the next has no needless group in front.
 #[inline(always)]
-fn integer_aside(kind: Kind, number: i64) -> Unkept
-    requires { IsNumber kind number }
-    ensures { (k : kind_type.Kind) (bytes : List ℕ) → value_aside k bytes result ≡ of_integer kind number }
+fn is_shortest(unsigned: bool, bytes: &[u8], at: usize, next: usize) -> bool
+    requires place { at ≤ next }
+    requires within { next ≤ length bytes.now }
+    requires entity { IsEntity (slice_range bytes.now at next) }
+    ensures short { result ≡ true → overlong_number unsigned (slice_range bytes.now at next) ≡ false }
+    ensures long { result ≡ false → overlong_number unsigned (slice_range bytes.now at next) ≡ true }
 {
-    match kind {
-        Kind::UInt32 => Unkept::UInt32(number as u32),
-        Kind::Int32 => Unkept::Int32(number as i32),
-        Kind::UInt64 => Unkept::UInt64(number as u64),
-        Kind::Int64 => Unkept::Int64(number),
-        Kind::Decimal | Kind::Ascii | Kind::Unicode | Kind::Bytes => unreachable!(),
+    let form = &bytes[at..next];
+    // a needless group has nothing but the sign, and no stop bit
+    if form[0] != 0 && (unsigned || form[0] != 127) {
+        return true;
+    }
+    if unsigned {
+        !overlong_unsigned(form)
+    } else {
+        !overlong_signed(form)
     }
 }
 
-/// Lays a number aside where no entry keeps it; false where the field cannot have it.
+/// A number that has 64 bits with a sign, and the place behind it; none where it has more, is NULL or faulty.
 #[inline(always)]
-fn lay_number(kind: Kind, instr: &FieldPart, number: i64, aside: &mut Aside) -> bool
-    requires { IsTrue (is_integer kind) }
-    ensures { result ≡ true → KeepsNothing instr.now.operator → IsFieldNumber kind instr.now.part number
-        × ((k : kind_type.Kind) (bytes : List ℕ) → value_aside k bytes aside.new.unkept ≡ of_integer kind number) }
+pub(crate) fn read_number(
+    unsigned: bool,
+    presence: Presence,
+    bytes: &[u8],
+    at: usize,
+) -> Option<(i64, usize)>
+    requires { at ≤ length bytes.now }
+    ensures place { IfSome result (λ x. (at ≤ x.1) × (x.1 ≤ length bytes.now)) }
+    ensures gives { IfSome result (λ x. Spelt unsigned presence (drop at bytes.now)
+        x.0 (drop x.1 bytes.now)) }
+{
+    if !unsigned {
+        return read_signed(presence, bytes, at);
+    }
+    let (number, next) = read_unsigned(presence, bytes, at)?;
+    match i64::try_from(number) {
+        Ok(number) => Some((number, next)),
+        Err(_) => None,
+    }
+}
+
+/// Whether a number that was read is spelled in its shortest form.
+#[inline(always)]
+fn stands_shortest(
+    unsigned: bool,
+    presence: Presence,
+    number: i64,
+    bytes: &[u8],
+    at: usize,
+    next: usize,
+) -> bool
+    requires place { at ≤ next }
+    requires within { next ≤ length bytes.now }
+    requires spelt { Spelt unsigned presence (drop at bytes.now) number (drop next bytes.now) }
+    ensures stands { result ≡ true → StandsAt unsigned presence bytes.now at next number }
+    ensures long { result ≡ false → overlong_number unsigned (slice_range bytes.now at next) ≡ true }
+{
+    is_shortest(unsigned, bytes, at, next)
+}
+
+/// A number that is spelled in its shortest form, and the place behind it.
+#[inline(always)]
+pub(crate) fn read_shortest(
+    unsigned: bool,
+    presence: Presence,
+    bytes: &[u8],
+    at: usize,
+) -> Option<(i64, usize)>
+    requires { at ≤ length bytes.now }
+    ensures place { IfSome result (λ x. (at ≤ x.1) × (x.1 ≤ length bytes.now)) }
+    ensures stands { IfSome result (λ x. StandsAt unsigned presence bytes.now at x.1 x.0) }
+{
+    let (number, next) = read_number(unsigned, presence, bytes, at)?;
+    if stands_shortest(unsigned, presence, number, bytes, at, next) {
+        Some((number, next))
+    } else {
+        None
+    }
+}
+
+/// Judges a number where bit 0 gives the initial value.
+#[inline(always)]
+fn judge_initial<T: ShortInteger>(instr: &FieldPart, number: i64, next: usize) -> Judged
+    requires { IsNumber T.kind number }
+    ensures { IfFound next result (λ bit. is_same instr.now.initial (Some (of_integer T.kind number)) ≡ not bit) ⊤ }
+{
+    match &instr.initial {
+        None => Judged::Stands(next),
+        Some(initial) => match T::of(initial.value()) {
+            Some(given) if given == number => Judged::Given(next),
+            Some(_) => Judged::Stands(next),
+            None => Judged::Elsewhere,
+        },
+    }
+}
+
+/// Judges a number where the entry has none; it then has this one. (A call of its own, since it is rare.)
+#[inline(never)]
+fn judge_first<T: ShortInteger>(
+    instr: &FieldPart,
+    entry: &mut Entry,
+    number: i64,
+    next: usize,
+) -> Judged
+    requires kind { T.kind ≡ instr.now.kind }
+    requires predicts { Predicts instr.now.operator }
+    requires whole { SpellsWhole instr.now.operator }
+    requires number { IsNumber T.kind number }
+    ensures { IfFound next result (λ bit. Leaves bit instr.now entry.old entry.new (Some (of_integer T.kind number)))
+        (entry.new ≡ entry.old) }
+{
+    match entry {
+        Entry::Empty => {
+            set_number(instr.kind, entry, i128::from(number));
+            Judged::Stands(next)
+        }
+        // bit 0 gives the initial value, also by increment
+        Entry::Undefined => match judge_initial::<T>(instr, number, next) {
+            Judged::Stands(_next) => {
+                set_number(instr.kind, entry, i128::from(number));
+                Judged::Stands(next)
+            }
+            Judged::Given(_next) => {
+                set_number(instr.kind, entry, i128::from(number));
+                Judged::Given(next)
+            }
+            Judged::Behind(_) | Judged::BehindTwo(_) => unreachable!(),
+            Judged::Elsewhere => Judged::Elsewhere,
+        },
+        Entry::Assigned(_) => Judged::Elsewhere,
+    }
+}
+
+/// Judges a number by the one that the entry has; it then has this one.
+#[inline(always)]
+fn judge_copy<T: ShortInteger>(
+    instr: &FieldPart,
+    entry: &mut Entry,
+    number: i64,
+    next: usize,
+) -> Judged
+    requires kind { T.kind ≡ instr.now.kind }
+    requires operator { instr.now.operator ≡ operator_type.Copy }
+    requires number { IsNumber T.kind number }
+    ensures { IfFound next result (λ bit. Leaves bit instr.now entry.old entry.new (Some (of_integer T.kind number)))
+        (entry.new ≡ entry.old) }
+{
+    let Some(kept) = T::kept(entry) else {
+        return judge_first::<T>(instr, entry, number, next);
+    };
+    if kept == number {
+        return Judged::Given(next);
+    }
+    T::replace(entry, kept, number);
+    Judged::Stands(next)
+}
+
+/// Judges a number by the one that follows the entry's; it then has this one.
+#[inline(always)]
+fn judge_increment<T: ShortInteger>(
+    instr: &FieldPart,
+    entry: &mut Entry,
+    number: i64,
+    next: usize,
+) -> Judged
+    requires kind { T.kind ≡ instr.now.kind }
+    requires operator { instr.now.operator ≡ operator_type.Increment }
+    requires number { IsNumber T.kind number }
+    ensures { IfFound next result (λ bit. Leaves bit instr.now entry.old entry.new (Some (of_integer T.kind number)))
+        (entry.new ≡ entry.old) }
+{
+    let Some(kept) = T::kept(entry) else {
+        return judge_first::<T>(instr, entry, number, next);
+    };
+    // the least number follows the greatest
+    if kept >= T::greatest() {
+        return Judged::Elsewhere;
+    }
+    T::replace(entry, kept, number);
+    if kept + 1 == number {
+        Judged::Given(next)
+    } else {
+        Judged::Stands(next)
+    }
+}
+
+/// Judges a number that was spelled whole; the entry goes on.
+#[inline(always)]
+fn judge_read<T: ShortInteger>(
+    instr: &FieldPart,
+    entry: &mut Entry,
+    number: i64,
+    next: usize,
+) -> Judged
+    requires kind { T.kind ≡ instr.now.kind }
+    requires number { IsNumber T.kind number }
+    ensures { IfFound next result (λ bit. SpellsWhole instr.now.operator
+        × Leaves bit instr.now entry.old entry.new (Some (of_integer T.kind number))) (entry.new ≡ entry.old) }
 {
     match instr.operator {
-        Operator::Plain | Operator::Default => {
-            if !is_field_number(kind, instr.part, i128::from(number)) {
-                return false;
-            }
-            aside.unkept = integer_aside(kind, number);
-            true
-        }
-        Operator::Constant
-        | Operator::Copy
-        | Operator::Increment
-        | Operator::Delta
-        | Operator::Tail => true,
+        Operator::Plain => Judged::Stands(next),
+        Operator::Default => judge_initial::<T>(instr, number, next),
+        Operator::Copy => judge_copy::<T>(instr, entry, number, next),
+        Operator::Increment => judge_increment::<T>(instr, entry, number, next),
+        Operator::Constant | Operator::Delta | Operator::Tail => Judged::Elsewhere,
     }
 }
 
-/// Judges an integer of a type that is known here.
+/// The same, of a number that may be out of its field's range.
 #[inline(always)]
-fn judge_as(
+fn judge_as<T: ShortInteger>(
+    which: Part,
+    instr: &FieldPart,
+    entry: &mut Entry,
+    number: i64,
+    next: usize,
+) -> Judged
+    requires kind { T.kind ≡ instr.now.kind }
+    ensures { IfFound next result (λ bit. LeavesWhole bit T.kind which instr.now entry.old entry.new number)
+        (entry.new ≡ entry.old) }
+{
+    if T::is_field_number(which, number) {
+        judge_read::<T>(instr, entry, number, next)
+    } else {
+        Judged::Elsewhere
+    }
+}
+
+/// The same by the field's type. One way for each, so that nothing is asked of the type behind here.
+#[inline(always)]
+fn judge_whole(
+    kind: Kind,
+    which: Part,
+    instr: &FieldPart,
+    entry: &mut Entry,
+    number: i64,
+    next: usize,
+) -> Judged
+    requires kind { kind ≡ instr.now.kind }
+    ensures { IfFound next result (λ bit. LeavesWhole bit kind which instr.now entry.old entry.new number)
+        (entry.new ≡ entry.old) }
+{
+    match kind {
+        Kind::UInt32 => judge_as::<u32>(which, instr, entry, number, next),
+        Kind::Int32 => judge_as::<i32>(which, instr, entry, number, next),
+        Kind::UInt64 => judge_as::<u64>(which, instr, entry, number, next),
+        Kind::Int64 => judge_as::<i64>(which, instr, entry, number, next),
+        Kind::Decimal | Kind::Ascii | Kind::Unicode | Kind::Bytes => Judged::Elsewhere,
+    }
+}
+
+/// Adds to the number that an entry has, where the sum is one that the field can have; else nothing has changed.
+#[inline(always)]
+fn add_as<T: ShortInteger>(which: Part, entry: &mut Entry, delta: i64) -> bool
+    ensures added { result ≡ true → Adds T.kind which delta entry.old entry.new }
+    ensures entry { result ≡ false → entry.new ≡ entry.old }
+{
+    let Some(kept) = T::kept(entry) else {
+        return false;
+    };
+    let Some(number) = T::sum(kept, delta) else {
+        return false;
+    };
+    if !T::is_field_number(which, number) {
+        return false;
+    }
+    T::replace(entry, kept, number);
+    true
+}
+
+/// The same by the field's type.
+#[inline(always)]
+fn add(kind: Kind, which: Part, entry: &mut Entry, delta: i64) -> bool
+    ensures added { result ≡ true → Adds kind which delta entry.old entry.new }
+    ensures entry { result ≡ false → entry.new ≡ entry.old }
+{
+    match kind {
+        Kind::UInt32 => add_as::<u32>(which, entry, delta),
+        Kind::Int32 => add_as::<i32>(which, entry, delta),
+        Kind::UInt64 => add_as::<u64>(which, entry, delta),
+        Kind::Int64 => add_as::<i64>(which, entry, delta),
+        Kind::Decimal | Kind::Ascii | Kind::Unicode | Kind::Bytes => false,
+    }
+}
+
+/// Whether what is sent of an integer has no sign: a difference has one.
+#[inline(always)]
+pub(crate) fn is_sent_unsigned(kind: Kind, operator: Operator) -> bool
+    ensures { result ≡ sent_unsigned operator kind }
+{
+    match operator {
+        Operator::Delta => false,
+        _ => is_unsigned(kind),
+    }
+}
+
+/// Judges a constant, which has no bytes, under bit 1.
+#[inline(always)]
+pub(crate) fn judge_constant(
+    which: Part,
+    instr: &FieldPart,
+    entry: &Entry,
+    bytes: &[u8],
+    at: usize,
+) -> Judged
+    requires place { at ≤ length bytes.now }
+    requires which { which ≡ instr.now.part }
+    requires part { IsFieldPart instr.now }
+    requires operator { instr.now.operator ≡ operator_type.Constant }
+    ensures { IsJudged instr.now entry.now entry.now bytes.now at result }
+{
+    match &instr.initial {
+        Some(initial) if can_begin(which, instr, initial.value()) => Judged::Stands(at),
+        Some(_) => Judged::Elsewhere,
+        // a constant has a value, as was seen when the templates were loaded
+        None => unreachable!(),
+    }
+}
+
+/// Judges a number that was read: it was spelled whole, or is added to the one that the entry has.
+#[inline(always)]
+pub(crate) fn judge_number(
+    kind: Kind,
+    which: Part,
+    instr: &FieldPart,
+    entry: &mut Entry,
+    number: i64,
+    next: usize,
+) -> Judged
+    requires part { which ≡ instr.now.part }
+    requires kind { kind ≡ instr.now.kind }
+    ensures { IfFound next result (λ bit. NumberGives bit kind instr.now entry.old entry.new number)
+        (entry.new ≡ entry.old) }
+{
+    match instr.operator {
+        Operator::Delta => {
+            if add(kind, which, entry, number) {
+                Judged::Stands(next)
+            } else {
+                Judged::Elsewhere
+            }
+        }
+        _ => judge_whole(kind, which, instr, entry, number, next),
+    }
+}
+
+/// The place behind the needless group that a number has in front, or behind two, and whether its shortest form stands there.
+#[inline(always)]
+fn find_behind(
+    unsigned: bool,
+    presence: Presence,
+    number: i64,
+    bytes: &[u8],
+    at: usize,
+    next: usize,
+) -> (usize, bool)
+    requires place { at ≤ next }
+    requires within { next ≤ length bytes.now }
+    requires spelt { Spelt unsigned presence (drop at bytes.now) number (drop next bytes.now) }
+    requires long { overlong_number unsigned (slice_range bytes.now at next) ≡ true }
+    ensures place { (at + 1 ≤ result.0) × (result.0 ≤ at + 2) × (result.0 ≤ next) }
+    ensures stands { result.1 ≡ true
+        → StandsFrom unsigned presence bytes.now at result.0 next number }
+{
+    let first = if is_overlong(unsigned, bytes, at + 1, next) {
+        at + 2
+    } else {
+        at + 1
+    };
+    (first, !is_overlong(unsigned, bytes, first, next))
+}
+
+/// A number whose shortest form stands behind one needless group or two, the place where that begins, and the one behind it.
+#[inline(always)]
+pub(crate) fn read_behind(
+    unsigned: bool,
+    presence: Presence,
+    bytes: &[u8],
+    at: usize,
+) -> Option<(i64, usize, usize)>
+    requires { at ≤ length bytes.now }
+    ensures first { IfSome result (λ x. (at + 1 ≤ x.1) × (x.1 ≤ at + 2)) }
+    ensures place { IfSome result (λ x. (x.1 ≤ x.2) × (x.2 ≤ length bytes.now)) }
+    ensures stands { IfSome result (λ x. StandsFrom unsigned presence bytes.now at x.1 x.2 x.0) }
+{
+    // a group that is needless has nothing but the sign
+    if at == bytes.len() || (bytes[at] != 0 && bytes[at] != 127) {
+        return None;
+    }
+    let (number, next) = read_number(unsigned, presence, bytes, at)?;
+    if stands_shortest(unsigned, presence, number, bytes, at, next) {
+        return None;
+    }
+    let (first, stands) = find_behind(unsigned, presence, number, bytes, at, next);
+    if stands {
+        Some((number, first, next))
+    } else {
+        None
+    }
+}
+
+/// The best form of a field stands behind one needless byte or two: it begins at `first`.
+#[inline(always)]
+fn behind(at: usize, first: usize, next: usize) -> Judged
+    requires first { (at + 1 ≤ first) × (first ≤ at + 2) }
+    ensures { IsBehind at first next result }
+{
+    if first == at + 1 {
+        Judged::Behind(next)
+    } else {
+        Judged::BehindTwo(next)
+    }
+}
+
+/// What is answered of a field by the bit of its best form: with bit 1 that begins at `first`.
+#[inline(always)]
+pub(crate) fn answer(bit: Option<bool>, at: usize, first: usize, next: usize) -> Judged
+    requires first { (at ≤ first) × (first ≤ at + 2) }
+    ensures { HasAnswer at first next bit result }
+{
+    match bit {
+        Some(true) => {
+            if first == at {
+                Judged::Stands(next)
+            } else {
+                behind(at, first, next)
+            }
+        }
+        Some(false) => Judged::Given(next),
+        None => Judged::Elsewhere,
+    }
+}
+
+/// Judges an integer that does not stand in its shortest form: it may behind the first byte or two. (A call of its own, so that
+/// others do not pay for it.)
+#[inline(never)]
+fn judge_behind(
+    unsigned: bool,
+    which: Part,
+    kind: Kind,
+    instr: &FieldPart,
+    entry: &mut Entry,
+    number: i64,
+    bytes: &[u8],
+    at: usize,
+    next: usize,
+) -> Judged
+    requires place { at ≤ next }
+    requires within { next ≤ length bytes.now }
+    requires part { which ≡ instr.now.part }
+    requires kind { kind ≡ instr.now.kind }
+    requires sign { unsigned ≡ sent_unsigned instr.now.operator kind }
+    requires spelt { Spelt unsigned instr.now.presence (drop at bytes.now) number (drop next bytes.now) }
+    requires long { overlong_number unsigned (slice_range bytes.now at next) ≡ true }
+    ensures { IsJudged instr.now entry.old entry.new bytes.now at result }
+{
+    let (first, stands) = find_behind(unsigned, instr.presence, number, bytes, at, next);
+    if !stands {
+        return Judged::Elsewhere;
+    }
+    match judge_number(kind, which, instr, entry, number, next) {
+        Judged::Stands(_next) => behind(at, first, next),
+        Judged::Given(_next) => Judged::Given(next),
+        Judged::Behind(_) | Judged::BehindTwo(_) => unreachable!(),
+        Judged::Elsewhere => Judged::Elsewhere,
+    }
+}
+
+/// The type of a part. All but a whole field's are known with the part, so that nothing is asked of them behind here.
+#[inline(always)]
+fn kind_of(which: Part, instr: &FieldPart) -> Kind
+    requires which { which ≡ instr.now.part }
+    requires part { IsFieldPart instr.now }
+    ensures { result ≡ instr.now.kind }
+{
+    match which {
+        Part::Whole => instr.kind,
+        Part::Exponent => Kind::Int32,
+        Part::Mantissa => Kind::Int64,
+        Part::Length => Kind::UInt32,
+    }
+}
+
+/// Judges an integer that was read under bit 1, from one place to another, and makes the entry the one afterwards. Elsewhere:
+/// nothing has changed, and another way tells.
+#[inline(always)]
+pub(crate) fn judge_spelt(
+    unsigned: bool,
+    which: Part,
+    kind: Kind,
+    instr: &FieldPart,
+    entry: &mut Entry,
+    number: i64,
+    bytes: &[u8],
+    at: usize,
+    next: usize,
+) -> Judged
+    requires place { at ≤ next }
+    requires within { next ≤ length bytes.now }
+    requires part { which ≡ instr.now.part }
+    requires kind { kind ≡ instr.now.kind }
+    requires sign { unsigned ≡ sent_unsigned instr.now.operator kind }
+    requires spelt { Spelt unsigned instr.now.presence (drop at bytes.now) number (drop next bytes.now) }
+    ensures { IsJudged instr.now entry.old entry.new bytes.now at result }
+{
+    if stands_shortest(unsigned, instr.presence, number, bytes, at, next) {
+        judge_number(kind, which, instr, entry, number, next)
+    } else {
+        judge_behind(unsigned, which, kind, instr, entry, number, bytes, at, next)
+    }
+}
+
+/// Judges an integer.
+#[inline(always)]
+fn judge_integer(
+    which: Part,
     kind: Kind,
     instr: &FieldPart,
     entry: &mut Entry,
     bytes: &[u8],
     at: usize,
-    aside: &mut Aside,
 ) -> Judged
     requires place { at ≤ length bytes.now }
+    requires part { which ≡ instr.now.part }
     requires kind { kind ≡ instr.now.kind }
-    requires integer { IsTrue (is_integer kind) }
-    ensures judged { IsJudged instr.now entry.old entry.new bytes.now at result }
-    ensures aside { IfJudged result (LaysAside instr.now entry.old bytes.now at aside.new.unkept) }
+    ensures { IsJudged instr.now entry.old entry.new bytes.now at result }
 {
+    // read once for all operators, so that the whole is small enough to be inlined
     let unsigned = is_sent_unsigned(kind, instr.operator);
     let Some((number, next)) = read_number(unsigned, instr.presence, bytes, at) else {
         return Judged::Elsewhere;
     };
-    if !lay_number(kind, instr, number, aside) {
-        return Judged::Elsewhere;
-    }
-    judge_spelt(
-        unsigned, instr.part, kind, instr, entry, number, bytes, at, next,
-    )
+    judge_spelt(unsigned, which, kind, instr, entry, number, bytes, at, next)
 }
 
-/// Judges an integer of 64 bits. (A call of its own, so that a loop over fields stays small.)
-#[inline(never)]
-fn judge_integer(
-    instr: &FieldPart,
-    entry: &mut Entry,
-    bytes: &[u8],
-    at: usize,
-    aside: &mut Aside,
-) -> Judged
-    requires place { at ≤ length bytes.now }
-    ensures judged { IsJudged instr.now entry.old entry.new bytes.now at result }
-    ensures aside { IfJudged result (LaysAside instr.now entry.old bytes.now at aside.new.unkept) }
-{
-    match instr.kind {
-        Kind::UInt32 => judge_as(Kind::UInt32, instr, entry, bytes, at, aside),
-        Kind::Int32 => judge_as(Kind::Int32, instr, entry, bytes, at, aside),
-        Kind::UInt64 => judge_as(Kind::UInt64, instr, entry, bytes, at, aside),
-        Kind::Int64 => judge_as(Kind::Int64, instr, entry, bytes, at, aside),
-        Kind::Decimal | Kind::Ascii | Kind::Unicode | Kind::Bytes => Judged::Elsewhere,
-    }
-}
-
-/// Judges an ASCII string that no entry keeps, and lays it aside. (A call of its own, as above.)
-#[inline(never)]
-fn judge_text_aside(
-    instr: &FieldPart,
-    entry: &mut Entry,
-    bytes: &[u8],
-    at: usize,
-    aside: &mut Aside,
-) -> Judged
-    requires place { at ≤ length bytes.now }
-    requires part { instr.now.part ≡ part_type.Whole }
-    requires kind { instr.now.kind ≡ Ascii }
-    requires keeps { KeepsNothing instr.now.operator }
-    ensures judged { IsJudged instr.now entry.old entry.new bytes.now at result }
-    ensures aside { IfJudged result (LaysAside instr.now entry.old bytes.now at aside.new.unkept) }
-{
-    match find_plain(bytes, at) {
-        Some((first, next)) => {
-            aside.unkept = Unkept::Units(Span {
-                start: first,
-                end: next,
-            });
-            judge_characters(&mut aside.spare, instr, entry, bytes, at, first, next)
-        }
-        None => Judged::Elsewhere,
-    }
-}
-
-/// Judges an ASCII string, and lays it aside where no entry keeps it.
+/// Judges a string, a vector or a decimal, which is no part of another field.
 #[inline(always)]
-fn judge_text(
-    instr: &FieldPart,
-    entry: &mut Entry,
-    bytes: &[u8],
-    at: usize,
-    aside: &mut Aside,
-) -> Judged
-    requires place { at ≤ length bytes.now }
-    requires part { instr.now.part ≡ part_type.Whole }
-    requires kind { instr.now.kind ≡ Ascii }
-    requires entry { HoldsScalar entry.old }
-    ensures judged { IsJudged instr.now entry.old entry.new bytes.now at result }
-    ensures aside { IfJudged result (LaysAside instr.now entry.old bytes.now at aside.new.unkept) }
-{
-    if keeps_nothing(instr.operator) {
-        judge_text_aside(instr, entry, bytes, at, aside)
-    } else {
-        judge_string(&mut aside.spare, instr, entry, bytes, at)
-    }
-}
-
-/// Judges a decimal that its entry keeps.
-#[inline(always)]
-fn judge_kept_decimal(instr: &FieldPart, entry: &mut Entry, bytes: &[u8], at: usize) -> Judged
-    requires place { at ≤ length bytes.now }
-    requires part { instr.now.part ≡ part_type.Whole }
-    requires kind { instr.now.kind ≡ Decimal }
-    ensures judged { IsJudged instr.now entry.old entry.new bytes.now at result }
-    ensures aside { (u : UnkeptOf) → IfJudged result (LaysAside instr.now entry.old bytes.now at u) }
-{
-    if keeps_nothing(instr.operator) {
-        Judged::Elsewhere
-    } else {
-        judge_decimal(instr, entry, bytes, at)
-    }
-}
-
-/// Judges a Unicode string or a byte vector that its entry keeps.
-#[inline(always)]
-fn judge_kept_vector(
+pub(crate) fn judge_long(
+    which: Part,
     spare: &mut Spare,
     instr: &FieldPart,
     entry: &mut Entry,
@@ -199,186 +591,47 @@ fn judge_kept_vector(
     at: usize,
 ) -> Judged
     requires place { at ≤ length bytes.now }
-    requires part { instr.now.part ≡ part_type.Whole }
-    requires kind { IsVectorKind instr.now.kind }
-    requires entry { HoldsScalar entry.old }
-    ensures judged { IsJudged instr.now entry.old entry.new bytes.now at result }
-    ensures aside { (u : UnkeptOf) → IfJudged result (LaysAside instr.now entry.old bytes.now at u) }
+    requires part { which ≡ instr.now.part }
+    requires kept { HoldsScalar entry.now }
+    ensures { IsJudged instr.now entry.old entry.new bytes.now at result }
 {
-    if keeps_nothing(instr.operator) {
-        Judged::Elsewhere
-    } else {
-        judge_vector(spare, instr, entry, bytes, at)
+    match which {
+        Part::Whole => match instr.kind {
+            Kind::Ascii => judge_string(spare, instr, entry, bytes, at),
+            Kind::Unicode | Kind::Bytes => judge_vector(spare, instr, entry, bytes, at),
+            Kind::Decimal => judge_decimal(instr, entry, bytes, at),
+            Kind::UInt32 | Kind::Int32 | Kind::UInt64 | Kind::Int64 => Judged::Elsewhere,
+        },
+        Part::Exponent | Part::Mantissa | Part::Length => Judged::Elsewhere,
     }
 }
 
-/// Judges what was sent, by its type, and lays its value aside where no entry keeps it.
+/// Judges what is read under bit 1, where the caller knows what part it is, and makes the entry the one afterwards.
+/// Elsewhere: nothing has changed, and another way tells.
 #[inline(always)]
-fn judge(instr: &FieldPart, entry: &mut Entry, bytes: &[u8], at: usize, aside: &mut Aside) -> Judged
-    requires place { at ≤ length bytes.now }
-    requires part { IsFieldPart instr.now }
-    requires entry { HoldsScalar entry.old }
-    ensures judged { IsJudged instr.now entry.old entry.new bytes.now at result }
-    ensures aside { IfJudged result (LaysAside instr.now entry.old bytes.now at aside.new.unkept) }
-{
-    match instr.kind {
-        Kind::UInt32 | Kind::Int32 | Kind::UInt64 | Kind::Int64 => {
-            judge_integer(instr, entry, bytes, at, aside)
-        }
-        Kind::Ascii => judge_text(instr, entry, bytes, at, aside),
-        Kind::Decimal => judge_kept_decimal(instr, entry, bytes, at),
-        Kind::Unicode | Kind::Bytes => judge_kept_vector(&mut aside.spare, instr, entry, bytes, at),
-    }
-}
-
-/// What the best form is of NULL, or of an ASCII string that was sent as a difference. None: nothing has changed.
-#[inline(always)]
-fn find_best(
+pub(crate) fn judge_field(
+    which: Part,
     spare: &mut Spare,
     instr: &FieldPart,
     entry: &mut Entry,
     bytes: &[u8],
     at: usize,
-) -> Option<Best>
+) -> Judged
     requires place { at ≤ length bytes.now }
-    requires entry { HoldsScalar entry.old }
-    ensures judged { MatchOption result (entry.new ≡ entry.old)
-        (λ best. HasBest instr.now entry.old entry.new bytes.now at best) }
-    ensures absent { IfSome result (λ best. KeepsNothing instr.now.operator → best.there ≡ false) }
+    requires which { which ≡ instr.now.part }
+    requires part { IsFieldPart instr.now }
+    requires kept { HoldsScalar entry.now }
+    ensures { IsJudged instr.now entry.old entry.new bytes.now at result }
 {
-    if keeps_nothing(instr.operator) {
-        judge_null(spare, instr, entry, bytes, at)
-    } else {
-        judge_other(spare, instr, entry, bytes, at)
+    if instr.operator == Operator::Constant {
+        return judge_constant(which, instr, entry, bytes, at);
     }
-}
-
-/// What is told of a field by its best form. There is room aside for a byte that stands nowhere in the input.
-#[inline(always)]
-fn tell_best(best: Best, at: usize, aside: &mut Aside) -> Took
-    requires place { best.first ≤ best.next }
-    requires room { length aside.now.made.items ≡ 1 }
-    ensures place { place_of result ≡ best.next }
-    ensures first { first_of at aside.new result ≤ best.next }
-    ensures unkept { aside.new.unkept ≡ aside.old.unkept }
-    ensures there { is_there result aside.new ≡ best.there }
-    ensures bit { best_bit true aside.new result ≡ best.bit }
-    ensures form { (bytes : List ℕ) → best_form bytes at aside.new result ≡ form_of bytes best }
-{
-    match best.removal {
-        Some(removal) => aside.made[0] = removal,
-        None => {
-            if best.bit && best.first == at {
-                return if best.there {
-                    Took::Stands(best.next)
-                } else {
-                    Took::Absent(best.next)
-                };
-            }
-            aside.made.clear();
+    match kind_of(which, instr) {
+        kind @ (Kind::UInt32 | Kind::Int32 | Kind::UInt64 | Kind::Int64) => {
+            judge_integer(which, kind, instr, entry, bytes, at)
+        }
+        Kind::Decimal | Kind::Ascii | Kind::Unicode | Kind::Bytes => {
+            judge_long(which, spare, instr, entry, bytes, at)
         }
     }
-    aside.bit = best.bit;
-    aside.there = best.there;
-    aside.first = best.first;
-    Took::Other(best.next)
-}
-
-/// A best form that stands in the input from a place on.
-#[inline(always)]
-fn tell_behind(first: usize, next: usize, aside: &mut Aside) -> Took
-    ensures took { result ≡ took_type.Other next }
-    ensures bit { aside.new.bit ≡ true }
-    ensures there { aside.new.there ≡ true }
-    ensures made { aside.new.made.items ≡ [] }
-    ensures first { aside.new.first ≡ first }
-    ensures unkept { aside.new.unkept ≡ aside.old.unkept }
-{
-    aside.bit = true;
-    aside.there = true;
-    aside.made.clear();
-    aside.first = first;
-    Took::Other(next)
-}
-
-/// What is told of a field that was judged. None: it was not.
-#[inline(always)]
-pub(crate) fn tell_judged(
-    judged: Judged,
-    bytes: &[u8],
-    at: usize,
-    aside: &mut Aside,
-) -> Option<Took>
-    requires { at ≤ length bytes.now }
-    ensures unkept { aside.new.unkept ≡ aside.old.unkept }
-    ensures judged { MatchOption result (judged ≡ Judged.Elsewhere) (λ took. judged ≢ Judged.Elsewhere) }
-    ensures taken { (i : PartOf) (old new : EntryOf) → IsJudged i old new bytes.now at judged
-        → IfSome result (λ took. (v : ScalarOf) × IsTakenAs Usual i old new true bytes.now at aside.new took (Some v)) }
-{
-    match judged {
-        Judged::Stands(next) => Some(Took::Stands(next)),
-        Judged::Given(next) => Some(Took::Given(next)),
-        Judged::Behind(next) => Some(tell_behind(at + 1, next, aside)),
-        Judged::BehindTwo(next) => Some(tell_behind(at + 2, next, aside)),
-        Judged::Elsewhere => None,
-    }
-}
-
-/// Takes what was sent where it is judged as it stands, and makes its entry the one afterwards. None: nothing has changed.
-#[inline(always)]
-pub(crate) fn take_judged(
-    instr: &FieldPart,
-    entry: &mut Entry,
-    level: Level,
-    bytes: &[u8],
-    at: usize,
-    aside: &mut Aside,
-) -> Option<Took>
-    requires place { at ≤ length bytes.now }
-    requires part { IsFieldPart instr.now }
-    requires entry { HoldsScalar entry.old }
-    ensures { MatchOption result (entry.new ≡ entry.old)
-        (IsTook level instr.now entry.old entry.new true bytes.now at aside.new) }
-{
-    if !is_read_as_usual(level, instr, bytes, at) {
-        return None;
-    }
-    let judged = judge(instr, entry, bytes, at, aside);
-    tell_judged(judged, bytes, at, aside)
-}
-
-/// Whether what was sent may be NULL or a string, by its first byte: a group that says something begins no NULL.
-#[inline(always)]
-fn may_be_respelled(instr: &FieldPart, bytes: &[u8], at: usize) -> bool
-    requires { at ≤ length bytes.now }
-{
-    instr.kind == Kind::Ascii || at < bytes.len() && bytes[at] % 128 == 0
-}
-
-/// Takes NULL, or an ASCII string that was sent as a difference, where the best form is told at once, and makes its entry the one
-/// afterwards. None: nothing has changed.
-#[inline(always)]
-pub(crate) fn take_respelled(
-    instr: &FieldPart,
-    entry: &mut Entry,
-    level: Level,
-    bytes: &[u8],
-    at: usize,
-    aside: &mut Aside,
-) -> Option<Took>
-    requires place { at ≤ length bytes.now }
-    requires entry { HoldsScalar entry.old }
-    ensures { MatchOption result (entry.new ≡ entry.old)
-        (IsTook level instr.now entry.old entry.new true bytes.now at aside.new) }
-{
-    if !may_be_respelled(instr, bytes, at) || !reads_as_usual(level, instr, bytes, at) {
-        return None;
-    }
-    // a byte that is put there later asks for no memory
-    aside.made.clear();
-    if aside.made.push(0).is_err() {
-        return None;
-    }
-    let best = find_best(&mut aside.spare, instr, entry, bytes, at)?;
-    Some(tell_best(best, at, aside))
 }

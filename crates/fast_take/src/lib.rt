@@ -8,21 +8,52 @@
 //!
 //! Who needs no value calls [`judge_sent`], which lays none aside, and [`relay_judged`] where the field does not stand.
 //!
-//! Most fields are taken at once: what bit 0 gives, and what was sent in its best form or nearly so, as `fast_relay`
-//! judges it. Behind them stands a way that takes whatever was sent.
+//! Most fields are taken at once, with no value in between, and nothing is written: [`pass_quickly`] takes what bit 0 gives.
+//! What was sent is judged as it stands, whether its bytes are its best form or nearly so, or bit 0 is ([`Judged`]); NULL, and
+//! an ASCII string that was sent as a difference, may be best spelled otherwise. Numbers in one byte have ways of their own
+//! ([`read_short_length`], [`take_short_number`]). Behind all stands a way that takes whatever was sent.
+//!
+//! What a field's forms are is defined in `fast_field`; `specs/Relayed` says what it is to have read one at once, and what its
+//! best form is, `specs/Judged` to have judged one as it stands, `specs/Best` otherwise.
+//!
+//! Module `field` chooses the way. At once go `passed`, `one_byte`, `null`, `respelled`, `judged` and what is named for it by
+//! type, and `at_once` tells what was judged there; `taken_integer`, `taken_decimal`, `taken_vector` and `general` take what
+//! those leave. The others read and keep what these ask for.
 #![tactic(auto)]
 
-mod decimal;
+mod at_once;
+mod best;
+mod characters;
+mod copied;
+mod cut;
 mod field;
 mod general;
+mod given;
+mod integers;
 mod judged;
-mod number;
+mod judged_decimal;
+mod judged_string;
+mod judged_vector;
+mod null;
+mod one_byte;
+mod passed;
+mod plain;
+mod respelled;
+mod short_number;
 mod strictly;
+mod taken_decimal;
+mod taken_integer;
+mod taken_vector;
 mod took;
+mod utf8;
 mod value;
-mod vector;
+mod vector_units;
+mod words;
 
 pub use field::{judge_sent, relay_judged, take, take_sent};
 pub use general::take_left_out;
+pub use judged::Judged;
+pub use one_byte::{read_short_length, take_short_number};
+pub use passed::pass_quickly;
 pub use took::{Aside, Took, Unkept};
 pub use value::Room;

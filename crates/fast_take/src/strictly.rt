@@ -5,8 +5,8 @@ ghost use Rattle.fast_wire.specs.declared.level.Level.TheVariants.{Strict};
 ghost use Rattle.fast_field.specs.AsUsual.{ReadsAsUsual};
 ghost use Rattle.fast_take.specs.Beginnings.{BeginsNumber, BeginsShort, BeginsShortBehind};
 
+use crate::integers::is_unsigned;
 use fast_field::reads_as_usual;
-use fast_relay::is_unsigned;
 use fast_template::{FieldPart, Kind, Operator};
 use fast_wire::Level;
 

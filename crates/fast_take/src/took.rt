@@ -5,7 +5,7 @@ ghost use Rattle.std.specs.Option.{option_copied};
 ghost use Rattle.fast_value.specs.Scalar.{is_of};
 ghost use Rattle.fast_value.specs.declared.kind.Kind as kind_type;
 ghost use Rattle.fast_value.specs.declared.kind.Kind.TheVariants.{UInt32};
-ghost use Rattle.fast_relay.specs.Judged.{under};
+ghost use Rattle.fast_take.specs.Judged.{under};
 ghost use Rattle.fast_take.specs.Takes.{best_bit, best_form, count_of as count_of_spec, first_of, is_there, place_of, value_aside, value_taken};
 
 use fast_dictionary::{Entry, Spare};

@@ -67,9 +67,9 @@ pub use Rattle.fast_field.specs.Within.{HoldsScalar}
 pub use Rattle.fast_field.specs.Written.{IsRefusal}
 pub use Rattle.fast_field.specs.declared.fault.FieldFault.{FieldFault}
 pub use Rattle.fast_field.specs.declared.fault.FieldRefusal.{FieldRefusal}
-pub use Rattle.fast_relay.proofs.Ranges.{range_none, range_split}
-pub use Rattle.fast_relay.specs.OneByte.{RelaysByte}
-pub use Rattle.fast_relay.specs.Relayed.{IsThere, Judges}
+pub use Rattle.fast_take.proofs.Ranges.{range_none, range_split}
+pub use Rattle.fast_take.specs.OneByte.{RelaysByte}
+pub use Rattle.fast_take.specs.Relayed.{IsThere, Judges}
 pub use Rattle.fast_stream.proofs.Hex.{hex}
 pub use Rattle.fast_stream.proofs.Rows.{message, quote, u32}
 pub use Rattle.fast_stream.proofs.Weaker.{carries_weaker}

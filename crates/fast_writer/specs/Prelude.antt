@@ -19,7 +19,7 @@ pub use Rattle.fast_field.specs.Found.{value_found}
 pub use Rattle.fast_field.specs.declared.fault.FieldFault.{FieldFault}
 pub use Rattle.fast_field.specs.declared.fault.FieldFault.TheVariants.{Memory}
 pub use Rattle.fast_field.specs.declared.found.Found.{Found}
-pub use Rattle.fast_relay.specs.Relayed.{IsThere}
+pub use Rattle.fast_take.specs.Relayed.{IsThere}
 pub use Rattle.fast_stream.specs.Bits.{after_bit, bit_for}
 pub use Rattle.fast_stream.specs.Bodies.{BodyBy, Each, PartBy, SegmentBy, State, Then, written}
 pub use Rattle.fast_stream.specs.Nodes.{Content, Elements, Items, element_count, group_items, sequence_elements, single}

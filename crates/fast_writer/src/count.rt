@@ -7,7 +7,7 @@ ghost use Rattle.fast_value.specs.declared.kind.Part.TheVariants.{Whole};
 ghost use Rattle.fast_field.specs.AsUsual.{ReadsAsUsual};
 ghost use Rattle.fast_field.specs.Parts.{IsFieldPart};
 ghost use Rattle.fast_field.specs.Passed.{Passes};
-ghost use Rattle.fast_relay.specs.OneByte.{StandsByte};
+ghost use Rattle.fast_take.specs.OneByte.{StandsByte};
 ghost use Rattle.fast_walk.specs.Received.{length_of};
 ghost use Rattle.fast_walk.specs.Told.{KeepScalars};
 ghost use Rattle.fast_wire.specs.PresenceMap.{next_bit};
@@ -17,8 +17,7 @@ use crate::relay::put_at_once;
 use crate::run::Run;
 use fast_dictionary::{Entries, Entry};
 use fast_field::{FieldFault, Passed, pass_left_out, reads_as_usual};
-use fast_relay::take_short_number;
-use fast_take::{Aside, take};
+use fast_take::{Aside, take, take_short_number};
 use fast_template::{FieldPart, Kind, Operator, Scalar, part_needs_bit};
 use fast_wire::Level;
 

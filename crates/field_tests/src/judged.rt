@@ -13,8 +13,9 @@ use crate::fields::Value::{Ascii, Bytes, Decimal, I32, I64, U32, U64, Unicode};
 use crate::fields::{Kept, Shape, are_such, is_kept};
 use crate::same::same;
 use fast_dictionary::{Entry, Spare};
-use fast_relay::Judged::{Behind, BehindTwo, Given, Stands};
-use fast_relay::{Judged, judge_field};
+use fast_field::Level;
+use fast_take::Judged::{Behind, BehindTwo, Given, Stands};
+use fast_take::{Judged, judge_sent};
 use fast_template::Kind::{Int32, Int64, UInt32, UInt64};
 use fast_template::Operator::{Copy, Default, Delta, Increment, Plain, Tail};
 use fast_template::{FieldPart, Kind, Operator, Part, Presence, Scalar};
@@ -100,11 +101,12 @@ fn is_judged_so(rt: &impl Abort, alloc: Global, instr: &FieldPart, row: Row) -> 
     if !are_such(rt, instr, &entry) {
         return Ok(());
     }
-    let answer = judge_field(
+    let answer = judge_sent(
         instr.part,
         &mut Spare::new(alloc),
         instr,
         &mut entry,
+        Level::Usual,
         bytes,
         bytes.len().min(1),
     );

@@ -1,4 +1,4 @@
-//! The tests of fast_dictionary, fast_field, fast_relay and fast_take.
+//! The tests of fast_dictionary, fast_field and fast_take.
 #![tactic(auto)]
 
 #[cfg(test)]

@@ -9,7 +9,7 @@ use crate::same::same;
 use fast_dictionary::Entry;
 use fast_field::Passed::{Absent, Elsewhere, Present};
 use fast_field::{Passed, pass_left_out};
-use fast_relay::{pass_quickly, take_short_number};
+use fast_take::{pass_quickly, take_short_number};
 use fast_template::Kind::{Int32, Int64, UInt32, UInt64};
 use fast_template::Operator::{Constant, Copy, Default, Delta, Increment, Plain, Tail};
 use fast_template::{Kind, Operator, Part, Presence};

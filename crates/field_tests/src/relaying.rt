@@ -1,16 +1,21 @@
 //! Rows on fields that are best spelled otherwise than they stand, or are NULL.
 
+ghost use Rattle.std.specs.Prelude.{◌≤◌, length};
+ghost use Rattle.fast_field.specs.Parts.{IsFieldPart};
+
 use crate::fields::Kept::{Assigned, Empty, Undefined};
 use crate::fields::Shape::{Initial, Mandatory, Optional};
 use crate::fields::Value::{Ascii, Bytes, Decimal, U32, Unicode};
-use crate::fields::{Kept, Shape, is_kept};
+use crate::fields::{Kept, Shape, are_such, is_kept};
 use crate::judged::holds_scalar;
 use crate::same::same;
-use fast_dictionary::{Entry, Spare};
-use fast_relay::{Best, judge_other};
+use crate::takes::is_taken;
+use fast_dictionary::Entry;
+use fast_field::{FieldFault, Level};
+use fast_take::{Aside, Judged, Took, relay_judged};
 use fast_template::Kind::UInt32;
 use fast_template::Operator::{Constant, Copy, Default, Delta, Increment, Plain, Tail};
-use fast_template::{Kind, Operator, Presence};
+use fast_template::{FieldPart, Kind, Operator, Presence};
 use std::alloc::{AllocError, Global};
 use std::process::Abort;
 use test_rows::{Tried, rows};
@@ -19,46 +24,69 @@ use test_rows::{Tried, rows};
 // bit 0, and the entry afterwards.
 struct Relayed(Shape, Kept, &'static [u8], &'static [u8], Kept);
 
-// A field, its entry, and bytes behind the first that are left to the general way: nothing has changed.
+// A field, its entry, and bytes behind the first that are left to the ways that take any: they are as they are read.
 struct Left(Shape, Kept, &'static [u8]);
 
-// What is answered, and the entry afterwards.
-fn answer(alloc: Global, of: Shape, before: Kept, bytes: &[u8]) -> Tried<(Option<Best>, Entry)> {
-    let instr = of.instr(alloc)?;
-    let mut entry = before.entry(alloc)?;
-    // no other is judged
-    if !holds_scalar(&entry) {
+// What becomes of a field that was sent and does not stand, and the bytes of its best form.
+pub(crate) fn relay(
+    rt: &impl Abort,
+    instr: &FieldPart,
+    entry: &mut Entry,
+    bytes: &[u8],
+    at: usize,
+    aside: &mut Aside,
+    form: &mut Vec<u8>,
+) -> Tried<Result<Took, FieldFault>>
+    requires place { at ≤ length bytes.now }
+    requires part { IsFieldPart instr.now }
+{
+    // no other is relayed
+    if !holds_scalar(entry) {
+        same(rt, false, true);
         return Err(AllocError);
     }
-    let spare = &mut Spare::new(alloc);
-    let best = judge_other(spare, &instr, &mut entry, bytes, bytes.len().min(1));
-    Ok((best, entry))
+    let judged = Judged::Elsewhere;
+    match relay_judged(judged, instr, entry, Level::Usual, bytes, at, aside) {
+        Err(FieldFault::Memory) => Err(AllocError),
+        Err(fault) => Ok(Err(fault)),
+        Ok(took) => {
+            aside.append_best(took, bytes, at, form)?;
+            Ok(Ok(took))
+        }
+    }
 }
 
-// Want of memory leaves all as it was, and ends the test.
+// `there` says whether there is a value: it was sent as a difference then, and all of its best form but how much is removed
+// stands in what was read.
 fn is_relayed(rt: &impl Abort, alloc: Global, there: bool, row: &Relayed) -> Tried {
-    let (best, entry) = answer(alloc, row.0, row.1, row.2)?;
-    let Some(best) = best else {
-        is_kept(rt, alloc, &entry, row.1)?;
-        return Err(AllocError);
-    };
-    same(
-        rt,
-        (best.there, best.bit, best.next),
-        (there, !row.3.is_empty(), row.2.len()),
-    );
-    let behind = match best.removal {
-        None => row.3,
-        Some(removal) => {
-            same(rt, row.3.first(), Some(&removal));
-            &row.3[row.3.len().min(1)..]
-        }
-    };
-    same(rt, row.2.get(best.first..best.next), Some(behind));
+    let instr = row.0.instr(alloc)?;
+    let mut entry = row.1.entry(alloc)?;
+    if !are_such(rt, &instr, &entry) {
+        return Ok(());
+    }
+    let (bytes, form) = (row.2, row.3);
+    let at = bytes.len().min(1);
+    let mut aside = Aside::new(alloc);
+    let mut out = Vec::new(alloc);
+    match relay(rt, &instr, &mut entry, bytes, at, &mut aside, &mut out)? {
+        Err(fault) => same(rt, Some(fault), None),
+        Ok(took) => same(
+            rt,
+            (
+                took.is_there(&aside),
+                took.best_bit(true, &aside),
+                took.place(),
+            ),
+            (there, !form.is_empty(), bytes.len()),
+        ),
+    }
+    same(rt, out.as_slice(), form);
+    if there {
+        same(rt, aside.made.as_slice(), &form[..form.len().min(1)]);
+    }
     is_kept(rt, alloc, &entry, row.4)
 }
 
-// `there` says whether the values are.
 fn all_relayed(rt: &impl Abort, alloc: Global, there: bool, rows: &[Relayed]) -> Tried {
     for row in rows {
         is_relayed(rt, alloc, there, row)?;
@@ -66,11 +94,30 @@ fn all_relayed(rt: &impl Abort, alloc: Global, there: bool, rows: &[Relayed]) ->
     Ok(())
 }
 
-fn none_relayed(rt: &impl Abort, alloc: Global, rows: &[Left]) -> Tried {
+fn is_as_read(rt: &impl Abort, alloc: Global, row: &Left) -> Tried {
+    let instr = row.0.instr(alloc)?;
+    let entry = row.1.entry(alloc)?;
+    if !are_such(rt, &instr, &entry) {
+        return Ok(());
+    }
+    let (bytes, mut aside) = (row.2, Aside::new(alloc));
+    is_taken(
+        rt,
+        alloc,
+        &instr,
+        &entry,
+        true,
+        Level::Usual,
+        bytes,
+        bytes.len().min(1),
+        &mut aside,
+    )?;
+    Ok(())
+}
+
+fn all_as_read(rt: &impl Abort, alloc: Global, rows: &[Left]) -> Tried {
     for row in rows {
-        let (best, entry) = answer(alloc, row.0, row.1, row.2)?;
-        same(rt, best, None);
-        is_kept(rt, alloc, &entry, row.1)?;
+        is_as_read(rt, alloc, row)?;
     }
     Ok(())
 }
@@ -106,7 +153,7 @@ fn texts_that_are_relayed(rt: HostRuntime) -> Tried {
         Mandatory(Kind::Bytes, Delta), Assigned(Bytes(b"ESM6")), b"\x00\x84\x84\x58\x53\x4d\x36";
     };
     all_relayed(&rt, rt.alloc(), true, RELAYED)?;
-    none_relayed(&rt, rt.alloc(), OTHERS)
+    all_as_read(&rt, rt.alloc(), OTHERS)
 }
 
 #[test]
@@ -135,7 +182,7 @@ fn nulls_that_are_relayed(rt: HostRuntime) -> Tried {
         // the number 0
         Mandatory(UInt32, Copy), Assigned(U32(7)), b"\xff\x80";
         // a constant has no bytes
-        Optional(UInt32, Constant), Undefined, b"\xff\x80";
+        Initial(Presence::Optional, Constant, 5), Undefined, b"\xff\x80";
         // an overlong NULL of a number
         Optional(UInt32, Copy), Assigned(U32(7)), b"\xff\x00\x80";
         // an overlong NULL of a string
@@ -146,5 +193,5 @@ fn nulls_that_are_relayed(rt: HostRuntime) -> Tried {
         Optional(UInt32, Copy), Assigned(U32(7)), b"\xff";
     };
     all_relayed(&rt, rt.alloc(), false, RELAYED)?;
-    none_relayed(&rt, rt.alloc(), OTHERS)
+    all_as_read(&rt, rt.alloc(), OTHERS)
 }

@@ -1,6 +1,6 @@
-//! Generated fields that go the quick way and the general one: their bytes, entries and places are the same. All operators,
-//! types and presences, bits that say what they need not, needless groups and characters, bytes that no field has, and fields
-//! that have not wholly come.
+//! Generated fields that are judged as they stand, or else relayed, and that go the general way: their bytes, entries and
+//! places are the same. All operators, types and presences, bits that say what they need not, needless groups and characters,
+//! bytes that no field has, and fields that have not wholly come.
 
 ghost use Rattle.std.specs.Prelude.{◌≡◌, ◌≤◌, IsTrue, true, false, length, IfSome, IsSome};
 ghost use Rattle.fast_value.specs.declared.kind.Operator.TheVariants as operator_type;
@@ -11,10 +11,11 @@ ghost use Rattle.fast_value.specs.declared.kind.Part.TheVariants as part_type;
 
 use crate::fields::{Value, part_of};
 use crate::judged::{applies_to, has_kind, holds_scalar, is_scalar};
+use crate::relaying::relay;
 use crate::same::same;
 use fast_dictionary::{Entry, Spare};
 use fast_field::{FieldFault, FieldRefusal, Level, Passed, read_field, write_in_place};
-use fast_relay::{Best, best_of, judge_field, judge_other, pass_quickly};
+use fast_take::{Aside, Judged, Took, judge_sent, pass_quickly};
 use fast_template::{FieldPart, Initial, Kind, Operator, Part, Presence, Scalar, part_needs_bit};
 use fast_value::is_of_kind;
 use std::alloc::{AllocError, Global};
@@ -123,6 +124,37 @@ pub(crate) fn is_part(which: Part, instr: &FieldPart) -> bool
         && has_kind(instr.part, instr.kind)
 }
 
+// The best form of a field that was judged: its bit, the place where its bytes begin, and the one behind the field.
+#[derive(Clone, Copy, Debug, PartialEq, Eq, Drop)]
+struct Best {
+    there: bool,
+    bit: bool,
+    first: usize,
+    next: usize,
+}
+
+// The best form of a value that was sent.
+fn sent(bit: bool, first: usize, next: usize) -> Option<Best> {
+    Some(Best {
+        there: true,
+        bit,
+        first,
+        next,
+    })
+}
+
+fn best_of(judged: Judged, bytes: &[u8], at: usize) -> Option<Best>
+    requires { at ≤ length bytes.now }
+{
+    match judged {
+        Judged::Stands(next) => sent(true, at, next),
+        Judged::Behind(next) => sent(true, at + 1, next),
+        Judged::BehindTwo(next) => sent(true, at + 2, next),
+        Judged::Given(next) => sent(false, next, next),
+        Judged::Elsewhere => None,
+    }
+}
+
 // What the quick way answers of a field: none where it does not serve.
 fn quickly(
     alloc: Global,
@@ -146,7 +178,6 @@ fn quickly(
         return Some(Best {
             there,
             bit: false,
-            removal: None,
             first: at,
             next: at,
         });
@@ -155,25 +186,45 @@ fn quickly(
         return None;
     }
     let mut spare = Spare::new(alloc);
-    let judged = judge_field(which, &mut spare, instr, entry, bytes, at);
-    match best_of(judged, bytes, at) {
-        Some(best) => Some(best),
-        None if holds_scalar(entry) => judge_other(&mut spare, instr, entry, bytes, at),
-        None => None,
-    }
+    let judged = judge_sent(which, &mut spare, instr, entry, Level::Usual, bytes, at);
+    best_of(judged, bytes, at)
 }
 
-// The bytes of a best form.
-fn spelled(rt: &impl Abort, alloc: Global, best: Best, bytes: &[u8]) -> Tried<Vec<u8>> {
-    let mut form = Vec::new(alloc);
-    if let Some(removal) = best.removal {
-        form.push(removal)?;
-    }
-    match bytes.get(best.first..best.next) {
-        None => same(rt, best.first, best.next),
-        Some(rest) => form.extend_from_slice(rest)?,
-    }
-    Ok(form)
+// A field that was sent and not judged is relayed with this answer, best form and entry afterwards. Answers whether it was a
+// difference of which all but how much it removes stands in what was read.
+fn is_relayed(
+    rt: &impl Abort,
+    alloc: Global,
+    instr: &FieldPart,
+    before: &Entry,
+    bytes: &[u8],
+    at: usize,
+    wanted: (bool, bool, usize),
+    form: &[u8],
+    after: &Entry,
+) -> Tried<bool>
+    requires place { at ≤ length bytes.now }
+    requires part { IsFieldPart instr.now }
+{
+    let mut entry = before.view().copy(alloc)?;
+    let mut aside = Aside::new(alloc);
+    let mut out = Vec::new(alloc);
+    let took = match relay(rt, instr, &mut entry, bytes, at, &mut aside, &mut out)? {
+        Ok(took) => took,
+        Err(fault) => {
+            same(rt, Some(fault), None);
+            return Ok(false);
+        }
+    };
+    let there = took.is_there(&aside);
+    same(
+        rt,
+        (there, took.best_bit(true, &aside), took.place()),
+        wanted,
+    );
+    same(rt, out.as_slice(), form);
+    same(rt, &entry, after);
+    Ok(there && took == Took::Other(took.place()) && aside.made.len() == 1)
 }
 
 // A field of which the last bytes have not come is left to the general way, and nothing changes.
@@ -207,7 +258,7 @@ fn waits(
     Ok(())
 }
 
-// A field goes the same both ways, and its entry becomes the one afterwards. Answers whether the quick way served.
+// A field goes the same both ways, and its entry becomes the one afterwards. Answers whether a quick way served.
 fn goes_both_ways(
     rt: &impl Abort,
     alloc: Global,
@@ -250,20 +301,20 @@ fn goes_both_ways(
             same(rt, refusal, FieldRefusal::Memory);
             Err(AllocError)
         }
-        Ok(bit) => {
+        Ok(best_bit) => {
             same(rt, &*entry, &after);
+            let wanted = (value.is_some(), best_bit, next);
             match best {
                 None => {
                     same(rt, &quick, &before);
-                    Ok(false)
+                    if !bit {
+                        return Ok(false);
+                    }
+                    is_relayed(rt, alloc, instr, &before, bytes, at, wanted, &form, &after)
                 }
                 Some(best) => {
-                    same(
-                        rt,
-                        (best.there, best.bit, best.next),
-                        (value.is_some(), bit, next),
-                    );
-                    same(rt, spelled(rt, alloc, best, bytes)?, form);
+                    same(rt, (best.there, best.bit, best.next), wanted);
+                    same(rt, bytes.get(best.first..best.next), Some(form.as_slice()));
                     same(rt, &quick, &after);
                     Ok(true)
                 }

@@ -1,5 +1,5 @@
 use Rattle.std.proofs.Common.{Some}
-use Rattle.fast_take.proofs.Judging.{usually_taken}
+use Rattle.fast_take.proofs.AtOnce.{usually_taken}
 use Rattle.fast_take.proofs.field.relay_judged.Goals as goal
 
 pub returns-in-Some : goal.returns-in-Some

@@ -1,6 +1,6 @@
 use Rattle.std.proofs.Common.{◌≡◌, rules}
 use Rattle.fast_value.specs.declared.kind.Operator.{Operator}
-use Rattle.fast_take.proofs.Judging.{constant_took}
+use Rattle.fast_take.proofs.AtOnce.{constant_took}
 use Rattle.fast_take.proofs.field.take_sent.Goals as goal
 
 pub returns-in-Stands-clause-taken : goal.returns-in-Stands-clause-taken

@@ -1,4 +1,4 @@
-use Rattle.fast_take.proofs.Judging.{absent_took, present_took}
+use Rattle.fast_take.proofs.AtOnce.{absent_took, present_took}
 use Rattle.fast_take.proofs.general.take_left_out.Goals as goal
 
 pub returns-in-Present : goal.returns-in-Present

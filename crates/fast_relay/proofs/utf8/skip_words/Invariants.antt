@@ -1,8 +1,0 @@
-use Rattle.fast_relay.proofs.Common.{◌-◌, length, Skips}
-use Rattle.fast_relay.proofs.utf8.skip_words.Given as goal
-
-abbrev pub invariant-loop-next : goal.invariant-loop-next
-invariant-loop-next l = Skips l.units l.fn.at l.next
-
-abbrev pub decreases-loop-next : goal.decreases-loop-next
-decreases-loop-next l = length l.units - l.next

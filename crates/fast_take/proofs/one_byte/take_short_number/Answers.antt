@@ -1,0 +1,10 @@
+use Rattle.fast_take.proofs.Common.{◌≡◌, ◌∙◌, arith, refl, rules, sym, Copy, Mandatory}
+use Rattle.fast_take.proofs.ShortLengths.{number_stands}
+use Rattle.fast_take.proofs.one_byte.take_short_number.Goals as goal
+
+pub returns-clause-stands : goal.returns-clause-stands
+returns-clause-stands c =
+    let i = c.args.instr.now in
+    let operator : i.operator ≡ Copy = search rules in
+    let mandatory : i.presence ≡ Mandatory = search rules in
+    number_stands i c.args.entry.now _ c.args.bytes.now c.args.at _ (λ k. omega (arith, c.type_inv.bytes k)) (omega arith) operator c.requires.kind c.requires.part mandatory (omega arith) (sym (rw (c.view.ensures) at c.is_left_out.ensures) ∙ c.if-is_left_out.false) refl
