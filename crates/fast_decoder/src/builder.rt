@@ -5,11 +5,10 @@ ghost use Rattle.fast_stream.specs.Nodes.{item_of, single};
 
 use fast_dictionary::Entries;
 use fast_field::FieldFault;
-use fast_part::{take_exponent, take_identifier, take_length, take_mantissa, take_part};
 use fast_stream::{Message, Node};
 use fast_take::Aside;
 use fast_template::{FieldPart, Name, Presence, Scalar};
-use fast_walk::Receiver;
+use fast_walk::{Receiver, take_exponent, take_identifier, take_length, take_mantissa, take_part};
 use fast_wire::Level;
 use std::alloc::{AllocError, Global};
 use std::mem;

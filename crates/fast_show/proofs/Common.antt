@@ -25,13 +25,13 @@ pub use Rattle.fast_field.specs.Parts.{IsBitOf, IsKindOfPart}
 pub use Rattle.fast_field.specs.Within.{IsOfField}
 pub use Rattle.fast_stream.specs.Nodes.{Content, Item, Items, elements_of, group_items, items_of, no_elements, no_items, sequence_elements, single, then_element, then_item}
 pub use Rattle.fast_stream.specs.Streams.{members_of}
+pub use Rattle.fast_walk.proofs.PartTaking.{stopped, taken_as}
 pub use Rattle.fast_walk.proofs.Passings.{took_of}
 pub use Rattle.fast_walk.proofs.Steps.{elements_before-end, elements_before-more, items_before-end, items_before-more}
 pub use Rattle.fast_walk.proofs.Telling.{form_taken, kept_hold, told_part, told_there}
 pub use Rattle.fast_walk.specs.OpenSegments.{Body, Inside, Next, Sequel, Waiting, at_element, at_instruction, at_mantissa, fewer, in_group, in_sequence, items_before}
 pub use Rattle.fast_walk.specs.Received.{Received, Took, TookFrom, after_exponent, after_length, after_sequence, bytes_in, content_received, ended_in, entered, in_element, moved, passed}
 pub use Rattle.fast_walk.specs.Told.{IsTold}
-pub use Rattle.fast_part.proofs.Receiving.{stopped, taken_as}
 pub use Rattle.fast_take.proofs.Within.{taken_within}
 pub use Rattle.fast_lines.proofs.Written.{appended_more, flat_map_piece, flat_map_rest}
 pub use Rattle.fast_lines.specs.Lines.{absent_text, braced, bracketed, decimal_text, elements_text, field_text, joined, label, labelled, line_if, line_in, lines_in, members_text, node_text, said_text}

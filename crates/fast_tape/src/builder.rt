@@ -10,10 +10,9 @@ use crate::tape::Tape;
 use crate::told::tell;
 use fast_dictionary::Entries;
 use fast_field::FieldFault;
-use fast_part::{take_exponent, take_identifier, take_length, take_mantissa};
 use fast_take::{Aside, Room};
 use fast_template::{FieldPart, Name, Presence};
-use fast_walk::Receiver;
+use fast_walk::{Receiver, take_exponent, take_identifier, take_length, take_mantissa};
 use fast_wire::Level;
 use std::alloc::{AllocError, Global};
 

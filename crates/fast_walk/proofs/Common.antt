@@ -5,10 +5,12 @@ pub use Rattle.std.proofs.lemmas.Bool.Decides.{nat_tests}
 pub use Rattle.std.proofs.lemmas.List.{map_push, nil_from_length, take_rest}
 pub use Rattle.std.proofs.lemmas.List.Elements.{Contains-append_left, Contains-append_right}
 pub use Rattle.std.proofs.lemmas.Option.{IfSome_then}
+pub use Rattle.std.proofs.lemmas.Result.{err_from_is_err_and}
 pub use Rattle.std.proofs.lemmas.Str.{IsUtf8-from_is_utf8, is_utf8-from_IsUtf8}
 pub use Rattle.std.specs.Global.{Global, Vec}
 pub use Rattle.std.specs.List.{AllByRecursion}
 pub use Rattle.std.specs.Ordering.{is_eq}
+pub use Rattle.std.specs.Result.{is_ok}
 pub use Rattle.std.specs.formers.vec.Vec.{mapped}
 pub use mathlib.Core.Former.{this}
 pub use Rattle.fast_wire.proofs.GoingOn.{entity_goes, map_goes, unsigned_goes, unsigned_nullable_goes}
@@ -20,7 +22,7 @@ pub use Rattle.fast_wire.specs.Level.{IsLeftClear, judge, overlong_map, overlong
 pub use Rattle.fast_wire.specs.Nullable.{received_signed}
 pub use Rattle.fast_wire.specs.PresenceMap.{HasSetBit, IsWholeMap, bit_at}
 pub use Rattle.fast_wire.specs.Reader.{IsBytes}
-pub use Rattle.fast_wire.specs.Reading.{◌>>=◌}
+pub use Rattle.fast_wire.specs.Reading.{Fails, ◌>>=◌}
 unfoldable pub use Rattle.fast_wire.specs.Reading.{ascii_at, ascii_nullable_at, behind_length, entity_at, signed_at, signed_nullable_at, unsigned_at, unsigned_nullable_at, vector_at, vector_nullable_at}
 pub use Rattle.fast_wire.specs.declared.fault.WireFault.{WireFault}
 pub use Rattle.fast_wire.specs.declared.level.Level.{Level}
@@ -43,7 +45,7 @@ pub use Rattle.fast_template.specs.declared.resolved.FieldPart.{FieldPart}
 pub use Rattle.fast_template.specs.declared.resolved.Flat.{Flat, fold_out-Flat}
 pub use Rattle.fast_template.specs.declared.resolved.Flat.TheVariants.{Field, Group, Parts, Sequence, outs-Field, outs-Group, outs-Parts, outs-Sequence}
 pub use Rattle.fast_template.specs.declared.resolved.FlatTemplate.{FlatTemplate}
-pub use Rattle.fast_dictionary.specs.Dictionary.{Dictionary, entry_at, entry_at-empty, entry_at-set_entry, remove-undefined, set_entry}
+pub use Rattle.fast_dictionary.specs.Dictionary.{Dictionary, entry_at, entry_at-empty, entry_at-set_entry, remove-undefined, set_entry, set_entry-there}
 pub use Rattle.fast_dictionary.specs.declared.entries.Entries.{Ghosts}
 pub use Rattle.fast_dictionary.specs.declared.entry.Entry.{Entry}
 pub use Rattle.fast_dictionary.specs.declared.entry.Entry.TheVariants.{Assigned, Undefined}
@@ -53,6 +55,7 @@ pub use Rattle.fast_field.proofs.FieldsWithin.{entries_within, value_kind, value
 pub use Rattle.fast_field.proofs.ReadFields.{bytes_from}
 pub use Rattle.fast_field.proofs.ValueFaults.{never, never_then, part_allowed}
 pub use Rattle.fast_field.specs.Bases.{delta_base, next}
+pub use Rattle.fast_field.specs.Calls.{OrRefused}
 pub use Rattle.fast_field.specs.Deltas.{removed_of}
 pub use Rattle.fast_field.specs.Faults.{field_fault}
 pub use Rattle.fast_field.specs.FieldReading.{check, entity_limit, mantissa_entity_at, overlong_fault, part_usually_at, unless_null}

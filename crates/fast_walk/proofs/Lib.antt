@@ -15,3 +15,5 @@ pub mod NewParts
 pub mod ShortMaps
 pub mod Pieces
 pub mod Messages
+mod PartKeys
+pub mod PartTaking

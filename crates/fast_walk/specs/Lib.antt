@@ -11,3 +11,4 @@ pub mod Lacks
 pub mod ShortMaps
 pub mod Pieces
 pub mod Messages
+pub mod PartTaking

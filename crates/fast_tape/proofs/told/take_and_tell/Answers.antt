@@ -2,7 +2,7 @@ use Rattle.std.proofs.Common.{refl}
 use Rattle.std.proofs.lemmas.Result.{err_from_is_err_and}
 use Rattle.fast_take.specs.Takes.{value_taken}
 use Rattle.fast_take.proofs.Within.{taken_within}
-use Rattle.fast_part.proofs.Receiving.{stopped, taken_as}
+use Rattle.fast_walk.proofs.PartTaking.{stopped, taken_as}
 use Rattle.fast_tape.proofs.Taking.{told}
 use Rattle.fast_tape.proofs.told.take_and_tell.Goals as goal
 

@@ -1,5 +1,6 @@
 -- What receivers ask of a field that was taken.
-use Rattle.fast_part.proofs.Common.{◌≡◌, ◌≢◌, ◌≤◌, ℕ, ℤ, Bool, List, length, drop, Option, Some, None, Result, Err, refl, inl, inr, Level, Scalar, FieldPart, Entry, field_at, FieldFault, OrRefused, Fails, TookFrom, exponent_of, length_of}
+use Rattle.fast_walk.proofs.Common.{◌≡◌, ◌≢◌, ◌≤◌, ℕ, ℤ, Bool, List, length, drop, Option, Some, None, Result, Err, refl, inl, inr, Level, Scalar, FieldPart, Entry, field_at, FieldFault, OrRefused, Fails, TookFrom}
+use Rattle.fast_walk.specs.Received.{exponent_of, length_of}
 use Rattle.fast_take.specs.Lying.{of_exponent}
 use Rattle.fast_take.specs.Takes.{IsStopped, IsTook, count_of, place_of, value_taken}
 use Rattle.fast_take.specs.declared.took.Aside.{Aside}

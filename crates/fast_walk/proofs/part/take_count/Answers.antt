@@ -1,8 +1,9 @@
-use Rattle.fast_part.proofs.Common.{Kind, ap, length_of, sym, ◌∙◌}
-use Rattle.fast_part.proofs.Receiving.{length_is, taken_as}
+use Rattle.fast_walk.proofs.Common.{Kind, ap, sym, ◌∙◌}
+use Rattle.fast_walk.specs.Received.{length_of}
+use Rattle.fast_walk.proofs.PartTaking.{length_is, taken_as}
 use Rattle.fast_take.specs.Takes.{count_of}
 use Rattle.fast_take.proofs.Within.{taken_kind, taken_there}
-use Rattle.fast_part.proofs.part.take_count.Goals as goal
+use Rattle.fast_walk.proofs.part.take_count.Goals as goal
 
 pub returns-clause-taken : goal.returns-clause-taken
 returns-clause-taken c =

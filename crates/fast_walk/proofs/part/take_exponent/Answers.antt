@@ -1,6 +1,8 @@
-use Rattle.fast_part.proofs.Common.{ap, is_ok, kept_hold, exponent_of}
-use Rattle.fast_part.proofs.Keys.{under_key}
-use Rattle.fast_part.proofs.part.take_exponent.Goals as goal
+use Rattle.fast_walk.proofs.Common.{ap, is_ok}
+use Rattle.fast_walk.proofs.Telling.{kept_hold}
+use Rattle.fast_walk.specs.Received.{exponent_of}
+use Rattle.fast_walk.proofs.PartKeys.{under_key}
+use Rattle.fast_walk.proofs.part.take_exponent.Goals as goal
 
 pub take_exponent_of-requires-clause-entry : goal.take_exponent_of-requires-clause-entry
 take_exponent_of-requires-clause-entry g c = rw (c.in_ok-entry.ensures.value) (kept_hold (g.E.Entries.contents c.args.entries.now) c.requires.kept c.args.part.now.key)

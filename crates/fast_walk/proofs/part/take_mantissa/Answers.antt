@@ -2,10 +2,11 @@ use Rattle.std.proofs.Common.{rules}
 use Rattle.std.proofs.lemmas.Int.{to_z-of_z}
 use Rattle.std.specs.Int.{w64}
 use Rattle.std.specs.Int.RustNames.{FitsSigned}
-use Rattle.fast_part.proofs.Common.{Err, Ok, ap, err_from_is_err_and, is_ok, kept_hold}
+use Rattle.fast_walk.proofs.Common.{Err, Ok, ap, err_from_is_err_and, is_ok}
+use Rattle.fast_walk.proofs.Telling.{kept_hold}
 use Rattle.fast_take.specs.Lying.{of_mantissa}
-use Rattle.fast_part.proofs.Keys.{under_key}
-use Rattle.fast_part.proofs.part.take_mantissa.Goals as goal
+use Rattle.fast_walk.proofs.PartKeys.{under_key}
+use Rattle.fast_walk.proofs.part.take_mantissa.Goals as goal
 
 pub take_mantissa_of-requires-clause-entry : goal.take_mantissa_of-requires-clause-entry
 take_mantissa_of-requires-clause-entry g c = rw (c.in_ok-entry.ensures.value) (kept_hold (g.E.Entries.contents c.args.entries.now) c.requires.kept c.args.part.now.key)

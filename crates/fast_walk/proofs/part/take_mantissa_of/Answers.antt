@@ -1,8 +1,8 @@
-use Rattle.fast_part.proofs.Common.{Kind, ap, sym, ◌∙◌}
-use Rattle.fast_part.proofs.Receiving.{taken_as}
+use Rattle.fast_walk.proofs.Common.{Kind, ap, sym, ◌∙◌}
+use Rattle.fast_walk.proofs.PartTaking.{taken_as}
 use Rattle.fast_take.specs.Lying.{of_mantissa}
 use Rattle.fast_take.proofs.Within.{taken_kind, taken_there}
-use Rattle.fast_part.proofs.part.take_mantissa_of.Goals as goal
+use Rattle.fast_walk.proofs.part.take_mantissa_of.Goals as goal
 
 pub returns-clause-taken : goal.returns-clause-taken
 returns-clause-taken c =

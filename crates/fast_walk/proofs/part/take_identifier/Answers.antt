@@ -1,6 +1,8 @@
-use Rattle.fast_part.proofs.Common.{Err, ap, err_from_is_err_and, is_ok, kept_hold, length_of}
-use Rattle.fast_part.proofs.Keys.{under_key}
-use Rattle.fast_part.proofs.part.take_identifier.Goals as goal
+use Rattle.fast_walk.proofs.Common.{Err, ap, err_from_is_err_and, is_ok}
+use Rattle.fast_walk.proofs.Telling.{kept_hold}
+use Rattle.fast_walk.specs.Received.{length_of}
+use Rattle.fast_walk.proofs.PartKeys.{under_key}
+use Rattle.fast_walk.proofs.part.take_identifier.Goals as goal
 
 pub take_count-requires-clause-entry : goal.take_count-requires-clause-entry
 take_count-requires-clause-entry g c = rw (c.in_ok-entry.ensures.value) (kept_hold (g.E.Entries.contents c.args.entries.now) c.requires.kept c.args.identifier.now.key)

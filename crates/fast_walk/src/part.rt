@@ -11,7 +11,7 @@ ghost use Rattle.fast_field.specs.Within.{HoldsScalar};
 ghost use Rattle.fast_take.specs.Lying.{of_mantissa};
 ghost use Rattle.fast_stream.specs.Streams.{identifier as identifier_part};
 ghost use Rattle.fast_walk.specs.Received.{exponent_of, length_of};
-ghost use Rattle.fast_part.specs.Taking.{Takes, TakesFrom};
+ghost use Rattle.fast_walk.specs.PartTaking.{Takes, TakesFrom};
 ghost use Rattle.fast_walk.specs.Told.{IsTold, KeepScalars};
 
 use fast_dictionary::{Entries, Entry};

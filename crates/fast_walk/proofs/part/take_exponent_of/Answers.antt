@@ -1,7 +1,8 @@
-use Rattle.fast_part.proofs.Common.{Kind, exponent_of, sym, ◌∙◌}
-use Rattle.fast_part.proofs.Receiving.{exponent_is, taken_as}
+use Rattle.fast_walk.proofs.Common.{Kind, sym, ◌∙◌}
+use Rattle.fast_walk.specs.Received.{exponent_of}
+use Rattle.fast_walk.proofs.PartTaking.{exponent_is, taken_as}
 use Rattle.fast_take.proofs.Within.{taken_kind}
-use Rattle.fast_part.proofs.part.take_exponent_of.Goals as goal
+use Rattle.fast_walk.proofs.part.take_exponent_of.Goals as goal
 
 pub returns : goal.returns
 returns c =

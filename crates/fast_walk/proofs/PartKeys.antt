@@ -1,6 +1,7 @@
 -- What is taken of a part, under its key.
-use Rattle.fast_part.proofs.Common.{◌≡◌, ℕ, Bool, List, Option, Result, Ok, Err, ap, ◌∙◌, Level, Scalar, FieldPart, Dictionary, entry_at, set_entry, set_entry-there, Entry, took_of, FieldFault}
-use Rattle.fast_part.specs.Taking.{Takes, TakesFrom}
+use Rattle.fast_walk.proofs.Common.{◌≡◌, ℕ, Bool, List, Option, Result, Ok, Err, ap, ◌∙◌, Level, Scalar, FieldPart, Dictionary, entry_at, set_entry, set_entry-there, Entry, FieldFault}
+use Rattle.fast_walk.proofs.Passings.{took_of}
+use Rattle.fast_walk.specs.PartTaking.{Takes, TakesFrom}
 
 -- what is taken into the entry that is put under its key
 pub under_key : {A : Type 0} (value : A → Option Scalar) (level : Level) (p : FieldPart) (bit : Bool) (bytes : List ℕ) (at : ℕ) (old new : Entry) (d e : Dictionary) (r : Result (A × ℕ) FieldFault)

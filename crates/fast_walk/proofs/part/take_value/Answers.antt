@@ -1,7 +1,7 @@
-use Rattle.fast_part.proofs.Common.{err_from_is_err_and}
-use Rattle.fast_part.proofs.Receiving.{stopped, taken_as}
+use Rattle.fast_walk.proofs.Common.{err_from_is_err_and}
+use Rattle.fast_walk.proofs.PartTaking.{stopped, taken_as}
 use Rattle.fast_take.proofs.Within.{taken_within}
-use Rattle.fast_part.proofs.part.take_value.Goals as goal
+use Rattle.fast_walk.proofs.part.take_value.Goals as goal
 
 pub returns-in_err-took : goal.returns-in_err-took
 returns-in_err-took c =

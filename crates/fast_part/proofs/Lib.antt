@@ -1,3 +1,0 @@
-mod Common
-mod Keys
-pub mod Receiving
