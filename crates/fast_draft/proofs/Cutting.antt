@@ -1,6 +1,8 @@
 -- A map's groups are cut behind the bits that were asked for, and the last of them that are 0 are left out.
 use Rattle.std.proofs.Common.{◌≡◌, ℕ, zero, suc, ◌+◌, ◌-◌, ◌*◌, ◌/◌, ◌%◌, ◌^◌, ◌<◌, ◌≤◌, false, nat_eq, List, [], ◌∷◌, length, length-take, get_or, get_or-take, set, take, refl, sym, ap, ap₂, ◌∙◌, arith, inl, inr}
 use Rattle.std.proofs.lemmas.Bool.{cases_eq, cases_lt}
+use Rattle.std.proofs.lemmas.Nat.{pow-add, pow_pos}
+use Rattle.std.proofs.Math.Nat.{mul-div_cancel}
 use Rattle.std.proofs.lemmas.List.{get_or_past, get_or-set_same, get_or-set_other, length-set, length-map}
 use Rattle.fast_wire.specs.Entity.{IsEntity, groups}
 use Rattle.fast_wire.specs.PresenceMap.{IsMap, bits_of, bit_at}
@@ -324,12 +326,8 @@ group_below old new asked most k entity cleared =
     let c : ClearsBehind asked (groups old) new most = rw (unstopped old entity) at cleared in
     omega (arith, c.low k, are_groups old k)
 
-pub weight_is : (a : ℕ) → a < 7 → 128 / 2 ^ a ≡ 2 ^ (7 - a)
-weight_is zero h = refl
-weight_is (suc zero) h = refl
-weight_is (suc (suc zero)) h = refl
-weight_is (suc (suc (suc zero))) h = refl
-weight_is (suc (suc (suc (suc zero)))) h = refl
-weight_is (suc (suc (suc (suc (suc zero))))) h = refl
-weight_is (suc (suc (suc (suc (suc (suc zero)))))) h = refl
-weight_is (suc (suc (suc (suc (suc (suc (suc a))))))) h = absurd (omega arith)
+-- a power of 2 shifted to the right
+pub weight_is : (n a : ℕ) → a ≤ n → 2 ^ n / 2 ^ a ≡ 2 ^ (n - a)
+weight_is n a le =
+    let split : n ≡ n - a + a = omega arith in
+    ap (λ m. m / 2 ^ a) (ap (λ m. 2 ^ m) split ∙ pow-add 2 (n - a) a) ∙ mul-div_cancel (2 ^ (n - a)) (pow_pos a)

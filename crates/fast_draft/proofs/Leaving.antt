@@ -1,7 +1,7 @@
 -- The innermost ends in the last around it.
 use Rattle.std.proofs.Common.{◌≡◌, ℕ, ◌+◌, List, [], ◌∷◌, ◌++◌, length, length-take, take, drop, slice_range, refl, sym, ap, ap₂, ◌∙◌, arith}
 use Rattle.std.proofs.lemmas.List.{same_from_push, take-take, take_rest}
-use Rattle.fast_draft.specs.Segments.{GoesOn, Leaves, Segment, Segments, with_more}
+use Rattle.fast_draft.specs.Segments.{GoesOn, Leaves, Memory, Segment, Segments, with_more}
 use Rattle.fast_draft.specs.Standing.{EndsThere, IsSound, new_at, segment_at, segments, segments_at, with_map}
 use Rattle.fast_draft.specs.declared.level.Level.{Level}
 use Rattle.fast_draft.proofs.Places.{all_stand, around_more, inner_fresh, inner_more, same_front, same_segment, same_segments, same_stands, segments_more, sound_inside, sound_more, stand_less}
@@ -35,15 +35,15 @@ is_left ls w l map old new s e =
     }
 
 -- the segments around are those of the last and those around it
-last_is : (old : List ℕ) (ls : List Level) (v l : Level) (was : Segments) (ws : List Segment) (w : Segment) → segments old (ls ++ v ∷ []) l ≡ was → was.around ≡ ws ++ w ∷ []
+last_is : (old : List ℕ) (ls : List Level) (v l : Level) (m : Memory) (was : Segments) (ws : List Segment) (w : Segment) → segments old (ls ++ v ∷ []) l m ≡ was → was.around ≡ ws ++ w ∷ []
     → (segments_at old ls v.place ≡ ws) × (segment_at old v l.place ≡ w)
-last_is old ls v l was ws w view e =
+last_is old ls v l m was ws w view e =
     same_from_push (segments_at old ls v.place) ws (segment_at old v l.place) w (sym (segments_more old ls v l.place) ∙ ap (λ s. s.around) view ∙ e)
 
-pub leaves : (ls : List Level) (v l : Level) (old new : List ℕ) (was : Segments) → segments old (ls ++ v ∷ []) l ≡ was → IsSound old (ls ++ v ∷ []) l → EndsThere l old new → Leaves was (segments new ls v)
-leaves ls v l old new was view s t = λ ws w e.
+pub leaves : (ls : List Level) (v l : Level) (old new : List ℕ) (m : Memory) (was : Segments) → segments old (ls ++ v ∷ []) l m ≡ was → IsSound old (ls ++ v ∷ []) l → EndsThere l old new → Leaves was (segments new ls v m)
+leaves ls v l old new m was view s t = λ ws w e.
     let left = is_left ls v l t.map old new s t.out in
-    let last = last_is old ls v l was ws w view e in
+    let last = last_is old ls v l m was ws w view e in
     let inner : segment_at old l (length old) ≡ was.inner = ap (λ x. x.inner) view in (
       left.around ∙ last.0,
       record {
@@ -65,13 +65,13 @@ has_last : (l : Level) (ls : List Level) → HasLast (l ∷ ls)
 has_last l [] = record { before = []; last = l; is = refl }
 has_last l (k ∷ ls) = let h = has_last k ls in record { before = l ∷ h.before; last = h.last; is = ap (λ xs. l ∷ xs) h.is }
 
-pub some_last : (ls : List Level) (old : List ℕ) (l : Level) (was : Segments) → segments old ls l ≡ was → (was.around ≡ [] → ⊥) → HasLast ls
-some_last [] old l was view some = absurd (some (sym (ap (λ s. s.around) view)))
-some_last (k ∷ ls) old l was view some = has_last k ls
+pub some_last : (ls : List Level) (old : List ℕ) (l : Level) (m : Memory) (was : Segments) → segments old ls l m ≡ was → (was.around ≡ [] → ⊥) → HasLast ls
+some_last [] old l m was view some = absurd (some (sym (ap (λ s. s.around) view)))
+some_last (k ∷ ls) old l m was view some = has_last k ls
 
-pub none_around : (ls : List Level) (old : List ℕ) (l : Level) (was : Segments) → segments old ls l ≡ was → was.around ≡ [] → ls ≡ []
-none_around [] old l was view none = refl
-none_around (k ∷ ls) old l was view none = absurd (cons_some (ap (λ s. s.around) view ∙ none))
+pub none_around : (ls : List Level) (old : List ℕ) (l : Level) (m : Memory) (was : Segments) → segments old ls l m ≡ was → was.around ≡ [] → ls ≡ []
+none_around [] old l m was view none = refl
+none_around (k ∷ ls) old l m was view none = absurd (cons_some (ap (λ s. s.around) view ∙ none))
   where
     cons_some : {x : Segment} {xs : List Segment} → x ∷ xs ≡ [] → ⊥
     cons_some e = absurd cc
@@ -81,13 +81,13 @@ sound_ended ls l old new h s t =
     let left = is_left h.before h.last l t.map old new (rw (← h.is) s) t.out in
     rw h.is (sound_inside new h.before h.last left.sound)
 
-pub goes_on : (ls : List Level) (l : Level) (old new map : List ℕ) (was : Segments) → HasLast ls → segments old ls l ≡ was → IsSound old ls l → EndsThere l old new
-    → GoesOn map was (segments (new ++ map) ls (new_at (length new) (length map)))
-goes_on ls l old new map was h view s t = λ ws w e.
+pub goes_on : (ls : List Level) (l : Level) (old new map : List ℕ) (m : Memory) (was : Segments) → HasLast ls → segments old ls l m ≡ was → IsSound old ls l → EndsThere l old new
+    → GoesOn map was (segments (new ++ map) ls (new_at (length new) (length map)) m)
+goes_on ls l old new map m was h view s t = λ ws w e.
     let s : IsSound old (h.before ++ h.last ∷ []) l = rw (← h.is) s in
-    let view : segments old (h.before ++ h.last ∷ []) l ≡ was = rw (← h.is) view in
+    let view : segments old (h.before ++ h.last ∷ []) l m ≡ was = rw (← h.is) view in
     let left = is_left h.before h.last l t.map old new s t.out in
-    let gone = leaves h.before h.last l old new was view s t ws w e in
+    let gone = leaves h.before h.last l old new m was view s t ws w e in
     let v = segment_at new h.last (length new) in
     let around : segments_at (new ++ map) ls (length new) ≡ ws ++ v ∷ [] =
     around_more new map ls (new_at (length new) 0) (rw h.is (sound_inside new h.before h.last left.sound))

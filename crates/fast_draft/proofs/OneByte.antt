@@ -1,7 +1,7 @@
 -- A bit of a map's first byte is cleared; a map of one byte ends.
 use Rattle.std.proofs.Common.{◌≡◌, ℕ, zero, suc, ◌+◌, ◌-◌, ◌*◌, ◌/◌, ◌%◌, ◌^◌, ◌<◌, ◌≤◌, ◌⊎◌, false, nat_eq, bit_and, List, [], ◌∷◌, ◌++◌, length, length-drop, length-take, get_or, get_or-take, get_or-drop, set, take, drop, slice_range, refl, sym, ap, ap₂, ◌∙◌, arith, inl, inr}
 use Rattle.std.proofs.lemmas.Bool.{cases_eq, cases_lt}
-use Rattle.std.proofs.lemmas.Nat.{and_comm, and_le_l, and-not}
+use Rattle.std.proofs.lemmas.Nat.{and_comm, and_le_l, and-not, pow_pos}
 use Rattle.std.proofs.lemmas.Nat.Bits.{and_pow, bit_at_and, bit_at_mask_below, bit_at_mask_inside}
 use Rattle.std.proofs.lemmas.List.{drop-drop, drop-set, get_or_default, get_or_past, set-get_or, take-append-drop, take-set}
 use Rattle.fast_wire.specs.Entity.{IsEntity, groups}
@@ -14,6 +14,7 @@ use Rattle.fast_draft.specs.Mending.{Clears}
 use Rattle.fast_draft.specs.Standing.{ClearedNext, EndsThere, Stands, map_at, past_bit, with_map}
 use Rattle.fast_draft.specs.declared.level.Level.{Level}
 use Rattle.fast_draft.proofs.Clearing.{cleared, stays_clear}
+use Rattle.fast_draft.proofs.Cutting.{weight_is}
 use Rattle.fast_draft.proofs.Passing.{asked_is, map_length}
 use Rattle.fast_draft.proofs.Staying.{item_at}
 
@@ -62,16 +63,6 @@ put l out v inside one =
     rw one (sym (take-append-drop l.place (set out l.place v)) ∙ ap₂ (λ xs ys. xs ++ ys) (take-set out l.place v) (drop-set out l.place v inside))
 
 -- ---- its next bit is cleared
-
-weight_is : (a : ℕ) → a < 7 → 64 / 2 ^ a ≡ 2 ^ (6 - a)
-weight_is zero h = refl
-weight_is (suc zero) h = refl
-weight_is (suc (suc zero)) h = refl
-weight_is (suc (suc (suc zero))) h = refl
-weight_is (suc (suc (suc (suc zero)))) h = refl
-weight_is (suc (suc (suc (suc (suc zero))))) h = refl
-weight_is (suc (suc (suc (suc (suc (suc zero)))))) h = refl
-weight_is (suc (suc (suc (suc (suc (suc (suc a))))))) h = absurd (omega arith)
 
 weight_low : (k : ℕ) → k < 7 → 2 ^ k < 256
 weight_low zero h = omega arith
@@ -139,7 +130,7 @@ clears_first l out byte here s less some =
     let low : byte < 256 = rw (← first) (first_low (map_at out l) (by_whole s.whole)) in
     let long = map_length out l (length out) s (omega arith) in
     let v = bit_and byte (255 - 64 / 2 ^ l.asked) in
-    let sum : v + byte / 2 ^ (6 - l.asked) % 2 * 2 ^ (6 - l.asked) ≡ byte = rw (weight_is l.asked less) (less_bit byte (6 - l.asked) low (omega arith)) in record {
+    let sum : v + byte / 2 ^ (6 - l.asked) % 2 * 2 ^ (6 - l.asked) ≡ byte = rw (weight_is 6 l.asked (omega arith)) (less_bit byte (6 - l.asked) low (omega arith)) in record {
       some = λ some'. (
         record { map = set (map_at out l) 0 v; clears = clears_bit (map_at out l) l.asked v (omega arith) less (rw first sum); out = put_first l out v (omega arith) some },
         refl,
@@ -153,16 +144,19 @@ clears_first l out byte here s less some =
 
 -- ---- it ends
 
+pub ones : (a : ℕ) → a ≤ 7 → 127 / 2 ^ a ≡ 2 ^ (7 - a) - 1
+ones zero h = refl
+ones (suc zero) h = refl
+ones (suc (suc zero)) h = refl
+ones (suc (suc (suc zero))) h = refl
+ones (suc (suc (suc (suc zero)))) h = refl
+ones (suc (suc (suc (suc (suc zero))))) h = refl
+ones (suc (suc (suc (suc (suc (suc zero)))))) h = refl
+ones (suc (suc (suc (suc (suc (suc (suc zero))))))) h = refl
+ones (suc (suc (suc (suc (suc (suc (suc (suc a)))))))) h = absurd (omega arith)
+
 high_is : (a : ℕ) → a ≤ 7 → 255 - 127 / 2 ^ a ≡ 2 ^ 8 - 2 ^ (7 - a)
-high_is zero h = refl
-high_is (suc zero) h = refl
-high_is (suc (suc zero)) h = refl
-high_is (suc (suc (suc zero))) h = refl
-high_is (suc (suc (suc (suc zero)))) h = refl
-high_is (suc (suc (suc (suc (suc zero))))) h = refl
-high_is (suc (suc (suc (suc (suc (suc zero)))))) h = refl
-high_is (suc (suc (suc (suc (suc (suc (suc zero))))))) h = refl
-high_is (suc (suc (suc (suc (suc (suc (suc (suc a)))))))) h = absurd (omega arith)
+high_is a h = omega (arith, ones a h, pow_pos (7 - a))
 
 -- a byte without its lowest bits
 abbrev kept : ℕ → ℕ → ℕ

@@ -1,10 +1,10 @@
 -- What stands at its place in an output stays as bytes are written behind it.
-use Rattle.std.proofs.Common.{◌≡◌, ℕ, ◌+◌, ◌-◌, ◌≤◌, List, [], ◌∷◌, ◌++◌, append-nil, length, length-append, take, drop, slice_range, refl, sym, ap, ap₂, ◌∙◌, arith, inl, inr, ◌⊎◌}
+use Rattle.std.proofs.Common.{◌≡◌, ℕ, suc, ◌+◌, ◌-◌, ◌≤◌, List, [], ◌∷◌, ◌++◌, append-nil, length, length-append, take, drop, slice_range, refl, sym, ap, ap₂, ◌∙◌, arith, inl, inr, ◌⊎◌}
 use Rattle.std.proofs.lemmas.List.{take-take, take-append-le, drop-append-le, take_rest, take_at, drop_at, drop_all}
 use Rattle.std.proofs.lemmas.Slice.{between_is}
 use Rattle.fast_wire.specs.Entity.{IsEntity, groups}
 use Rattle.fast_wire.specs.PresenceMap.{bits_of}
-use Rattle.fast_draft.specs.Segments.{IsOwnMap, Segment, fresh, with_more}
+use Rattle.fast_draft.specs.Segments.{IsMapOrNone, Segment, fresh, with_more}
 use Rattle.fast_draft.specs.Standing.{AllStand, IsSound, Stands, first_place, map_at, new_at, segment_at, segments_at}
 use Rattle.fast_draft.specs.declared.level.Level.{Level}
 
@@ -59,6 +59,10 @@ pub segments_more : (out : List ℕ) (ls : List Level) (l : Level) (end : ℕ) �
 segments_more out [] l end = refl
 segments_more out (k ∷ ls) l end = ap₂ (λ p xs. segment_at out k p ∷ xs) (first_of_more ls l end) (segments_more out ls l end)
 
+pub count_segments : (out : List ℕ) (ls : List Level) (end : ℕ) → length (segments_at out ls end) ≡ length ls
+count_segments out [] end = refl
+count_segments out (l ∷ ls) end = ap (λ n. suc n) (count_segments out ls end)
+
 pub stand_more : (out : List ℕ) (ls : List Level) (l : Level) (end : ℕ) → AllStand out ls l.place → Stands out l end → AllStand out (ls ++ l ∷ []) end
 stand_more out [] l end all s = (s, tt)
 stand_more out (k ∷ ls) l end all s = (rw (first_of_more ls l end) all.0, stand_more out ls l end all.1 s)
@@ -112,17 +116,17 @@ map_there out map =
     let e : length out + length map - length out ≡ length map = omega arith in
     rw (e, drop_at out map (length out) refl) (take_whole map)
 
-pub sound_fresh : (out map : List ℕ) (ls : List Level) → IsSound out ls (new_at (length out) 0) → IsOwnMap map → IsSound (out ++ map) ls (new_at (length out) (length map))
+pub sound_fresh : (out map : List ℕ) (ls : List Level) → IsSound out ls (new_at (length out) 0) → IsMapOrNone map → IsSound (out ++ map) ls (new_at (length out) (length map))
 sound_fresh out map ls s own = record {
   around = all_stand out (out ++ map) ls (length out) (longer_front out map (length out) (omega arith)) s.around;
   inner = record { within = omega (arith, length-append out map); whole = rw (map_there out map) (by_own own); few = few own; asked = omega arith };
 }
   where
-    by_own : IsOwnMap map → (length map ≡ 0) ⊎ IsEntity map
+    by_own : IsMapOrNone map → (length map ≡ 0) ⊎ IsEntity map
     by_own (inl none) = inl (ap length none)
     by_own (inr (bits, m)) = inr m.entity
 
-    few : IsOwnMap map → length map ≤ 256
+    few : IsMapOrNone map → length map ≤ 256
     few (inl none) = omega (arith, ap length none)
     few (inr (bits, m)) = m.short
 

@@ -3,44 +3,26 @@ use Rattle.std.proofs.Common.{◌≡◌, ℕ, zero, suc, ◌+◌, ◌-◌, ◌/�
 use Rattle.std.proofs.lemmas.Bool.{cases_eq, cases_lt}
 use Rattle.std.proofs.lemmas.List.{get_or_default}
 use Rattle.std.proofs.lemmas.Nat.{and_comm, and_mask, and-not}
+use Rattle.std.proofs.Math.Nat.{div-le_self}
 use Rattle.fast_wire.specs.Entity.{IsEntity, groups}
 use Rattle.fast_draft.specs.Mending.{CutsMap}
 use Rattle.fast_draft.specs.Standing.{CutThere, EndsThere, Stands, level_of, map_at}
 use Rattle.fast_draft.proofs.Cutting.{IsCut, are_groups, cut_shortest}
 use Rattle.fast_draft.proofs.Ending.{ends_cut}
-use Rattle.fast_draft.proofs.OneByte.{put_first}
+use Rattle.fast_draft.proofs.OneByte.{ones, put_first}
 use Rattle.fast_draft.proofs.Passing.{map_length}
 use Rattle.fast_draft.proofs.Staying.{item_at}
 
 -- ---- the first byte
 
-ones : (a : ℕ) → a ≤ 7 → 127 / 2 ^ a ≡ 2 ^ (7 - a) - 1
-ones zero h = refl
-ones (suc zero) h = refl
-ones (suc (suc zero)) h = refl
-ones (suc (suc (suc zero))) h = refl
-ones (suc (suc (suc (suc zero)))) h = refl
-ones (suc (suc (suc (suc (suc zero))))) h = refl
-ones (suc (suc (suc (suc (suc (suc zero)))))) h = refl
-ones (suc (suc (suc (suc (suc (suc (suc zero))))))) h = refl
-ones (suc (suc (suc (suc (suc (suc (suc (suc a)))))))) h = absurd (omega arith)
-
-ones_low : (a : ℕ) → a ≤ 7 → 127 / 2 ^ a < 256
-ones_low zero h = omega arith
-ones_low (suc zero) h = omega arith
-ones_low (suc (suc zero)) h = omega arith
-ones_low (suc (suc (suc zero))) h = omega arith
-ones_low (suc (suc (suc (suc zero)))) h = omega arith
-ones_low (suc (suc (suc (suc (suc zero))))) h = omega arith
-ones_low (suc (suc (suc (suc (suc (suc zero)))))) h = omega arith
-ones_low (suc (suc (suc (suc (suc (suc (suc zero))))))) h = omega arith
-ones_low (suc (suc (suc (suc (suc (suc (suc (suc a)))))))) h = absurd (omega arith)
+ones_low : (a : ℕ) → 127 / 2 ^ a < 256
+ones_low a = omega (arith, div-le_self 127 (2 ^ a))
 
 -- a byte without its lowest bits
 high_bits : (b a : ℕ) → a ≤ 7 → b < 256 → bit_and b (255 - 127 / 2 ^ a) + b % 2 ^ (7 - a) ≡ b
 high_bits b a h low =
     let e : bit_and (127 / 2 ^ a) b ≡ b % 2 ^ (7 - a) = and_comm (127 / 2 ^ a) b ∙ ap (λ x. bit_and b x) (ones a h) ∙ and_mask b (7 - a) in
-    let f = and-not 8 (127 / 2 ^ a) b (ones_low a h) low in
+    let f = and-not 8 (127 / 2 ^ a) b (ones_low a) low in
     omega (arith, and_comm b (255 - 127 / 2 ^ a), e, f)
 
 -- the stop bit is none of them

@@ -1,5 +1,5 @@
 -- The segments of a message that is open, and what each call does with them.
-use Rattle.std.specs.Prelude.{◌≡◌, ◌⊎◌, ◌-◌, ◌*◌, ℕ, Bool, List, [], ◌∷◌, ◌++◌, length, take, drop}
+use Rattle.std.specs.Prelude.{◌≡◌, ◌≤◌, ◌<◌, ◌⊎◌, ◌+◌, ◌-◌, ◌*◌, ℕ, Bool, List, [], ◌∷◌, ◌++◌, length, take, drop}
 use Rattle.fast_wire.specs.Entity.{groups}
 use Rattle.fast_wire.specs.PresenceMap.{IsMap, IsWholeMap, bits_of, later_bits}
 use Rattle.fast_wire.specs.Writing.{IsShortest}
@@ -12,14 +12,44 @@ pub record Segment : Type 0 where
   pub left : List Bool
   pub bytes : List ℕ
 
--- the segments around the innermost, the message's own first, and the innermost
+-- How many bytes a draft holds with no growth, how many of those are in use, and how many segments around the innermost it holds
+-- with no growth.
+pub record Memory : Type 0 where
+  pub bytes : ℕ
+  pub used : ℕ
+  pub levels : ℕ
+
+-- the segments around the innermost, the message's own first, the innermost, and the memory that they stand in
 pub record Segments : Type 0 where
   pub around : List Segment
   pub inner : Segment
+  pub memory : Memory
+
+-- ---- memory
+
+-- so many bytes more do not fit
+abbrev pub NoRoomFor : ℕ → Memory → Type 0
+NoRoomFor count m = m.bytes < m.used + count
+
+-- one more segment around the innermost does not fit
+abbrev pub NoLevelFor : Segments → Type 0
+NoLevelFor s = s.memory.levels ≤ length s.around
+
+-- at most so many bytes more are in use, and the memory holds no less
+pub record Takes (count : ℕ) (old new : Memory) : Type 0 where
+  pub bytes : old.bytes ≤ new.bytes
+  pub used : new.used ≤ old.used + count
+  pub levels : old.levels ≤ new.levels
+
+-- nothing is in use
+abbrev pub emptied : Memory → Memory
+emptied m = record { bytes = m.bytes; used = 0; levels = m.levels }
+
+-- ---- segments
 
 -- the bytes are no map, or a whole one
-abbrev pub IsOwnMap : List ℕ → Type 0
-IsOwnMap map = (map ≡ []) ⊎ ((bits : List Bool) × IsWholeMap map bits)
+abbrev pub IsMapOrNone : List ℕ → Type 0
+IsMapOrNone map = (map ≡ []) ⊎ ((bits : List Bool) × IsWholeMap map bits)
 
 -- a segment of which nothing was read but its map
 abbrev pub fresh : List ℕ → Segment
@@ -66,3 +96,9 @@ pub record EndsBehind (s : Segment) (old new : List ℕ) : Type 0 where
   pub map : List ℕ
   pub ends : Ends s map
   pub out : new ≡ old ++ (map ++ s.bytes)
+
+-- what a segment ends with does not fit behind so many bytes of so many that fit
+pub record EndsBeyond (s : Segment) (fit used : ℕ) : Type 0 where
+  pub map : List ℕ
+  pub ends : Ends s map
+  pub beyond : fit < used + length (map ++ s.bytes)

@@ -3,7 +3,7 @@ use Rattle.std.specs.Prelude.{◌≡◌, ◌≤◌, ◌<◌, ◌⊎◌, ◌+◌,
 use Rattle.fast_wire.specs.Entity.{IsEntity, groups}
 use Rattle.fast_wire.specs.PresenceMap.{bits_of}
 use Rattle.fast_draft.specs.Mending.{Clears, CutsMap}
-use Rattle.fast_draft.specs.Segments.{Ends, Segment, Segments}
+use Rattle.fast_draft.specs.Segments.{Ends, Memory, Segment, Segments}
 use Rattle.fast_draft.specs.declared.level.Level.{Level}
 
 -- of a map none of whose bits was passed
@@ -53,11 +53,15 @@ pub record IsSound (out : List ℕ) (levels : List Level) (last : Level) : Type 
   pub around : AllStand out levels last.place
   pub inner : Stands out last (length out)
 
-abbrev pub segments : List ℕ → List Level → Level → Segments
-segments out around inner = record {
+abbrev pub segments : List ℕ → List Level → Level → Memory → Segments
+segments out around inner memory = record {
   around = segments_at out around inner.place;
   inner = segment_at out inner (length out);
+  memory = memory;
 }
+
+abbrev pub memory_of : ℕ → ℕ → ℕ → Memory
+memory_of bytes used levels = record { bytes = bytes; used = used; levels = levels }
 
 -- another map stands in the place of one
 abbrev pub with_map : Level → List ℕ → List ℕ → List ℕ

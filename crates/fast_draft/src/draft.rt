@@ -1,16 +1,16 @@
 //! The message that is open.
 
-ghost use Rattle.std.specs.Prelude.{◌≡◌, ◌≢◌, ◌≤◌, ◌⊎◌, ◌∷◌, ◌++◌, [], Bool, List, length, slice_range, OnOk, OnErr};
+ghost use Rattle.std.specs.Prelude.{◌≡◌, ◌≢◌, ◌≤◌, ◌⊎◌, ◌-◌, ◌∷◌, ◌++◌, [], Bool, List, length, slice_range, if◌then◌else◌, is_ok, OnOk, OnErr, vec_len, vec_capacity};
 ghost use Rattle.fast_wire.specs.Entity.{IsEntity};
 ghost use Rattle.fast_wire.specs.PresenceMap.{IsWholeMap};
-ghost use Rattle.fast_draft.specs.Segments.{ClearsNext, EndsBehind, GoesOn, IsOwnMap, Leaves, ahead, fresh, with_more};
+ghost use Rattle.fast_draft.specs.Segments.{ClearsNext, EndsBehind, EndsBeyond, GoesOn, IsMapOrNone, Leaves, NoLevelFor, NoRoomFor, Takes, ahead, emptied, fresh, with_more};
 
 use crate::level::{Level, append_bytes, append_range, clear_next, end, start};
 use std::alloc::{AllocError, Global};
 use std::marker::Model;
 
-/// The segments of a message that is open, each map at its place and behind it what was written. Where memory is refused, a
-/// call may have done a part of its work, if it says nothing else.
+/// The segments of a message that is open, each map at its place and behind it what was written. Memory is refused only for
+/// what does not fit. Where it is, a call may have done a part of its work, if it says nothing else.
 #[derive(Drop)]
 pub struct Draft {
     out: Vec<u8>,
@@ -19,12 +19,13 @@ pub struct Draft {
 }
 
 impl Model for Draft {
+    ghost use Rattle.std.specs.Prelude.{vec_len, vec_capacity};
     ghost use Rattle.fast_draft.specs.Segments.{Segments};
-    ghost use Rattle.fast_draft.specs.Standing.{IsSound, segments};
+    ghost use Rattle.fast_draft.specs.Standing.{IsSound, memory_of, segments};
 
     ghost Value = { Segments };
 
-    ghost view = { λ d. segments d.out.items d.around.items d.inner };
+    ghost view = { λ d. segments d.out.items d.around.items d.inner (memory_of (vec_capacity d.out) (vec_len d.out) (vec_capacity d.around)) };
 
     ghost invariant = { λ d. IsSound d.out.items d.around.items d.inner };
 }
@@ -54,12 +55,14 @@ impl Draft {
     ///
     /// # Errors
     ///
-    /// The one growth was refused.
+    /// The one growth was refused: the map has more bytes than fit.
     #[inline(always)]
     pub fn begin(&mut self, map: &[u8]) -> Result<(), AllocError>
         requires { (bits : List Bool) × IsWholeMap map.now bits }
         ensures around { OnOk result (self.new.around ≡ []) }
         ensures inner { OnOk result (self.new.inner ≡ fresh map.now) }
+        ensures room { OnErr result (NoRoomFor (length map.now) (emptied self.old.memory)) }
+        ensures memory { Takes (length map.now) (emptied self.old.memory) self.new.memory }
     {
         self.out.clear();
         self.around.clear();
@@ -71,12 +74,14 @@ impl Draft {
     ///
     /// # Errors
     ///
-    /// A growth was refused.
+    /// A growth was refused: for the segment around, or for the map.
     #[inline(always)]
     pub fn enter(&mut self, map: &[u8]) -> Result<(), AllocError>
-        requires { IsOwnMap map.now }
+        requires { IsMapOrNone map.now }
         ensures around { OnOk result (self.new.around ≡ self.old.around ++ self.old.inner ∷ []) }
         ensures inner { OnOk result (self.new.inner ≡ fresh map.now) }
+        ensures room { OnErr result (NoLevelFor self.old ⊎ NoRoomFor (length map.now) self.old.memory) }
+        ensures memory { Takes (length map.now) self.old.memory self.new.memory }
     {
         self.around.push(self.inner)?;
         start(&mut self.out, &mut self.inner, map)?;
@@ -87,7 +92,8 @@ impl Draft {
     #[inline(always)]
     pub fn leave(&mut self)
         requires { self.now.around ≢ [] }
-        ensures { Leaves self.old self.new }
+        ensures left { Leaves self.old self.new }
+        ensures memory { Takes 0 self.old.memory self.new.memory }
     {
         end(&mut self.out, self.inner);
         match self.around.pop() {
@@ -100,28 +106,34 @@ impl Draft {
     ///
     /// # Errors
     ///
-    /// The one growth was refused.
+    /// The one growth was refused, for the map.
     #[inline(always)]
     pub fn go_on(&mut self, map: &[u8]) -> Result<(), AllocError>
         requires some { self.now.around ≢ [] }
-        requires map { IsOwnMap map.now }
-        ensures { OnOk result (GoesOn map.now self.old self.new) }
+        requires map { IsMapOrNone map.now }
+        ensures gone { OnOk result (GoesOn map.now self.old self.new) }
+        ensures room { OnErr result (NoRoomFor (length map.now) self.old.memory) }
+        ensures memory { Takes (length map.now) self.old.memory self.new.memory }
     {
-        end(&mut self.out, self.inner);
-        start(&mut self.out, &mut self.inner, map)?;
+        let out = &mut self.out;
+        end(out, self.inner);
+        start(out, &mut self.inner, map)?;
         Ok(())
     }
 
-    /// Ends the message's own segment, and appends it to other bytes. What the draft has then is not told.
+    /// Ends the message's own segment, and appends it to other bytes. What the draft has then is not told, but its memory.
     ///
     /// # Errors
     ///
-    /// The one growth was refused, and nothing was appended.
+    /// The one growth was refused, of the other bytes, and nothing was appended.
     #[inline(always)]
     pub fn finish(&mut self, out: &mut Vec<u8>) -> Result<(), AllocError>
         requires { self.now.around ≡ [] }
         ensures finished { OnOk result (EndsBehind self.old.inner out.old.items out.new.items) }
         ensures unchanged { OnErr result (out.new.items ≡ out.old.items) }
+        ensures room { OnErr result (EndsBeyond self.old.inner (vec_capacity out.old) (vec_len out.old)) }
+        ensures capacity { vec_capacity out.old ≤ vec_capacity out.new }
+        ensures memory { Takes 0 self.old.memory self.new.memory }
     {
         end(&mut self.out, self.inner);
         let place = self.inner.place;
@@ -134,6 +146,7 @@ impl Draft {
     pub fn pass(&mut self, count: usize)
         ensures around { self.new.around ≡ self.old.around }
         ensures inner { self.new.inner ≡ ahead count self.old.inner }
+        ensures memory { self.new.memory ≡ self.old.memory }
     {
         let left = 7 * self.inner.size - self.inner.asked;
         self.inner.asked += count.min(left);
@@ -144,6 +157,7 @@ impl Draft {
     pub fn clear(&mut self)
         ensures around { self.new.around ≡ self.old.around }
         ensures inner { ClearsNext self.old.inner self.new.inner }
+        ensures memory { self.new.memory ≡ self.old.memory }
     {
         clear_next(&mut self.out, &mut self.inner);
     }
@@ -158,6 +172,8 @@ impl Draft {
         ensures around { self.new.around ≡ self.old.around }
         ensures inner { OnOk result (self.new.inner ≡ with_more self.old.inner (byte ∷ [])) }
         ensures unchanged { OnErr result (self.new.inner ≡ self.old.inner) }
+        ensures room { OnErr result (NoRoomFor 1 self.old.memory) }
+        ensures memory { Takes (if is_ok result then 1 else 0) self.old.memory self.new.memory }
     {
         self.out.push(byte)?;
         Ok(())
@@ -175,6 +191,8 @@ impl Draft {
         ensures around { self.new.around ≡ self.old.around }
         ensures inner { OnOk result (self.new.inner ≡ with_more self.old.inner (slice_range bytes.now from to)) }
         ensures unchanged { OnErr result (self.new.inner ≡ self.old.inner) }
+        ensures room { OnErr result (NoRoomFor (to - from) self.old.memory) }
+        ensures memory { Takes (if is_ok result then to - from else 0) self.old.memory self.new.memory }
     {
         append_range(&mut self.out, bytes, from, to)?;
         Ok(())
@@ -191,6 +209,8 @@ impl Draft {
         ensures around { self.new.around ≡ self.old.around }
         ensures inner { OnOk result (self.new.inner ≡ with_more self.old.inner bytes.now) }
         ensures unchanged { OnErr result (self.new.inner ≡ self.old.inner) }
+        ensures room { OnErr result (NoRoomFor (length bytes.now) self.old.memory) }
+        ensures memory { Takes (if is_ok result then length bytes.now else 0) self.old.memory self.new.memory }
     {
         append_bytes(&mut self.out, bytes)?;
         Ok(())

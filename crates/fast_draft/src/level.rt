@@ -1,6 +1,6 @@
 //! A segment in the output: where its map stands, and how it ends.
 
-ghost use Rattle.std.specs.Prelude.{◌≡◌, ◌≤◌, ◌<◌, ◌*◌, ◌+◌, ◌-◌, ◌/◌, ◌%◌, ◌^◌, ◌++◌, length, take, drop, slice_index_or, slice_range, true, OnOk, OnErr};
+ghost use Rattle.std.specs.Prelude.{◌≡◌, ◌≤◌, ◌<◌, ◌*◌, ◌+◌, ◌-◌, ◌/◌, ◌%◌, ◌^◌, ◌++◌, length, take, drop, slice_index_or, slice_range, true, OnOk, OnErr, vec_len, vec_capacity};
 ghost use Rattle.fast_draft.specs.Standing.{ClearedNext, ClearedThere, CutThere, EndsThere, Stands, level_of, new_at};
 
 use crate::map::{STOP, clear_bit, cut_map};
@@ -38,6 +38,8 @@ pub(crate) fn start(out: &mut Vec<u8>, inner: &mut Level, map: &[u8]) -> Result<
     ensures started { OnOk result (inner.new ≡ new_at (length out.old.items) (length map.now)) }
     ensures unchanged { OnErr result (out.new.items ≡ out.old.items) }
     ensures bare { OnErr result (inner.new ≡ new_at (length out.old.items) 0) }
+    ensures room { OnErr result (vec_capacity out.old < vec_len out.old + length map.now) }
+    ensures capacity { vec_capacity out.old ≤ vec_capacity out.new }
 {
     *inner = Level::at(out.len());
     append_map(out, map)?;
@@ -49,7 +51,9 @@ pub(crate) fn start(out: &mut Vec<u8>, inner: &mut Level, map: &[u8]) -> Result<
 #[inline(always)]
 pub(crate) fn clear_next(out: &mut Vec<u8>, level: &mut Level)
     requires { Stands out.now.items level.now (length out.now.items) }
-    ensures { ClearedNext level.old level.new out.old.items out.new.items }
+    ensures cleared { ClearedNext level.old level.new out.old.items out.new.items }
+    ensures len { vec_len out.new ≡ vec_len out.old }
+    ensures capacity { vec_capacity out.new ≡ vec_capacity out.old }
 {
     // nearly all are bits of the first byte, of maps of any size
     if level.asked < 7 && level.size > 0 {
@@ -64,7 +68,9 @@ pub(crate) fn clear_next(out: &mut Vec<u8>, level: &mut Level)
 #[inline(never)]
 fn clear_far(out: &mut Vec<u8>, level: &mut Level)
     requires { Stands out.now.items level.now (length out.now.items) }
-    ensures { ClearedNext level.old level.new out.old.items out.new.items }
+    ensures cleared { ClearedNext level.old level.new out.old.items out.new.items }
+    ensures len { vec_len out.new ≡ vec_len out.old }
+    ensures capacity { vec_capacity out.new ≡ vec_capacity out.old }
 {
     if level.asked < 7 * level.size {
         clear_there(out, *level);
@@ -76,7 +82,9 @@ fn clear_far(out: &mut Vec<u8>, level: &mut Level)
 fn clear_there(out: &mut Vec<u8>, level: Level)
     requires within { level.place + level.size ≤ length out.now.items }
     requires left { level.asked < 7 * level.size }
-    ensures { ClearedThere level out.old.items out.new.items }
+    ensures cleared { ClearedThere level out.old.items out.new.items }
+    ensures len { vec_len out.new ≡ vec_len out.old }
+    ensures capacity { vec_capacity out.new ≡ vec_capacity out.old }
 {
     let end = level.place + level.size;
     clear_bit(&mut out.as_mut_slice()[level.place..end], level.asked);
@@ -86,7 +94,9 @@ fn clear_there(out: &mut Vec<u8>, level: Level)
 #[inline(always)]
 pub(crate) fn end(out: &mut Vec<u8>, level: Level)
     requires { Stands out.now.items level (length out.now.items) }
-    ensures { EndsThere level out.old.items out.new.items }
+    ensures ends { EndsThere level out.old.items out.new.items }
+    ensures len { vec_len out.new ≤ vec_len out.old }
+    ensures capacity { vec_capacity out.new ≡ vec_capacity out.old }
 {
     // nearly all maps are one byte, which is the shortest without the bits that were not asked for
     if level.size == 1 {
@@ -105,7 +115,9 @@ pub(crate) fn end(out: &mut Vec<u8>, level: Level)
 fn cut(out: &mut Vec<u8>, place: usize, size: usize, asked: usize)
     requires stands { Stands out.now.items (level_of place size asked) (length out.now.items) }
     requires some { 0 < size }
-    ensures { EndsThere (level_of place size asked) out.old.items out.new.items }
+    ensures ends { EndsThere (level_of place size asked) out.old.items out.new.items }
+    ensures len { vec_len out.new ≤ vec_len out.old }
+    ensures capacity { vec_capacity out.new ≡ vec_capacity out.old }
 {
     // nearly all are the shortest as they stand
     if is_shortest(out.as_slice(), Level { place, size, asked }) {
@@ -124,7 +136,9 @@ fn cut(out: &mut Vec<u8>, place: usize, size: usize, asked: usize)
 fn cut_second(out: &mut Vec<u8>, place: usize, asked: usize)
     requires stands { Stands out.now.items (level_of place 2 asked) (length out.now.items) }
     requires none { slice_index_or out.now.items (place + 1) 0 % 128 / 2 ^ (14 - asked) ≡ 0 }
-    ensures { EndsThere (level_of place 2 asked) out.old.items out.new.items }
+    ensures ends { EndsThere (level_of place 2 asked) out.old.items out.new.items }
+    ensures len { vec_len out.new ≤ vec_len out.old }
+    ensures capacity { vec_capacity out.new ≡ vec_capacity out.old }
 {
     out[place] = (out[place] + STOP) & !(127 >> asked.min(7));
     remove(out, place + 1, place + 2);
@@ -135,7 +149,9 @@ fn cut_second(out: &mut Vec<u8>, place: usize, asked: usize)
 fn cut_groups(out: &mut Vec<u8>, place: usize, size: usize, asked: usize)
     requires stands { Stands out.now.items (level_of place size asked) (length out.now.items) }
     requires some { 0 < size }
-    ensures { EndsThere (level_of place size asked) out.old.items out.new.items }
+    ensures ends { EndsThere (level_of place size asked) out.old.items out.new.items }
+    ensures len { vec_len out.new ≤ vec_len out.old }
+    ensures capacity { vec_capacity out.new ≡ vec_capacity out.old }
 {
     let used = cut_there(out, Level { place, size, asked });
     remove(out, place + used, place + size);
@@ -157,7 +173,9 @@ fn is_shortest(out: &[u8], level: Level) -> bool
 fn cut_there(out: &mut Vec<u8>, level: Level) -> usize
     requires stands { Stands out.now.items level (length out.now.items) }
     requires some { 0 < level.size }
-    ensures { CutThere level out.old.items out.new.items result }
+    ensures cut { CutThere level out.old.items out.new.items result }
+    ensures len { vec_len out.new ≡ vec_len out.old }
+    ensures capacity { vec_capacity out.new ≡ vec_capacity out.old }
 {
     let behind = level.place + level.size;
     cut_map(&mut out.as_mut_slice()[level.place..behind], level.asked)
@@ -168,7 +186,9 @@ fn cut_there(out: &mut Vec<u8>, level: Level) -> usize
 fn remove(out: &mut Vec<u8>, start: usize, end: usize)
     requires start { start ≤ end }
     requires end { end ≤ length out.now.items }
-    ensures { out.new.items ≡ take start out.old.items ++ drop end out.old.items }
+    ensures items { out.new.items ≡ take start out.old.items ++ drop end out.old.items }
+    ensures len { vec_len out.new ≤ vec_len out.old }
+    ensures capacity { vec_capacity out.new ≡ vec_capacity out.old }
 {
     if start == end {
         return;
@@ -183,6 +203,8 @@ fn remove(out: &mut Vec<u8>, start: usize, end: usize)
 fn append_map(out: &mut Vec<u8>, map: &[u8]) -> Result<(), AllocError>
     ensures ok { OnOk result (out.new.items ≡ out.old.items ++ map.now) }
     ensures err { OnErr result (out.new.items ≡ out.old.items) }
+    ensures room { OnErr result (vec_capacity out.old < vec_len out.old + length map.now) }
+    ensures capacity { vec_capacity out.old ≤ vec_capacity out.new }
 {
     if map.len() == 1 {
         out.push(map[0])?;
@@ -197,6 +219,8 @@ fn append_map(out: &mut Vec<u8>, map: &[u8]) -> Result<(), AllocError>
 fn append_other(out: &mut Vec<u8>, map: &[u8]) -> Result<(), AllocError>
     ensures ok { OnOk result (out.new.items ≡ out.old.items ++ map.now) }
     ensures err { OnErr result (out.new.items ≡ out.old.items) }
+    ensures room { OnErr result (vec_capacity out.old < vec_len out.old + length map.now) }
+    ensures capacity { vec_capacity out.old ≤ vec_capacity out.new }
 {
     // where there is room no call is left, and no register is saved
     if out.capacity() - out.len() < 3 {
@@ -221,8 +245,11 @@ pub(crate) fn append_range(
     requires end { to ≤ length bytes.now }
     ensures ok { OnOk result (out.new.items ≡ out.old.items ++ slice_range bytes.now from to) }
     ensures err { OnErr result (out.new.items ≡ out.old.items) }
+    ensures room { OnErr result (vec_capacity out.old < vec_len out.old + (to - from)) }
+    ensures capacity { vec_capacity out.old ≤ vec_capacity out.new }
 {
-    if to - from <= CHUNK {
+    // a whole chunk must fit, since memory may be refused only for the bytes that are wanted
+    if to - from <= CHUNK && out.capacity() - out.len() >= CHUNK {
         if let Some((chunk, _)) = bytes[from..].split_first_chunk::<CHUNK>() {
             return append_chunk(out, *chunk, to - from);
         }
@@ -233,9 +260,12 @@ pub(crate) fn append_range(
 /// Appends so many of a chunk's bytes: all are put there in one store, and those behind the wanted ones are taken away.
 #[inline(always)]
 fn append_chunk(out: &mut Vec<u8>, chunk: [u8; CHUNK], count: usize) -> Result<(), AllocError>
-    requires { count ≤ 16 }
+    requires count { count ≤ 16 }
+    requires room { vec_len out.now + 16 ≤ vec_capacity out.now }
     ensures ok { OnOk result (out.new.items ≡ out.old.items ++ take count chunk) }
     ensures err { OnErr result (out.new.items ≡ out.old.items) }
+    ensures room { OnErr result (vec_capacity out.old < vec_len out.old + count) }
+    ensures capacity { vec_capacity out.old ≤ vec_capacity out.new }
 {
     let end = out.len() + count;
     out.extend_from_slice(&chunk)?;
@@ -248,6 +278,8 @@ fn append_chunk(out: &mut Vec<u8>, chunk: [u8; CHUNK], count: usize) -> Result<(
 pub(crate) fn append_bytes(out: &mut Vec<u8>, bytes: &[u8]) -> Result<(), AllocError>
     ensures ok { OnOk result (out.new.items ≡ out.old.items ++ bytes.now) }
     ensures err { OnErr result (out.new.items ≡ out.old.items) }
+    ensures room { OnErr result (vec_capacity out.old < vec_len out.old + length bytes.now) }
+    ensures capacity { vec_capacity out.old ≤ vec_capacity out.new }
 {
     out.extend_from_slice(bytes)
 }

@@ -9,7 +9,7 @@ use Rattle.fast_wire.specs.Entity.{IsEntity}
 use Rattle.fast_walk.specs.Awaited.{AwaitsBehind, AwaitsBit, AwaitsInside, AwaitsOutside, IsMapped, IsOwnMap, StillAwaits}
 use Rattle.std.specs.Result.{OnOk}
 use Rattle.std.proofs.Common.{Result, Ok, Err}
-use Rattle.fast_draft.specs.Segments.{GoesOn, Leaves, IsOwnMap as IsDraftMap, Segment as Drafted, fresh}
+use Rattle.fast_draft.specs.Segments.{GoesOn, Leaves, IsMapOrNone, Segment as Drafted, fresh}
 use Rattle.fast_writer.specs.Drafts.{IsDrafted, is_none, run_awaits, run_begun, same_bits, same_maps}
 use Rattle.fast_writer.specs.declared.run.Run.{Run}
 use Rattle.fast_writer.proofs.Same.{bits_are, bits_same, last_of, maps_are, maps_same, none_is, some_is}
@@ -67,7 +67,7 @@ inside q bytes ss s around own b bits is left around_is none pushed inner = awai
     lefts_more [] s = refl
     lefts_more (t ∷ ss) s = ap (λ (k : List (List Bool)). t.left ∷ k) (lefts_more ss s)
 
-pub draft_map : (own : Bool) (bytes : List ℕ) → IsMapped own bytes → IsDraftMap bytes
+pub draft_map : (own : Bool) (bytes : List ℕ) → IsMapped own bytes → IsMapOrNone bytes
 draft_map true bytes m = inr (m.0, m.1)
 draft_map false bytes m = inl m.1.0
 

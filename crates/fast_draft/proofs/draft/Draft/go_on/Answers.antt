@@ -5,18 +5,18 @@ use Rattle.fast_draft.proofs.draft.Draft.go_on.Goals as goal
 pub invariant_of-self : goal.invariant_of-self
 invariant_of-self c =
     let d = c.self.inside in let e = c.in_err-start.ensures in
-    let last = some_last d.around.items d.out.items d.inner c.args.self.now c.self.view_is c.requires.some in
-    rw (e.unchanged, e.bare) (sound_ended d.around.items d.inner d.out.items c.end.new.out.items last c.self.invariant c.end.ensures)
+    let last = some_last d.around.items d.out.items d.inner _ c.args.self.now c.self.view_is c.requires.some in
+    rw (e.unchanged, e.bare) (sound_ended d.around.items d.inner d.out.items c.end.new.out.items last c.self.invariant c.end.ensures.ends)
 
 pub invariant_of-self-2 : goal.invariant_of-self-2
 invariant_of-self-2 c =
     let d = c.self.inside in let e = c.in_ok-start.ensures in
-    let last = some_last d.around.items d.out.items d.inner c.args.self.now c.self.view_is c.requires.some in
+    let last = some_last d.around.items d.out.items d.inner _ c.args.self.now c.self.view_is c.requires.some in
     rw (e.map, e.started)
-    (sound_fresh c.end.new.out.items c.args.map.now d.around.items (sound_ended d.around.items d.inner d.out.items c.end.new.out.items last c.self.invariant c.end.ensures) c.requires.map)
+    (sound_fresh c.end.new.out.items c.args.map.now d.around.items (sound_ended d.around.items d.inner d.out.items c.end.new.out.items last c.self.invariant c.end.ensures.ends) c.requires.map)
 
-pub returns : goal.returns
-returns c =
+pub returns-clause-gone : goal.returns-clause-gone
+returns-clause-gone c =
     let d = c.self.inside in let e = c.in_ok-start.ensures in
-    let last = some_last d.around.items d.out.items d.inner c.args.self.now c.self.view_is c.requires.some in
-    rw (e.map, e.started) (goes_on d.around.items d.inner d.out.items c.end.new.out.items c.args.map.now c.args.self.now last c.self.view_is c.self.invariant c.end.ensures)
+    let last = some_last d.around.items d.out.items d.inner _ c.args.self.now c.self.view_is c.requires.some in
+    rw (e.map, e.started) (goes_on d.around.items d.inner d.out.items c.end.new.out.items c.args.map.now _ c.args.self.now last c.self.view_is c.self.invariant c.end.ensures.ends)

@@ -6,10 +6,10 @@ use Rattle.fast_writer.proofs.writer.WriterReceiver.leave.Goals as goal
 pub returns-clause-has : goal.returns-clause-has
 returns-clause-has c = λ o d ws w next rest is inside_is h.
     let l = last_around c.args.self.now.run c.requires.awaits in
-    let e = c.leave.ensures l.0 l.1 l.2 in
+    let e = c.leave.ensures.left l.0 l.1 l.2 in
     rw (e.0) (drafts_ended {inside = in_group} ws w next rest is inside_is l.2 e.1 h)
 
 pub returns-clause-awaits : goal.returns-clause-awaits
 returns-clause-awaits c =
     let r = c.args.self.now.run in
-    outside r (record { draft = c.leave.new.self; from = r.from; place = r.place; passed = r.passed }) refl c.leave.ensures
+    outside r (record { draft = c.leave.new.self; from = r.from; place = r.place; passed = r.passed }) refl c.leave.ensures.left
