@@ -56,7 +56,7 @@ pub use Rattle.fast_walk.specs.declared.traversal.Traversal.{Traversal}
 pub use Rattle.fast_machine.specs.Calls.{AnswersNone, FollowsAll, FollowsBehind, IsFault, IsFaultOf, IsSameStream, KeepsFault, LeavesMessage, ReadsNext, StandsAt}
 pub use Rattle.fast_machine.specs.Ends.{IsLong}
 pub use Rattle.fast_machine.specs.Following.{Counts, Follows, FollowsAt, IsCutAt, IsHeld, Refused, Waits, mode_of}
-pub use Rattle.fast_machine.specs.Runs.{Forgets, Front, Having, ReadsOn, ReadsRun, Run, RunStands, RunStops, Standing, Unfinished}
+pub use Rattle.fast_machine.specs.Runs.{Forgets, Front, Having, LeadsOn, ReadsOn, ReadsRun, Run, RunStands, RunStops, Standing, Unfinished}
 pub use Rattle.fast_machine.specs.Standing.{Behind, BetweenBlocks, Carried, GoesIn, HasAll, Onward, Stands, StopsBehind, framed_as}
 pub use Rattle.fast_machine.specs.declared.machine.Machine.{Machine}
 pub use Rattle.fast_machine.specs.declared.messages.Progress.{Progress}

@@ -70,3 +70,9 @@ abbrev pub ReadsRun : {R : Type 0} → Having R → Standing R → Standing R �
 ReadsRun has stands keeps t r d bytes count halt u s e unread = (before : List Content) (origin : Dictionary) (run : List ℕ) (messages : List Content)
     → RunStands (ReadsOn has stands keeps t r d before) t bytes origin run messages
     → (ended : List Content) × (length ended ≡ count) × Ended has stands keeps halt u s e (before ++ ended) unread origin run (messages ++ ended)
+
+-- And so many messages have ended in these bytes, behind which the traversal reads on from the rest.
+abbrev pub LeadsOn : {R : Type 0} → Having R → Standing R → Standing R → Traversal → R → Dictionary → List ℕ → ℕ → Traversal → R → Dictionary → List ℕ → Type 0
+LeadsOn has stands keeps t r d bytes count u s e unread = (before : List Content) (origin : Dictionary) (run : List ℕ) (messages : List Content)
+    → RunStands (ReadsOn has stands keeps t r d before) t bytes origin run messages
+    → (ended : List Content) × (length ended ≡ count) × RunStands (ReadsOn has stands keeps u s e (before ++ ended)) u unread origin run (messages ++ ended)

@@ -1,6 +1,6 @@
 //! Reading the next message in a list of bytes.
 
-ghost use Rattle.std.specs.Prelude.{◌≡◌, ◌≢◌, ◌<◌, ◌⊎◌, length, drop};
+ghost use Rattle.std.specs.Prelude.{◌≡◌, ◌≢◌, ◌≤◌, ◌<◌, ◌^◌, ◌⊎◌, length, drop};
 ghost use Rattle.fast_machine.specs.Calls.{LeavesMessage};
 ghost use Rattle.fast_machine.specs.Runs.{Forgets, ReadsRun};
 ghost use Rattle.fast_walk.specs.Messages.{CanRead};
@@ -33,7 +33,7 @@ fn leave<R: Receiver>(alloc: Global, receiver: &mut R, halt: Halt)
 
 /// Reads the next message, of which there is something, to its end or as far as these bytes go.
 #[inline(always)]
-pub(crate) fn read_message<R: Receiver, E: Entries>(
+fn read_message<R: Receiver, E: Entries>(
     alloc: Global,
     traversal: &mut Traversal<'_>,
     receiver: &mut R,
@@ -47,6 +47,7 @@ pub(crate) fn read_message<R: Receiver, E: Entries>(
         result.messages result.halt traversal.new receiver.new (E.contents entries.new) (drop result.at bytes.now) }
     ensures leaves { LeavesMessage R.Receiver E.Entries traversal.old traversal.new receiver.new entries.old entries.new
         bytes.now result }
+    ensures one { result.messages ≤ 1 }
 {
     traversal.set_is_sound();
     match traversal.message(receiver, entries, bytes, 0) {
@@ -66,7 +67,42 @@ pub(crate) fn read_message<R: Receiver, E: Entries>(
     }
 }
 
-/// Reads the next message, to its end or as far as these bytes go; nothing where there is none of it.
+/// Reads messages one behind the other, of the first of which there is something, as far as these bytes go, and no further than to
+/// the end of one behind which the receiver is full.
+#[inline(always)]
+pub(crate) fn read_messages<R: Receiver, E: Entries>(
+    alloc: Global,
+    traversal: &mut Traversal<'_>,
+    receiver: &mut R,
+    entries: &mut E,
+    bytes: &[u8],
+) -> Progress
+    requires some { (0 < length bytes.now) ⊎ (begun_of traversal.now ≡ 1) }
+    requires few { length bytes.now ≤ 2 ^ 61 }
+    requires served { ServesAll (E.serves entries.now) traversal.now.set.now }
+    requires can { CanRead R.Receiver E.Entries traversal.now receiver.now entries.now }
+    ensures ended { ReadsRun R.has R.stands R.keeps traversal.old receiver.old (E.contents entries.old) bytes.now
+        result.messages result.halt traversal.new receiver.new (E.contents entries.new) (drop result.at bytes.now) }
+    ensures leaves { LeavesMessage R.Receiver E.Entries traversal.old traversal.new receiver.new entries.old entries.new
+        bytes.now result }
+{
+    let mut at = 0;
+    let mut messages = 0u64;
+    'messages: loop {
+        let next = read_message(alloc, traversal, receiver, entries, &bytes[at..]);
+        at += next.at;
+        messages += next.messages;
+        if next.halt.is_some() || at == bytes.len() || receiver.is_full() {
+            return Progress {
+                at,
+                messages,
+                halt: next.halt,
+            };
+        }
+    }
+}
+
+/// The same where there may be none.
 #[inline(always)]
 pub(crate) fn read_if_any<R: Receiver, E: Entries>(
     alloc: Global,
@@ -75,6 +111,7 @@ pub(crate) fn read_if_any<R: Receiver, E: Entries>(
     entries: &mut E,
     bytes: &[u8],
 ) -> Progress
+    requires few { length bytes.now ≤ 2 ^ 61 }
     requires served { ServesAll (E.serves entries.now) traversal.now.set.now }
     requires can { CanRead R.Receiver E.Entries traversal.now receiver.now entries.now }
     ensures ended { ReadsRun R.has R.stands R.keeps traversal.old receiver.old (E.contents entries.old) bytes.now
@@ -90,5 +127,5 @@ pub(crate) fn read_if_any<R: Receiver, E: Entries>(
             halt: None,
         };
     }
-    read_message(alloc, traversal, receiver, entries, bytes)
+    read_messages(alloc, traversal, receiver, entries, bytes)
 }

@@ -26,9 +26,6 @@ use std::alloc::Global;
 /// The most bytes that one read takes.
 const CHUNK: usize = 4096;
 
-/// From so many bytes on that are ready in an output, what waits is handed on before the next message is read.
-const MANY: usize = 65_536;
-
 /// Hands on the bytes that wait, front by front, and answers how many they are.
 pub fn hand_on<O: Output, W: ByteOutput, E: Entries>(
     machine: &mut Machine<'_, O, E>,
@@ -69,7 +66,7 @@ fn hand_on_many<O: Output, W: ByteOutput, E: Entries>(
     ensures flushes { W.flushes writer.new ≡ W.flushes writer.old }
     ensures still { StandsStill machine.old machine.new }
 {
-    if machine.receiver.finished().len() < MANY {
+    if !machine.receiver.is_full() {
         return Ok(0);
     }
     hand_on(machine, alloc, writer)
@@ -94,7 +91,7 @@ pub fn take_in<O: Output, W: ByteOutput, E: Entries>(
     let mut at = 0;
     let mut written = 0u64;
     'messages: while at < bytes.len() {
-        match machine.feed_message(&bytes[at..]) {
+        match machine.feed_messages(&bytes[at..]) {
             Err(fault) => return Ok((Reached::Fault(fault), written)),
             Ok(taken) => at += taken,
         }

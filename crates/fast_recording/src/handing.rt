@@ -14,9 +14,6 @@ use fast_pass::Stop;
 use fast_walk::Output;
 use std::alloc::Global;
 
-/// From so many bytes on that are ready in an output, what waits is handed on before the next message is read.
-const MANY: usize = 65_536;
-
 /// Hands on the bytes that wait, front by front, as lines of a packet.
 pub(crate) fn hand_on<O: Output, W: ByteOutput, E: Entries>(
     machine: &mut Machine<'_, O, E>,
@@ -59,7 +56,7 @@ fn hand_on_many<O: Output, W: ByteOutput, E: Entries>(
     ensures flushes { W.flushes writer.new ≡ W.flushes writer.old }
     ensures still { StandsStill machine.old machine.new }
 {
-    if machine.receiver.finished().len() < MANY {
+    if !machine.receiver.is_full() {
         return Ok(());
     }
     hand_on(machine, alloc, lines, writer)
@@ -84,7 +81,7 @@ pub(crate) fn take_in<O: Output, W: ByteOutput, E: Entries>(
 {
     let mut at = 0;
     'messages: while at < bytes.len() {
-        match machine.feed_message(&bytes[at..]) {
+        match machine.feed_messages(&bytes[at..]) {
             Err(fault) => return Ok(Reached::Fault(fault)),
             Ok(taken) => at += taken,
         }

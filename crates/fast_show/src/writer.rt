@@ -14,7 +14,9 @@ use fast_gaps::Rest;
 use fast_lines::Signs;
 use fast_take::{Aside, Room};
 use fast_template::{FieldPart, Name, Presence, TemplateSet};
-use fast_walk::{Output, Receiver, take_exponent, take_identifier, take_length, take_mantissa};
+use fast_walk::{
+    MANY, Output, Receiver, take_exponent, take_identifier, take_length, take_mantissa,
+};
 use fast_wire::Level;
 use std::alloc::{AllocError, Global};
 use std::mem;
@@ -169,6 +171,11 @@ impl<S: Signs> Receiver for LineWriter<'_, S> {
 
     #[inline(always)]
     fn back(&mut self, _alloc: Global) {}
+
+    #[inline(always)]
+    fn is_full(&self) -> bool {
+        self.out.len() >= MANY
+    }
 
     #[inline(always)]
     fn reset_entries<E: Entries>(&mut self, entries: &mut E) {

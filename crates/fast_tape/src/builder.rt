@@ -177,6 +177,11 @@ impl Receiver for TapeBuilder {
     fn back(&mut self, _alloc: Global) {}
 
     #[inline(always)]
+    fn is_full(&self) -> bool {
+        self.is_full()
+    }
+
+    #[inline(always)]
     fn reset_entries<E: Entries>(&mut self, entries: &mut E) {
         entries.reset_into(&mut self.aside.spare);
     }

@@ -47,7 +47,7 @@ fn feed_some<E: Entries>(
         if machine.receiver.is_full() {
             return Ok(at);
         }
-        at += machine.feed_message(&chunk[at..])?;
+        at += machine.feed_messages(&chunk[at..])?;
     }
     Ok(at)
 }

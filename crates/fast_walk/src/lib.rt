@@ -25,7 +25,7 @@ pub use bits::{first_for, take_for};
 pub use halt::{Halt, HaltedBy, wire_cause};
 pub use lack::{Lack, has_stop};
 pub use leveled::{Leveled, Strictly, Usually};
-pub use output::Output;
+pub use output::{MANY, Output};
 pub use part::{take_exponent, take_identifier, take_length, take_mantissa, take_part};
 pub use receiver::{Fields, Receiver};
 pub use traversal::{Stage, Traversal};

@@ -9,6 +9,9 @@ ghost use Rattle.fast_walk.specs.Received.{Received, behind, handed_on};
 use crate::receiver::Receiver;
 use std::alloc::{AllocError, Global};
 
+/// From so many bytes on that are ready in an output, what waits is handed on before the next message is read.
+pub const MANY: usize = 65_536;
+
 /// A receiver that makes bytes of messages, which wait in it until they are handed on.
 ///
 /// The bytes of the messages that are finished wait; what there is of the message that is open is no part of them.

@@ -23,6 +23,7 @@ ghost use Rattle.fast_walk.specs.Awaited.{AwaitsBit, AwaitsBehind, AwaitsInside,
 ghost use Rattle.fast_walk.specs.Passing.{Passes, next_behind};
 
 use crate::bits::{first_for, take_for};
+use crate::lack::is_sent;
 use fast_dictionary::Entries;
 use fast_field::FieldFault;
 use fast_template::{FieldPart, Flat, Name, Presence, part_needs_bit};
@@ -139,6 +140,12 @@ pub trait Receiver: Drop {
         ensures open { Carries (keeps self.old) (stands self.new) }
         ensures between { Carries (stands self.old) (stands self.new) };
 
+    /// Whether so much waits, between two messages, that it is to be taken before the next one is read.
+    #[inline(always)]
+    fn is_full(&self) -> bool {
+        false
+    }
+
     /// Makes entries undefined. A receiver may keep the memory of their strings for those to come.
     fn reset_entries<E: Entries>(&mut self, entries: &mut E)
         ensures same { self.new ≡ self.old }
@@ -236,6 +243,10 @@ pub trait Receiver: Drop {
                     let needs = part_needs_bit(whole);
                     let bit = first_for(bits, needs);
                     let place = fields.place;
+                    // (where no byte is left, a field that wants one is not tried)
+                    if place == bytes.len() && is_sent(whole.operator, bit) {
+                        return Ok(fields);
+                    }
                     match self.field(
                         alloc, name, presence, entries, whole, bit, level, bytes, place,
                     ) {

@@ -17,7 +17,7 @@ use crate::walk::{Walk, part_halt};
 use fast_dictionary::Entries;
 use fast_stream::Cause;
 use fast_template::{
-    FieldPart, Key, Kind, Name, Operator, Part, Presence, Scope, TemplateSet, part_needs_bit,
+    FieldPart, Key, Kind, Name, Operator, Part, Presence, Scope, TemplateSet,
 };
 use fast_wire::{Bits, Level};
 use std::alloc::Global;
@@ -165,7 +165,8 @@ impl<'a> Traversal<'a> {
         ensures can { OnOk result (CanRead R.Receiver E.Entries self.new receiver.new entries.new) }
         ensures same { IsSameSet E.Entries self.old entries.old self.new entries.new }
     {
-        let needs = part_needs_bit(&self.identifier);
+        // (it is copied, which needs one)
+        let needs = true;
         let bit = first_for(&self.walk.bits, needs);
         let level = self.level();
         match receiver.begin(self.alloc, entries, &self.identifier, bit, level, bytes, at) {
@@ -239,10 +240,9 @@ impl<'a> Traversal<'a> {
         }
     }
 
-    // Reads the next message from its map on, or from its identifier on where that is next. (A function of its own: where
-    // a body is next, nothing of this is set up.)
+    // Reads the next message from its map on, or from its identifier on where that is next.
     #[tactic(auto, using(crate::proofs::Messages::map_can, crate::proofs::Messages::read_behind_map))]
-    #[inline(never)]
+    #[inline(always)]
     fn begin<R: Receiver, E: Entries>(
         &mut self,
         receiver: &mut R,

@@ -8,7 +8,7 @@ use fast_dictionary::Entries;
 use fast_field::{FieldFault, reads_as_usual};
 use fast_take::{Aside, read_short_length};
 use fast_template::{FieldPart, Flat, Name, Presence};
-use fast_walk::{Fields, Output, Receiver, Strictly, Usually};
+use fast_walk::{Fields, MANY, Output, Receiver, Strictly, Usually};
 use fast_wire::{Bits, Level};
 use std::alloc::{AllocError, Global};
 
@@ -104,6 +104,11 @@ impl Receiver for Writer {
 
     #[inline(always)]
     fn back(&mut self, _alloc: Global) {}
+
+    #[inline(always)]
+    fn is_full(&self) -> bool {
+        self.out.len() >= MANY
+    }
 
     #[inline(always)]
     fn reset_entries<E: Entries>(&mut self, entries: &mut E) {

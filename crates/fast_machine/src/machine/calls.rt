@@ -17,7 +17,7 @@ ghost use Rattle.fast_machine.specs.Runs.{Retains};
 
 use crate::blocks::{open_block, within};
 use crate::machine::Machine;
-use crate::messages::{read_if_any, read_message};
+use crate::messages::{read_if_any, read_messages};
 use fast_dictionary::Entries;
 use fast_stream::{Cause, Fault, Framing, Mode, Place};
 use fast_template::TemplateSet;
@@ -414,19 +414,20 @@ impl<'a, R: Receiver, E: Entries> Machine<'a, R, E> {
         }
     }
 
-    // Reads on in these bytes of plain framing, where none are held, to the end of the next message at most, and answers
+    // Reads on in these bytes of plain framing, where none are held, to the end of a message at most, and answers
     // the place behind it; none where they are all read or held.
     #[inline(always)]
     fn read_plain(&mut self, bytes: &[u8]) -> Result<Option<usize>, Fault>
         requires nothing { HoldsNothing self.now }
         requires framing { self.now.framing ≡ Framing.Plain }
+        requires few { length bytes.now ≤ 2 ^ 61 }
         requires some { (0 < length bytes.now) ⊎ (begun_of self.now.traversal ≡ 1) }
         ensures reads { ReadsNext Framing.Plain self.old bytes.now result self.new }
         ensures place { IfOk result (λ o. IfSome o (λ n. IsBehind self.old bytes.now n self.new)) }
         ensures same { IsSameStream self.old self.new }
         ensures fed { self.new.fed ≡ self.old.fed }
     {
-        let progress = read_message(
+        let progress = read_messages(
             self.alloc,
             &mut self.traversal,
             &mut self.receiver,
@@ -450,11 +451,12 @@ impl<'a, R: Receiver, E: Entries> Machine<'a, R, E> {
         }
     }
 
-    // Reads on in the block that the bytes go on with, or begin with, to the end of its next message at most, and answers
+    // Reads on in the block that the bytes go on with, or begin with, to the end of one of its messages at most, and answers
     // the place behind it; none where they are all read or held.
     fn read_block(&mut self, bytes: &[u8]) -> Result<Option<usize>, Fault>
         requires nothing { HoldsNothing self.now }
         requires framing { self.now.framing ≡ Framing.Blocks }
+        requires few { length bytes.now ≤ 2 ^ 61 }
         requires some { (0 < length bytes.now) ⊎ (begun_of self.now.traversal ≡ 1) }
         ensures reads { ReadsNext Framing.Blocks self.old bytes.now result self.new }
         ensures place { IfOk result (λ o. IfSome o (λ n. IsBehind self.old bytes.now n self.new)) }
@@ -505,11 +507,12 @@ impl<'a, R: Receiver, E: Entries> Machine<'a, R, E> {
         }
     }
 
-    // Reads on in these bytes, where none are held, to the end of the next message at most, and answers the place behind
+    // Reads on in these bytes, where none are held, to the end of a message at most, and answers the place behind
     // it; none where they are all read or held.
     #[inline(always)]
     fn read(&mut self, bytes: &[u8]) -> Result<Option<usize>, Fault>
         requires nothing { HoldsNothing self.now }
+        requires few { length bytes.now ≤ 2 ^ 61 }
         requires some { (0 < length bytes.now) ⊎ (begun_of self.now.traversal ≡ 1) }
         ensures reads { ReadsNext self.old.framing self.old bytes.now result self.new }
         ensures place { IfOk result (λ o. IfSome o (λ n. IsBehind self.old bytes.now n self.new)) }
@@ -522,11 +525,12 @@ impl<'a, R: Receiver, E: Entries> Machine<'a, R, E> {
         }
     }
 
-    // Reads on in these bytes, behind those that are held, to the end of the next message at most, and answers the place
+    // Reads on in these bytes, behind those that are held, to the end of a message at most, and answers the place
     // behind it, from the first of those held on; none where they are all read or held.
     #[inline(always)]
     fn read_behind(&mut self, chunk: &[u8]) -> Result<Option<usize>, Fault>
         requires fault { self.now.fault ≡ None }
+        requires few { length chunk.now ≤ 2 ^ 60 }
         requires some { 0 < length chunk.now }
         ensures reads { ReadsNext self.old.framing self.old (self.old.held.items ++ chunk.now) result self.new }
         ensures place { IfOk result (λ o. IfSome o (λ n. IsBehind self.old (self.old.held.items ++ chunk.now) n self.new)) }
@@ -548,9 +552,9 @@ impl<'a, R: Receiver, E: Entries> Machine<'a, R, E> {
         }
     }
 
-    // Takes the next bytes of the stream as `feed_message` does, and does not ask what is lacking behind them.
+    // Takes the next bytes of the stream as `feed_messages` does, and does not ask what is lacking behind them.
     #[inline(always)]
-    fn take_message(&mut self, chunk: &[u8]) -> Result<usize, Fault>
+    fn take_messages(&mut self, chunk: &[u8]) -> Result<usize, Fault>
         requires room { self.now.fed + length chunk.now ≤ 2 ^ 60 }
         requires fault { self.now.fault ≡ None }
         requires some { 0 < length chunk.now }
@@ -579,13 +583,13 @@ impl<'a, R: Receiver, E: Entries> Machine<'a, R, E> {
         }
     }
 
-    /// Takes the next bytes of the stream, up to the end of the next message at most, which the receiver then has;
-    /// answers how many they are: all of them where no message ends in them.
+    /// Takes the next bytes of the stream, up to the end of a message behind which the receiver is full, if there is one, or of a
+    /// block; answers how many they are: all of them where no message ends in them.
     ///
     /// # Errors
     ///
     /// As `feed`, and all of the bytes are fed.
-    pub fn feed_message(&mut self, chunk: &[u8]) -> Result<usize, Fault>
+    pub fn feed_messages(&mut self, chunk: &[u8]) -> Result<usize, Fault>
         requires room { self.now.fed + length chunk.now ≤ 2 ^ 60 }
         requires some { 0 < length chunk.now }
         ensures kept { IfSome self.old.fault (λ f. (result ≡ Err f) × (self.new ≡ self.old)) }
@@ -609,7 +613,7 @@ impl<'a, R: Receiver, E: Entries> Machine<'a, R, E> {
             self.feed_lacking(lack, chunk)?;
             return Ok(chunk.len());
         }
-        self.take_message(chunk)
+        self.take_messages(chunk)
     }
 
     /// Takes the next bytes of the stream as `feed` does, of which was asked what they lack (`lacks_more`, `first_lacking`):
@@ -630,7 +634,7 @@ impl<'a, R: Receiver, E: Entries> Machine<'a, R, E> {
     {
         let mut at = 0;
         'messages: while at < chunk.len() {
-            at += self.take_message(&chunk[at..])?;
+            at += self.take_messages(&chunk[at..])?;
         }
         Ok(())
     }

@@ -24,7 +24,7 @@ returns-in-Err-clause-takes g c = λ left later turns way r.
     let at = (rw (c.in-Err.ensures.refused) at f.1.at).0 in
     let more = c.in-Err.ensures.cause l.invariant.fault in
     let whole = ap (λ (xs : List ℕ). take l.at bytes ++ xs) (take_rest bytes l.at) ∙ take-append-drop l.at bytes in
-    reads_on s slice f.0 (stops g.met.O.Output.made c.feed_message.new.self turns later _ c.in-Err.fault (refused_by_bytes c.in-Err.fault _ _ turns later _ _ (λ e. absurd (more e)) at) f.1)
+    reads_on s slice f.0 (stops g.met.O.Output.made c.feed_messages.new.self turns later _ c.in-Err.fault (refused_by_bytes c.in-Err.fault _ _ turns later _ _ (λ e. absurd (more e)) at) f.1)
     ((λ e. absurd cc), of_bytes c.in-Err.fault _ _ _ at.2 more) whole
 
 pub messages-preserved : goal.messages-preserved
@@ -42,7 +42,7 @@ messages-preserved g c =
       errors = h.failed ∙ v.errors;
       flushes = h.flushes ∙ v.flushes;
       goes = λ left later turns way r.
-          hands_on (feeds_on g.met.O.Output.made bytes l.at c.in-Ok.taken c.feed_message.new.self (v.goes left later turns way r) fed.open (fed.follows v.fault)) h.hands.1 c.saturating_add-written.ensures;
+          hands_on (feeds_on g.met.O.Output.made bytes l.at c.in-Ok.taken c.feed_messages.new.self (v.goes left later turns way r) fed.open (fed.follows v.fault)) h.hands.1 c.saturating_add-written.ensures;
     }
 
 pub returns-in_err-hand_on_many-clause-takes : goal.returns-in_err-hand_on_many-clause-takes
@@ -55,7 +55,7 @@ returns-in_err-hand_on_many-clause-takes g c =
     let next = l.at + c.in-Ok.taken in
     let h = c.in_err-hand_on_many.ensures in
     rw (h.still.same.mode, h.still.same.set) (breaks
-    (feeds_on g.met.O.Output.made bytes l.at c.in-Ok.taken c.feed_message.new.self (v.goes left later turns way r) c.in-Ok.ensures.open (c.in-Ok.ensures.follows v.fault))
+    (feeds_on g.met.O.Output.made bytes l.at c.in-Ok.taken c.feed_messages.new.self (v.goes left later turns way r) c.in-Ok.ensures.open (c.in-Ok.ensures.follows v.fault))
     h.hands.0 (drop next bytes) h.hands.1 (take-append-drop next bytes)))
 
 pub returns-clause-takes : goal.returns-clause-takes

@@ -33,7 +33,7 @@ returns-in-Err-clause-takes g c = λ left later turns way r.
     let whole = ap (λ (xs : List ℕ). take l.at bytes ++ xs) (take_rest bytes l.at) ∙ take-append-drop l.at bytes in (
       s.0,
       s.1,
-      reads_on s.2 slice f.0 (stops g.met.O.Output.made c.feed_message.new.self turns later _ c.in-Err.fault (refused_by_bytes c.in-Err.fault _ _ turns later _ _ (λ e. absurd (more e)) at) f.1)
+      reads_on s.2 slice f.0 (stops g.met.O.Output.made c.feed_messages.new.self turns later _ c.in-Err.fault (refused_by_bytes c.in-Err.fault _ _ turns later _ _ (λ e. absurd (more e)) at) f.1)
           ((λ e. absurd cc), of_bytes c.in-Err.fault _ _ _ at.2 more) whole,
       s.3,
     )
@@ -54,7 +54,7 @@ messages-preserved g c =
       flushes = h.flushes ∙ v.flushes;
       goes = λ left later turns way r.
           let s = v.goes left later turns way r in
-          let on = feeds_on g.met.O.Output.made bytes l.at c.in-Ok.taken c.feed_message.new.self s.2 fed.open (fed.follows v.fault) in
+          let on = feeds_on g.met.O.Output.made bytes l.at c.in-Ok.taken c.feed_messages.new.self s.2 fed.open (fed.follows v.fault) in
           (s.0 ++ h.hands.0, _, hands_on on (hands_at s.0 h.hands.1) refl, writes_on s.3 h.hands.2);
     }
 
@@ -68,8 +68,8 @@ returns-in_err-hand_on_many-clause-takes g c =
     let next = l.at + c.in-Ok.taken in
     let h = c.in_err-hand_on_many.ensures in
     let s = v.goes left later turns way r in
-    let on = feeds_on g.met.O.Output.made bytes l.at c.in-Ok.taken c.feed_message.new.self s.2 c.in-Ok.ensures.open (c.in-Ok.ensures.follows v.fault) in
-    let waits = g.O.Output.waiting c.feed_message.new.self.receiver in
+    let on = feeds_on g.met.O.Output.made bytes l.at c.in-Ok.taken c.feed_messages.new.self s.2 c.in-Ok.ensures.open (c.in-Ok.ensures.follows v.fault) in
+    let waits = g.O.Output.waiting c.feed_messages.new.self.receiver in
     (s.0 ++ waits, rw (h.still.same.mode, h.still.same.set) (breaks on [] (drop next bytes) (would_hand s.0 waits) (take-append-drop next bytes)), part_on waits s.3 h.hands))
 
 pub returns-clause-takes : goal.returns-clause-takes

@@ -23,7 +23,7 @@ returns-in-Err-clause-reads g c =
       c.part_halt.ensures.number,
       old.identifier_is,
       part_stops old.level identifier d old.walk.bits node_limit (drop c.args.at c.args.bytes.now) c.in-Err.fault
-          (rw (c.level-level.ensures, c.first_for-bit.ensures, c.part_needs_bit-needs.ensures, old.identifier_is) at (stops (field other)).0),
+          (rw (c.level-level.ensures, c.first_for-bit.ensures, old.identifier_is) at (stops (field other)).0),
     ) refl)
     (λ wanted. let other = field (want_of_bytes c.part_halt.result.cause wanted) in let f = stops other in (f.1, f.2, c.in-Err.ensures.begun_on other))
 
@@ -32,7 +32,7 @@ returns-in-None-clause-reads g c =
     let old = c.args.self.now in
     let d = g.E.Entries.contents c.args.entries.now in
     let e = g.E.Entries.contents c.begin.new.entries in
-    let took = rw (c.level-level.ensures, c.first_for-bit.ensures, c.part_needs_bit-needs.ensures, old.identifier_is) at c.in-Ok.ensures.goes.0 in
+    let took = rw (c.level-level.ensures, c.first_for-bit.ensures, old.identifier_is) at c.in-Ok.ensures.goes.0 in
     let none = found_members old.set.now c.in-Ok.id ∙ ap members_found (sym (rw (c.in-None.is) at c.find.ensures.value)) in
     identifier_stops c.requires.stage c.requires.place c.requires.can c.begin.ensures.same_keys c.begin.ensures.keeps
     (λ other.
@@ -49,7 +49,7 @@ returns-in-Some-clause-reads g c =
     let e = g.E.Entries.contents c.begin.new.entries in
     let id = c.in-Ok.id in
     let members = list_of c.in-Some.template.now.members.items in
-    let took = rw (c.level-level.ensures, c.first_for-bit.ensures, c.part_needs_bit-needs.ensures, old.identifier_is) at c.in-Ok.ensures.goes.0 in
+    let took = rw (c.level-level.ensures, c.first_for-bit.ensures, old.identifier_is) at c.in-Ok.ensures.goes.0 in
     let named = found_members old.set.now id ∙ ap members_found (sym (rw (c.in-Some.is) at c.find.ensures.value)) in
     let end = c.open_message.ensures in
     record {
@@ -71,7 +71,7 @@ returns-in-Some-clause-reads g c =
               named = named;
               reads = λ bytes. refl;
             },
-            λ more. s.reads (drop c.args.at c.args.bytes.now ++ more) ∙ rw (end.bits, end.spare, (rw (c.requires.stage) at c.requires.can.ready).1, c.part_needs_bit-needs.ensures, old.identifier_is)
+            λ more. s.reads (drop c.args.at c.args.bytes.now ++ more) ∙ rw (end.bits, end.spare, (rw (c.requires.stage) at c.requires.can.ready).1, old.identifier_is)
                 (identifier_goes old.level set d e old.walk.bits (drop c.args.at c.args.bytes.now) (drop c.in-Ok.next c.args.bytes.now) more id members took named),
           );
     }
@@ -90,7 +90,7 @@ returns-in-Some-clause-can g c =
         around = rw (end.around) tt;
       };
       kept = told_keeps c.level-level.result old.identifier c.first_for-bit.result (g.E.Entries.contents c.args.entries.now) (g.E.Entries.contents c.begin.new.entries) c.args.bytes.now c.args.at c.in-Ok.next
-          (λ k. omega (arith, c.type_inv.bytes k)) (asked_for old.identifier c.part_needs_bit-needs.result c.first_for-bit.result old.walk.bits c.part_needs_bit-needs.ensures c.first_for-bit.ensures)
+          (λ k. omega (arith, c.type_inv.bytes k)) (asked_for old.identifier true c.first_for-bit.result old.walk.bits (needs old.identifier_is) c.first_for-bit.ensures)
           Part.Whole Kind.UInt32 (Some (U32 c.in-Ok.id)) tt (rw (old.identifier_is) identifier_told) c.in-Ok.ensures.goes.0 c.requires.can.kept;
-      awaited = rw (end.around, end.bits, c.part_needs_bit-needs.ensures) (c.in-Ok.ensures.awaits old.walk.bits (search rules) (rw (c.requires.stage) at c.requires.can.awaited));
+      awaited = rw (end.around, end.bits) (c.in-Ok.ensures.awaits old.walk.bits (search rules) (rw (c.requires.stage) at c.requires.can.awaited));
     }

@@ -2,7 +2,7 @@ use Rattle.fast_machine.proofs.Common.{◌≡◌, ◌++◌, ◌-◌, ◌∙◌, 
 use Rattle.fast_machine.proofs.Calls.{chunk_fed}
 use Rattle.fast_machine.proofs.Followings.{waits_behind}
 use Rattle.fast_machine.proofs.MessageEnds.{behind_held, drop_behind, ends_here}
-use Rattle.fast_machine.proofs.machine.Machine.take_message.Goals as goal
+use Rattle.fast_machine.proofs.machine.Machine.take_messages.Goals as goal
 
 pub returns-in_err-read_behind-clause-follows : goal.returns-in_err-read_behind-clause-follows
 returns-in_err-read_behind-clause-follows g c =
