@@ -1,5 +1,6 @@
 mod Common
 pub mod Runs
+pub mod ManyRuns
 pub mod Standings
 pub mod Followings
 pub mod PlainReads

@@ -1,5 +1,5 @@
 -- How the reading of messages one behind the other stands after a piece and after a message.
-use Rattle.fast_machine.proofs.Common.{◌≡◌, ◌≢◌, ◌<◌, ◌+◌, ℕ, length, length-append, drop, take, take-append-drop, arith, List, [], ◌∷◌, ◌++◌, Option, None, Some, Ok, refl, sym, ap, ◌∙◌, append_assoc, append-nil, ◌⊎◌, inl, inr, IsBytes, Level, Resolved, IsSound, templates_in, Dictionary, Stage, Traversal, Content, message_at, Reading, Ghosts, Truncated, IsSameSet, MessageRead, MessageStops, begun_at, begun_of, Halt, with_none, Forgets, Front, LeadsOn, ReadsOn, ReadsRun, Having, Standing, Unfinished, message_found, from_mode_from, in_mode_from, carries_on, carries_one, outside, plainly, cases_lt}
+use Rattle.fast_machine.proofs.Common.{◌≡◌, ◌≢◌, ◌<◌, ℕ, length, drop, take, take-append-drop, arith, List, [], ◌∷◌, ◌++◌, None, Some, Ok, refl, sym, ap, ◌∙◌, append_assoc, append-nil, ◌⊎◌, inl, inr, IsBytes, Level, Resolved, IsSound, templates_in, Dictionary, Stage, Traversal, Content, message_at, Reading, Ghosts, Truncated, IsSameSet, MessageRead, MessageStops, begun_at, begun_of, Halt, with_none, Forgets, Front, ReadsOn, ReadsRun, Having, Standing, Unfinished, message_found, from_mode_from, in_mode_from, carries_on, carries_one, outside, plainly, cases_lt}
 use Rattle.fast_stream.specs.Streams.{CarriesFrom, MessageForm}
 use Rattle.fast_walk.specs.declared.receiver.Receiver.{Ghosts as Receiving}
 
@@ -112,22 +112,3 @@ module _ {R E : Type 0} {receiver : Receiving R} {entries : Ghosts E} {t u : Tra
           (λ other. front_with b carried (λ start rest x. left other _ before start (read.keeps before start x.read x.goes))),
         ),
       )
-
--- ---- messages one behind the other
-
-module _ {R : Type 0} (has : Having R) (stands keeps : Standing R) where
-  pub leads_none : (t : Traversal) (r : R) (d : Dictionary) (bytes : List ℕ) → LeadsOn has stands keeps t r d bytes 0 t r d bytes
-  leads_none t r d bytes = λ before origin run messages s. ([], refl, rw (append-nil before, append-nil messages) s)
-
-  -- where no fault was found
-  pub run_leads : {t u : Traversal} {r q : R} {d e : Dictionary} {bytes unread : List ℕ} {n : ℕ} → ReadsRun has stands keeps t r d bytes n None u q e unread → LeadsOn has stands keeps t r d bytes n u q e unread
-  run_leads reads = λ before origin run messages s. let k = reads before origin run messages s in (k.0, k.1, k.2.0)
-
-  -- what is read behind the messages that have ended
-  pub reads_behind : {t u v : Traversal} {r q w : R} {d e f : Dictionary} {bytes rest unread : List ℕ} {n m : ℕ} {halt : Option Halt} → LeadsOn has stands keeps t r d bytes n u q e rest
-      → ReadsRun has stands keeps u q e rest m halt v w f unread → ReadsRun has stands keeps t r d bytes (n + m) halt v w f unread
-  reads_behind leads reads = λ before origin run messages s.
-      let l = leads before origin run messages s in
-      let k = reads (before ++ l.0) origin run (messages ++ l.0) l.2 in
-      let sizes = length-append {A = Content} in
-      (l.0 ++ k.0, omega (arith, l.1, k.1, sizes), rw (← append_assoc before l.0 k.0, ← append_assoc messages l.0 k.0) k.2)

@@ -1,6 +1,6 @@
 //! Reading the next message in a list of bytes.
 
-ghost use Rattle.std.specs.Prelude.{◌≡◌, ◌≢◌, ◌≤◌, ◌<◌, ◌^◌, ◌⊎◌, length, drop};
+ghost use Rattle.std.specs.Prelude.{◌≡◌, ◌≢◌, ◌≤◌, ◌<◌, ◌^◌, ◌⊎◌, None, length, drop};
 ghost use Rattle.fast_machine.specs.Calls.{LeavesMessage};
 ghost use Rattle.fast_machine.specs.Runs.{Forgets, ReadsRun};
 ghost use Rattle.fast_walk.specs.Messages.{CanRead};
@@ -47,7 +47,8 @@ fn read_message<R: Receiver, E: Entries>(
         result.messages result.halt traversal.new receiver.new (E.contents entries.new) (drop result.at bytes.now) }
     ensures leaves { LeavesMessage R.Receiver E.Entries traversal.old traversal.new receiver.new entries.old entries.new
         bytes.now result }
-    ensures one { result.messages ≤ 1 }
+    ensures most { result.messages ≤ 1 }
+    ensures least { result.halt ≡ None → result.messages ≡ 1 }
 {
     traversal.set_is_sound();
     match traversal.message(receiver, entries, bytes, 0) {

@@ -178,7 +178,7 @@ impl Receiver for TapeBuilder {
 
     #[inline(always)]
     fn is_full(&self) -> bool {
-        self.is_full()
+        TapeBuilder::is_full(self)
     }
 
     #[inline(always)]

@@ -16,9 +16,7 @@ use crate::receiver::Receiver;
 use crate::walk::{Walk, part_halt};
 use fast_dictionary::Entries;
 use fast_stream::Cause;
-use fast_template::{
-    FieldPart, Key, Kind, Name, Operator, Part, Presence, Scope, TemplateSet,
-};
+use fast_template::{FieldPart, Key, Kind, Name, Operator, Part, Presence, Scope, TemplateSet};
 use fast_wire::{Bits, Level};
 use std::alloc::Global;
 

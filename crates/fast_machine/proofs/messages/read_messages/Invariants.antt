@@ -1,4 +1,4 @@
-use Rattle.fast_machine.proofs.Common.{◌≡◌, ◌≤◌, ◌<◌, ◌+◌, ◌-◌, ◌⊎◌, ℕ, length, drop, IsSameSet, IsSound, LeadsOn, begun_of}
+use Rattle.fast_machine.proofs.Common.{◌≡◌, ◌≤◌, ◌<◌, ◌+◌, ◌-◌, ◌⊎◌, length, drop, IsSameSet, LeadsOn, begun_of}
 use Rattle.fast_walk.specs.Messages.{CanRead}
 use Rattle.fast_walk.specs.Traversals.{ServesAll}
 use Rattle.fast_machine.proofs.messages.read_messages.Given as goal
@@ -8,6 +8,7 @@ invariant-messages g l = record {
   place : l.at ≤ length l.bytes;
   some : (0 < length (drop l.at l.bytes)) ⊎ (begun_of l.traversal ≡ 1);
   few : l.messages + begun_of l.traversal ≤ l.at + 1;
+  outside : begun_of l.fn.traversal ≡ 0 → begun_of l.traversal ≡ 0;
   served : ServesAll (g.E.Entries.serves l.entries) l.traversal.set.now;
   can : CanRead g.R.Receiver g.E.Entries l.traversal l.receiver l.entries;
   same : IsSameSet g.E.Entries l.fn.traversal l.fn.entries l.traversal l.entries;

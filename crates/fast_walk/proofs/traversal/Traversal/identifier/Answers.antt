@@ -1,4 +1,4 @@
-use Rattle.fast_walk.proofs.Common.{◌≡◌, ◌≢◌, ◌++◌, ℕ, List, Ok, Option, drop, map, refl, sym, ap, ◌∙◌, arith, rules, Some, option_map, FlatTemplate, list_of, Instructions, templates_in, D9, Memory, Truncated, cause_of_field, message_of, opened, next_of, reads_on, frame_of, field_at, entry_at, node_limit, identifier, Kind, Part, U32, Stage}
+use Rattle.fast_walk.proofs.Common.{◌≡◌, ◌≢◌, ◌++◌, ℕ, true, part_needs_bit, List, Ok, Option, drop, map, refl, sym, ap, ◌∙◌, arith, rules, Some, option_map, FlatTemplate, list_of, Instructions, templates_in, D9, Memory, Truncated, cause_of_field, message_of, opened, next_of, reads_on, frame_of, field_at, entry_at, node_limit, identifier, Kind, Part, U32, Stage}
 use Rattle.fast_field.specs.declared.fault.FieldFault.TheVariants.{Memory as FieldMemory}
 use Rattle.fast_walk.proofs.Heads.{identifier_goes, own_bit}
 use Rattle.fast_walk.proofs.Steps.{part_goes, part_stops, with_none}
@@ -71,7 +71,7 @@ returns-in-Some-clause-reads g c =
               named = named;
               reads = λ bytes. refl;
             },
-            λ more. s.reads (drop c.args.at c.args.bytes.now ++ more) ∙ rw (end.bits, end.spare, (rw (c.requires.stage) at c.requires.can.ready).1, old.identifier_is)
+            λ more. s.reads (drop c.args.at c.args.bytes.now ++ more) ∙ rw (end.bits, end.spare, (rw (c.requires.stage) at c.requires.can.ready).1)
                 (identifier_goes old.level set d e old.walk.bits (drop c.args.at c.args.bytes.now) (drop c.in-Ok.next c.args.bytes.now) more id members took named),
           );
     }
@@ -90,7 +90,7 @@ returns-in-Some-clause-can g c =
         around = rw (end.around) tt;
       };
       kept = told_keeps c.level-level.result old.identifier c.first_for-bit.result (g.E.Entries.contents c.args.entries.now) (g.E.Entries.contents c.begin.new.entries) c.args.bytes.now c.args.at c.in-Ok.next
-          (λ k. omega (arith, c.type_inv.bytes k)) (asked_for old.identifier true c.first_for-bit.result old.walk.bits (needs old.identifier_is) c.first_for-bit.ensures)
+          (λ k. omega (arith, c.type_inv.bytes k)) (asked_for old.identifier true c.first_for-bit.result old.walk.bits (ap part_needs_bit (sym old.identifier_is)) c.first_for-bit.ensures)
           Part.Whole Kind.UInt32 (Some (U32 c.in-Ok.id)) tt (rw (old.identifier_is) identifier_told) c.in-Ok.ensures.goes.0 c.requires.can.kept;
-      awaited = rw (end.around, end.bits) (c.in-Ok.ensures.awaits old.walk.bits (search rules) (rw (c.requires.stage) at c.requires.can.awaited));
+      awaited = rw (end.around, end.bits) (rw (old.identifier_is) at c.in-Ok.ensures.awaits old.walk.bits c.first_for-bit.ensures (rw (c.requires.stage) at c.requires.can.awaited));
     }
