@@ -1,9 +1,11 @@
 //! The identifier of a template or the length of a sequence, read and written at once: a part whose number is wanted.
 
-ghost use Rattle.std.specs.Prelude.{◌≡◌, ◌<◌, ◌≤◌, MatchOption, IsTrue, drop, length, false, true};
+ghost use Rattle.std.specs.Prelude.{◌≡◌, ◌<◌, ◌≤◌, MatchOption, IfSome, IsTrue, Some, drop, length, false, true};
 ghost use Rattle.fast_template.specs.Resolved.{part_needs_bit as part_needs_bit_of};
 ghost use Rattle.fast_value.specs.declared.kind.Kind.TheVariants.{UInt32};
+ghost use Rattle.fast_value.specs.declared.kind.Operator.TheVariants.{Copy};
 ghost use Rattle.fast_value.specs.declared.kind.Part.TheVariants.{Whole};
+ghost use Rattle.fast_value.specs.declared.scalar.Scalar.TheVariants.{U32};
 ghost use Rattle.fast_field.specs.AsUsual.{ReadsAsUsual};
 ghost use Rattle.fast_field.specs.Parts.{IsFieldPart};
 ghost use Rattle.fast_field.specs.Passed.{Passes};
@@ -16,27 +18,25 @@ ghost use Rattle.fast_writer.specs.Quick.{RelaysCount};
 use crate::relay::put_at_once;
 use crate::run::Run;
 use fast_dictionary::{Entries, Entry};
-use fast_field::{FieldFault, Passed, pass_left_out, reads_as_usual};
+use fast_field::{FieldFault, reads_as_usual};
 use fast_take::{Aside, take, take_short_number};
-use fast_template::{FieldPart, Kind, Operator, Scalar, part_needs_bit};
+use fast_template::{FieldPart, Scalar, part_needs_bit};
 use fast_wire::Level;
 
-// Takes the number of the entry that bit 0 repeats, or that there is none. None: nothing has changed, and the part goes
-// the general way.
+// The number of the entry, which bit 0 repeats. None: the part goes the general way.
 #[inline(always)]
-fn repeat_count(part: &FieldPart, entry: &mut Entry) -> Option<Option<u32>>
-    ensures { MatchOption result (entry.new ≡ entry.old) (λ count. Passes part.now entry.old entry.new (length_of count)) }
+fn repeat_count(part: &FieldPart, entry: &Entry) -> Option<u32>
+    requires copied { part.now.operator ≡ Copy }
+    requires kind { part.now.kind ≡ UInt32 }
+    requires whole { part.now.part ≡ Whole }
+    ensures { IfSome result (λ count. Passes part.now entry.now entry.now (Some (U32 count))) }
 {
-    match (part.operator, part.kind) {
-        (Operator::Copy, Kind::UInt32) => match pass_left_out(part, entry) {
-            Passed::Elsewhere => None,
-            Passed::Absent => Some(None),
-            Passed::Present => match entry {
-                Entry::Assigned(Scalar::U32(number)) => Some(Some(*number)),
-                _ => unreachable!(),
-            },
+    match entry {
+        Entry::Assigned(value) => match value {
+            Scalar::U32(number) => Some(*number),
+            _ => None,
         },
-        _ => None,
+        Entry::Undefined | Entry::Empty => None,
     }
 }
 
@@ -111,7 +111,8 @@ fn relay_sent_identifier<E: Entries>(
 ) -> Result<(Option<u32>, usize), FieldFault>
     requires place { at ≤ length bytes.now }
     requires none { run.now.passed ≡ 0 }
-    requires next { part_needs_bit_of part.now ≡ true → true ≡ next_bit run.now.draft.inner.left }
+    requires needs { part_needs_bit_of part.now ≡ true }
+    requires next { true ≡ next_bit run.now.draft.inner.left }
     requires served { IsTrue (E.serves entries.now part.now.key) }
     requires part { IsFieldPart part.now }
     requires kept { KeepScalars (E.contents entries.now) }
@@ -131,7 +132,7 @@ fn relay_sent_identifier<E: Entries>(
                 Err(_) => return Err(FieldFault::Memory),
                 Ok(()) => {}
             }
-            run.mark_at_once(part_needs_bit(part), true, true);
+            run.mark_at_once(true, true, true);
             Ok((Some(count), at + 1))
         }
     }
@@ -150,12 +151,13 @@ pub(crate) fn relay_identifier<E: Entries>(
     aside: &mut Aside,
 ) -> Result<(Option<u32>, usize), FieldFault>
     requires place { at ≤ length bytes.now }
-    requires bit { part_needs_bit_of part.now ≡ false → bit ≡ true }
+    requires needs { part_needs_bit_of part.now ≡ true }
     requires none { run.now.passed ≡ 0 }
-    requires next { part_needs_bit_of part.now ≡ true → bit ≡ next_bit run.now.draft.inner.left }
+    requires next { bit ≡ next_bit run.now.draft.inner.left }
     requires served { IsTrue (E.serves entries.now part.now.key) }
     requires part { IsFieldPart part.now }
     requires kept { KeepScalars (E.contents entries.now) }
+    requires copied { part.now.operator ≡ Copy }
     requires kind { part.now.kind ≡ UInt32 }
     requires whole { part.now.part ≡ Whole }
     ensures relays { RelaysCount level part.now (E.contents entries.old) (E.contents entries.new) bit
@@ -171,8 +173,8 @@ pub(crate) fn relay_identifier<E: Entries>(
     match repeat_count(part, entry) {
         None => relay_count(entries, part, bit, level, bytes, at, run, aside),
         Some(count) => {
-            run.mark_at_once(part_needs_bit(part), false, false);
-            Ok((count, at))
+            run.mark_at_once(true, false, false);
+            Ok((Some(count), at))
         }
     }
 }

@@ -1,9 +1,9 @@
 //! What is written while fields are read: bytes that stand in their best form are noted, and appended in one piece.
 
-ghost use Rattle.std.specs.Prelude.{◌≡◌, ◌≤◌, ◌<◌, ◌+◌, ◌^◌, ◌++◌, ℕ, List, [], true, false, drop, length, slice_range};
+ghost use Rattle.std.specs.Prelude.{◌≡◌, ◌≤◌, ◌<◌, ◌+◌, ◌-◌, ◌^◌, ◌++◌, ℕ, List, [], true, false, drop, length, slice_range};
 ghost use Rattle.fast_take.specs.Takes.{best_form, first_of, place_of};
 ghost use Rattle.fast_wire.specs.PresenceMap.{next_bit};
-ghost use Rattle.fast_draft.specs.Segments.{ahead};
+ghost use Rattle.fast_draft.specs.Segments.{NoRoomFor, ahead};
 ghost use Rattle.fast_writer.specs.Drafts.{Marked, noted};
 ghost use Rattle.fast_writer.specs.Runs.{Flushes, IsRun, written};
 
@@ -66,7 +66,7 @@ impl Run {
         self.place = next;
     }
 
-    /// Appends what is noted; answers false, and changes nothing, where memory is refused.
+    /// Appends what is noted; answers false, and changes nothing, where memory is refused, since it does not fit.
     #[inline(always)]
     pub(crate) fn flush(&mut self, bytes: &[u8]) -> bool
         requires from { self.now.from ≤ self.now.place }
@@ -117,6 +117,8 @@ impl Run {
         ensures written { result ≡ true → written bytes.now self.new
             ≡ written bytes.now self.old ++ best_form bytes.now self.old.place aside.now took }
         ensures run { result ≡ true → IsRun bytes.now (place_of took) self.new }
+        ensures room { result ≡ false
+            → NoRoomFor (self.old.place - self.old.from + length (best_form bytes.now self.old.place aside.now took)) self.old.draft.memory }
     {
         match took {
             Took::Stands(next) | Took::Absent(next) => {

@@ -96,7 +96,6 @@ impl Receiver for Writer {
     }
 
     #[inline(always)]
-    #[tactic(auto, using(crate::proofs::Writers::has_finished))]
     fn finish(&mut self, _alloc: Global) -> Result<(), AllocError> {
         self.run.draft.finish(&mut self.out)?;
         Ok(())
@@ -240,7 +239,6 @@ impl Receiver for Writer {
     }
 
     #[inline(always)]
-    #[tactic(auto, using(crate::proofs::Writers::has_element))]
     fn enter_element(
         &mut self,
         _alloc: Global,
