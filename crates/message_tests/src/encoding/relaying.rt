@@ -1,7 +1,5 @@
 //! Streams that are read and written at once, by the calls.
 
-ghost use Rattle.std.specs.Prelude.{◌≡◌};
-
 use crate::granted::granted;
 use crate::same::same;
 use crate::slots::slots_of;
@@ -11,9 +9,10 @@ use fast_machine::Machine;
 use fast_template::TemplateSet;
 use fast_walk::Output;
 use fast_writer::Writer;
-use std::alloc::{AllocError, Global};
+use std::alloc::Global;
 use std::process::Abort;
 use stream_rows::modes::PLAIN;
+use template_tests::growths::{refuse_growths, spare_growths};
 use test_rows::{Tried, rows};
 
 // More than the bytes of any stream here; a machine asks how many it is fed.
@@ -26,23 +25,21 @@ struct Row {
     refused: bool,
 }
 
-// Whether a machine that is new refuses a stream.
-fn is_refused(machine: &mut Machine<'_, Writer, SlotEntries<'_>>, stream: &[u8]) -> Tried<bool>
-    requires { machine.now.fed ≡ 0 }
-{
-    if stream.len() > LONGEST || granted(machine.feed(stream).err())?.is_some() {
+type Relaying<'a> = Machine<'a, Writer, SlotEntries<'a>>;
+
+// Whether a machine refuses a stream.
+fn is_refused(machine: &mut Relaying<'_>, stream: &[u8]) -> Tried<bool> {
+    if machine.fed() > LONGEST as u64 || stream.len() > LONGEST {
+        return Ok(true);
+    }
+    if granted(machine.feed(stream).err())?.is_some() {
         return Ok(true);
     }
     Ok(machine.finish().is_err())
 }
 
 // What waits in a machine is ready as a whole, and nothing waits once it is handed on.
-fn waits(
-    rt: &impl Abort,
-    alloc: Global,
-    machine: &mut Machine<'_, Writer, SlotEntries<'_>>,
-    canonical: &[u8],
-) -> Tried {
+fn waits(rt: &impl Abort, alloc: Global, machine: &mut Relaying<'_>, canonical: &[u8]) -> Tried {
     same(rt, machine.receiver.finished(), canonical);
     same(rt, machine.receiver.hand_on(alloc)?, false);
     same(rt, machine.receiver.finished().len(), 0);
@@ -50,101 +47,70 @@ fn waits(
 }
 
 // A machine that is new makes the canonical bytes of a row.
-fn relays(
-    rt: &impl Abort,
-    alloc: Global,
-    machine: &mut Machine<'_, Writer, SlotEntries<'_>>,
-    row: &Row,
-) -> Tried
-    requires { machine.now.fed ≡ 0 }
-{
-    let refused = is_refused(machine, row.stream);
-    // also where memory was refused
-    same(
-        rt,
-        row.canonical.starts_with(machine.receiver.finished()),
-        true,
-    );
-    same(rt, refused?, row.refused);
-    waits(rt, alloc, machine, row.canonical)
-}
-
-// A stream all of whose growths are the reading's own, or all the writer's and the entries'.
-struct Growing {
-    stream: &'static [u8],
-    of_receiver: bool,
-}
-
-// Where memory is refused, a machine that is new knows whose growth it was.
-fn tells_apart(
-    rt: &impl Abort,
-    machine: &mut Machine<'_, Writer, SlotEntries<'_>>,
-    row: &Growing,
-) -> Tried
-    requires { machine.now.fed ≡ 0 }
-{
-    match is_refused(machine, row.stream) {
-        Err(AllocError) => {
-            same(rt, machine.receiver_refused(), row.of_receiver);
-            Err(AllocError)
-        }
-        Ok(_) => {
-            same(rt, machine.receiver_refused(), false);
-            Ok(())
-        }
-    }
-}
-
-// What a machine must do.
-#[derive(Clone, Copy)]
-enum Task<'a> {
-    Relay(&'a Row),
-    TellApart(&'a Growing),
-}
-
-// A machine that is new does.
-fn fulfils(
-    rt: &impl Abort,
-    alloc: Global,
-    machine: &mut Machine<'_, Writer, SlotEntries<'_>>,
-    task: &Task,
-) -> Tried
-    requires { machine.now.fed ≡ 0 }
-{
-    match task {
-        Task::Relay(row) => relays(rt, alloc, machine, row),
-        Task::TellApart(row) => tells_apart(rt, machine, row),
-    }
-}
-
-// A machine over a writer does.
-fn is_done(rt: &impl Abort, alloc: Global, set: &TemplateSet, task: &Task) -> Tried {
+fn is_relayed(rt: &impl Abort, alloc: Global, set: &TemplateSet, row: &Row) -> Tried {
     let entries = slots_of(alloc, set)?;
     let mut machine = Machine::new(alloc, set, PLAIN, Writer::new(alloc), entries);
-    fulfils(rt, alloc, &mut machine, task)
+    let refused = is_refused(&mut machine, row.stream);
+    // also where memory was refused
+    let is_front = row.canonical.starts_with(machine.receiver.finished());
+    same(rt, is_front, true);
+    same(rt, refused?, row.refused);
+    waits(rt, alloc, &mut machine, row.canonical)
 }
 
 fn all_relayed(rt: &impl Abort, alloc: Global, rows: &[Row]) -> Tried {
     let set = worked(rt, alloc)?;
     for row in rows {
-        is_done(rt, alloc, &set, &Task::Relay(row))?;
+        is_relayed(rt, alloc, &set, row)?;
     }
+    Ok(())
+}
+
+// A stream behind another one, whose growths are spared: all of its own are the reading's, or all the writer's and the
+// entries'.
+struct Growing {
+    before: &'static [u8],
+    stream: &'static [u8],
+    of_receiver: bool,
+}
+
+// The machine has room for what is like this stream.
+fn makes_room(alloc: Global, machine: &mut Relaying<'_>, stream: &[u8]) -> Tried<bool> {
+    spare_growths(alloc)?;
+    let refused = is_refused(machine, stream)?;
+    machine.receiver.hand_on(alloc)?;
+    refuse_growths(alloc)?;
+    Ok(refused)
+}
+
+// Where memory is refused, a machine knows whose growth it was.
+fn tells_apart(rt: &impl Abort, alloc: Global, set: &TemplateSet, row: &Growing) -> Tried {
+    let entries = slots_of(alloc, set)?;
+    let mut machine = Machine::new(alloc, set, PLAIN, Writer::new(alloc), entries);
+    same(rt, makes_room(alloc, &mut machine, row.before)?, false);
+    let refused = is_refused(&mut machine, row.stream);
+    let blames_receiver = refused.is_err() && row.of_receiver;
+    same(rt, machine.receiver_refused(), blames_receiver);
+    refused?;
     Ok(())
 }
 
 // (`bench/refused.py` refuses each growth)
 #[test]
 fn growths_are_told_apart(rt: HostRuntime) -> Tried {
-    const ROWS: &[Growing] = rows! { Growing { stream, of_receiver }:
-        // the bytes of a map that is not whole (one that is, is the writer's too)
-        b"\x40", false;
-        b"\x40\x00\x00\x00\x00\x00\x00\x00\x00\x00", false;
+    const ROWS: &[Growing] = rows! { Growing { before, stream, of_receiver }:
+        // the bytes of a map that is not whole
+        b"", b"\x40", false;
+        b"", b"\x40\x00\x00\x00\x00\x00\x00\x00\x00\x00", false;
+        // the bits of a map of ten bytes, which the writer has room for, and the bytes of an identifier
+        b"\x70\x00\x00\x00\x00\x00\x00\x00\x00\x80\x81\x81\x41\xc2\xfe\x00\xe4",
+            b"\x40\x00\x00\x00\x00\x00\x00\x00\x00\x80\x01", false;
         // maps, numbers and texts, and their entries
-        b"\xf0\x81\x81\x41\xc2\xfe\x00\xe4", true;
+        b"", b"\xf0\x81\x81\x41\xc2\xfe\x00\xe4", true;
     };
     let set = worked(&rt, rt.alloc())?;
     for row in ROWS {
-        is_done(&rt, rt.alloc(), &set, &Task::TellApart(row))?;
+        tells_apart(&rt, rt.alloc(), &set, row)?;
     }
     Ok(())
 }
