@@ -2,22 +2,16 @@
 #![tactic(auto)]
 
 /// The templates of the lines.
-pub const TEMPLATES: &str = r#"{"templates":[
-{"name":"Quote","id":1,"instructions":[
- {"kind":"uInt32","name":"Seq","operator":"increment"},
- {"kind":"string","name":"Sym","operator":"copy"},
+pub const TEMPLATES: &str = r#"{"templates":[{"name":"Quote","id":1,"instructions":[
+ {"kind":"uInt32","name":"Seq","operator":"increment"},{"kind":"string","name":"Sym","operator":"copy"},
  {"kind":"decimal","name":"Px","operator":"delta"},
  {"kind":"uInt32","name":"Qty","presence":"optional","operator":"copy"},
  {"kind":"byteVector","name":"B","presence":"optional"},
  {"kind":"string","charset":"unicode","name":"U","presence":"optional"},
- {"kind":"int64","name":"I","presence":"optional"}]},
-{"name":"Legs","id":4,"instructions":[
- {"kind":"sequence","name":"L","instructions":[
-  {"kind":"uInt32","name":"P"},
-  {"kind":"uInt32","name":"P","presence":"optional"}]},
- {"kind":"string","name":"K","operator":"constant","value":"x"}]},
-{"name":"NoId","instructions":[]},
-{"name":"Empty","id":9,"instructions":[]}]}"#;
+ {"kind":"int64","name":"I","presence":"optional"}]},{"name":"Legs","id":4,"instructions":[
+ {"kind":"sequence","name":"L","instructions":[{"kind":"uInt32","name":"P"},
+ {"kind":"uInt32","name":"P","presence":"optional"}]},{"kind":"string","name":"K","operator":"constant","value":"x"}]},
+ {"name":"NoId","instructions":[]},{"name":"Empty","id":9,"instructions":[]}]}"#;
 
 /// A row each: a line that stands alone, and the digits that are written of it or what is said of it. (In a text, since
 /// the proof of a table takes longer with each value in it.)
@@ -126,21 +120,10 @@ pub struct LineRow<'a> {
 
 /// What a row has; nothing is written of one without an answer, and nothing said.
 pub fn row_of(row: &str) -> LineRow<'_> {
-    match row.split_once(" => ") {
-        Some((line, said)) if said.starts_with("refused") => LineRow {
-            line,
-            out: "\n",
-            said,
-        },
-        Some((line, out)) => LineRow {
-            line,
-            out,
-            said: "",
-        },
-        None => LineRow {
-            line: row,
-            out: "",
-            said: "",
-        },
-    }
+    let (line, out, said) = match row.split_once(" => ") {
+        Some((line, said)) if said.starts_with("refused") => (line, "\n", said),
+        Some((line, out)) => (line, out, ""),
+        None => (row, "", ""),
+    };
+    LineRow { line, out, said }
 }

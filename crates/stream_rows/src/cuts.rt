@@ -1,7 +1,8 @@
 //! Streams that are cut behind each of their bytes.
 
-use crate::ends::End;
-use fast_stream::{Cause, Fault};
+use crate::ends::End::At;
+use fast_stream::Cause::{Read, Truncated};
+use fast_stream::Fault;
 use test_rows::rows;
 
 /// A stream that is canonical itself, the lines of its messages, and behind each of its bytes the offset, the template
@@ -97,13 +98,13 @@ impl Front {
     pub fn truncated(self) -> Option<Fault> {
         let (offset, template, instruction) = self.missing?;
         let message = self.messages.saturating_add(1);
-        End::Fault(Cause::Truncated, message, offset, template, instruction).fault()
+        At(Truncated, message, offset, template, instruction).fault()
     }
 
     /// Why the stream is refused where the read that is to give the next byte fails.
     pub fn unread(self) -> Option<Fault> {
         let (offset, template, instruction) = self.missing.unwrap_or((self.bytes as u64, 0, 0));
         let message = self.messages.saturating_add(1);
-        End::Fault(Cause::Read, message, offset, template, instruction).fault()
+        At(Read, message, offset, template, instruction).fault()
     }
 }

@@ -6,35 +6,30 @@ use fast_stream::{Cause, Fault, Place};
 #[derive(Clone, Copy)]
 pub enum End {
     Whole,
-    Fault(Cause, u64, u64, u32, u32),
+    At(Cause, u64, u64, u32, u32),
 }
 
 impl End {
     pub fn of(fault: Option<Fault>) -> End {
         match fault {
             None => End::Whole,
-            Some(Fault { cause, place }) => End::Fault(
-                cause,
-                place.message,
-                place.offset,
-                place.template,
-                place.instruction,
-            ),
+            Some(Fault { cause, place }) => {
+                let (template, instruction) = (place.template, place.instruction);
+                End::At(cause, place.message, place.offset, template, instruction)
+            }
         }
     }
 
     pub fn fault(self) -> Option<Fault> {
-        match self {
-            End::Whole => None,
-            End::Fault(cause, message, offset, template, instruction) => Some(Fault {
-                cause,
-                place: Place {
-                    message,
-                    offset,
-                    template,
-                    instruction,
-                },
-            }),
-        }
+        let End::At(cause, message, offset, template, instruction) = self else {
+            return None;
+        };
+        let place = Place {
+            message,
+            offset,
+            template,
+            instruction,
+        };
+        Some(Fault { cause, place })
     }
 }

@@ -2,7 +2,8 @@
 
 use fast_stream::{Fault, Framing, Mode};
 use fast_wire::Level;
-use std::alloc::{AllocError, Global};
+use std::alloc::Global;
+use test_rows::Tried;
 
 /// Plain messages, at the usual level.
 pub const PLAIN: Mode = Mode {
@@ -46,7 +47,7 @@ impl InMode {
 }
 
 // A stream without a size.
-fn plainly(alloc: Global, mode: Mode, plain: &[u8]) -> Result<InMode, AllocError> {
+fn plainly(alloc: Global, mode: Mode, plain: &[u8]) -> Tried<InMode> {
     Ok(InMode {
         mode,
         stream: plain.to_vec(alloc)?,
@@ -55,7 +56,7 @@ fn plainly(alloc: Global, mode: Mode, plain: &[u8]) -> Result<InMode, AllocError
 }
 
 // The size of a block, in one byte or in three.
-fn size_of(alloc: Global, size: usize) -> Result<Vec<u8>, AllocError> {
+fn size_of(alloc: Global, size: usize) -> Tried<Vec<u8>> {
     let last = 128 | (size % 128) as u8;
     if size < 128 {
         return Ok(vec![in alloc; last]?);
@@ -64,7 +65,7 @@ fn size_of(alloc: Global, size: usize) -> Result<Vec<u8>, AllocError> {
 }
 
 // A stream in one block that has room for so many bytes more.
-fn in_block(alloc: Global, plain: &[u8], more: usize) -> Result<InMode, AllocError> {
+fn in_block(alloc: Global, plain: &[u8], more: usize) -> Tried<InMode> {
     let mut stream = size_of(alloc, plain.len().saturating_add(more))?;
     let front = stream.len();
     stream.extend_from_slice(plain)?;
@@ -77,11 +78,7 @@ fn in_block(alloc: Global, plain: &[u8], more: usize) -> Result<InMode, AllocErr
 
 /// A stream in plain framing at both levels, and in one block. A stream that is refused has a block with room for one
 /// byte more, so that it does not end too early.
-pub fn in_each_mode(
-    alloc: Global,
-    plain: &[u8],
-    is_refused: bool,
-) -> Result<Vec<InMode>, AllocError> {
+pub fn in_each_mode(alloc: Global, plain: &[u8], is_refused: bool) -> Tried<Vec<InMode>> {
     let mut streams = Vec::new(alloc);
     streams.push(plainly(alloc, PLAIN, plain)?)?;
     streams.push(plainly(alloc, STRICT, plain)?)?;

@@ -38,15 +38,12 @@ pub struct Nested {
 
 /// Rows of these templates.
 pub const NESTED_ROWS: &[Nested] = rows! { Nested { stream, messages, lines }:
-    b"\xc0\x81\xc0\x85\x80\x80", 2,
-        "1 Groups G1={G2={G3={G4={G5={G6={G7={G8={A=5}}}}}}}}\n\
+    b"\xc0\x81\xc0\x85\x80\x80", 2, "1 Groups G1={G2={G3={G4={G5={G6={G7={G8={A=5}}}}}}}}\n\
             1 Groups G1={G2={G3={G4={G5={G6={G7={G8={A=5}}}}}}}}\n";
     b"\xe0\x82\xc0\xc0\xc0\xc0\xc0\xc0\xc0\xc0\x85\xa0\xc0\xc0\xc0\xc0\xc0\xc0\x80\x80", 3,
-        "2 Maybe G1={G2={G3={G4={G5={G6={G7={G8={A=5}}}}}}}}\n\
-            2 Maybe G1={G2={G3={G4={G5={G6={G7={G8=-}}}}}}}\n\
+        "2 Maybe G1={G2={G3={G4={G5={G6={G7={G8={A=5}}}}}}}}\n2 Maybe G1={G2={G3={G4={G5={G6={G7={G8=-}}}}}}}\n\
             2 Maybe G1=-\n";
     b"\xc0\x83\x81\x81\x81\x81\x81\x81\x81\x82\xc0\x85\x80", 1,
         "3 Rows S1=[{S2=[{S3=[{S4=[{S5=[{S6=[{S7=[{S8=[{A=5} {A=5}]}]}]}]}]}]}]}]\n";
-    b"\xc0\x84\x81\x81\x81\x82\xc0\x85\x80", 1,
-        "4 Mixed G1={S2=[{G3={S4=[{G5={S6=[{G7={S8=[{A=5} {A=5}]}}]}}]}}]}\n";
+    b"\xc0\x84\x81\x81\x81\x82\xc0\x85\x80", 1, "4 Mixed G1={S2=[{G3={S4=[{G5={S6=[{G7={S8=[{A=5} {A=5}]}}]}}]}}]}\n";
 };

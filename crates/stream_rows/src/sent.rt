@@ -3,9 +3,10 @@
 use fast_stream::{Message, Node};
 use fast_template::{ByteString, Scalar, UnicodeText};
 use std::alloc::{AllocError, Global};
+use test_rows::Tried;
 
 /// A node of ASCII characters.
-pub fn text(alloc: Global, characters: &[u8]) -> Result<Node, AllocError> {
+pub fn text(alloc: Global, characters: &[u8]) -> Tried<Node> {
     let characters = ByteString::from_vec(characters.to_vec(alloc)?);
     Ok(Node::Value(Scalar::Ascii(characters)))
 }
@@ -29,12 +30,7 @@ pub enum Shown {
     Repeated(usize, &'static [u32]),
 }
 
-fn vector(alloc: Global, bytes: &[u8]) -> Result<Node, AllocError> {
-    let bytes = bytes.to_vec(alloc)?;
-    Ok(Node::Value(Scalar::Bytes(ByteString::from_vec(bytes))))
-}
-
-fn numbers(alloc: Global, values: &[u32]) -> Result<Vec<Node>, AllocError> {
+fn numbers(alloc: Global, values: &[u32]) -> Tried<Vec<Node>> {
     let mut nodes = Vec::new(alloc);
     for value in values {
         nodes.push(Node::Value(Scalar::U32(*value)))?;
@@ -42,21 +38,17 @@ fn numbers(alloc: Global, values: &[u32]) -> Result<Vec<Node>, AllocError> {
     Ok(nodes)
 }
 
-fn letters(alloc: Global, count: usize) -> Result<Node, AllocError> {
-    text(alloc, &vec![in alloc; 0x41; count]?)
-}
-
-fn unicode(alloc: Global, characters: &str) -> Result<Node, AllocError> {
+fn unicode(alloc: Global, characters: &str) -> Tried<Node> {
     let characters = UnicodeText::from_string(String::from_str(alloc, characters)?);
     Ok(Node::Value(Scalar::Unicode(characters)))
 }
 
-fn group_in_group(alloc: Global, values: &[u32]) -> Result<Node, AllocError> {
+fn group_in_group(alloc: Global, values: &[u32]) -> Tried<Node> {
     let inner = Node::Group(numbers(alloc, values)?);
     Ok(Node::Group(vec![in alloc; inner]?))
 }
 
-fn repeated(alloc: Global, count: usize, values: &[u32]) -> Result<Node, AllocError> {
+fn repeated(alloc: Global, count: usize, values: &[u32]) -> Tried<Node> {
     let mut elements = Vec::new(alloc);
     for _ in 0..count {
         elements.push(numbers(alloc, values)?)?;
@@ -73,7 +65,7 @@ fn elements(alloc: Global, rows: &[&[u32]]) -> Result<Vec<Vec<Node>>, AllocError
 }
 
 impl Shown {
-    fn node(self, alloc: Global) -> Result<Node, AllocError> {
+    fn node(self, alloc: Global) -> Tried<Node> {
         match self {
             Shown::Absent => Ok(Node::Absent),
             Shown::Number(value) => Ok(Node::Value(Scalar::U32(value))),
@@ -82,9 +74,12 @@ impl Shown {
                 Ok(Node::Value(Scalar::Decimal { exponent, mantissa }))
             }
             Shown::Text(bytes) => text(alloc, bytes),
-            Shown::Letters(count) => letters(alloc, count),
+            Shown::Letters(count) => text(alloc, &vec![in alloc; 0x41; count]?),
             Shown::Unicode(characters) => unicode(alloc, characters),
-            Shown::Bytes(bytes) => vector(alloc, bytes),
+            Shown::Bytes(bytes) => {
+                let bytes = ByteString::from_vec(bytes.to_vec(alloc)?);
+                Ok(Node::Value(Scalar::Bytes(bytes)))
+            }
             Shown::Group(values) => Ok(Node::Group(numbers(alloc, values)?)),
             Shown::GroupInGroup(values) => group_in_group(alloc, values),
             Shown::Sequence(rows) => Ok(Node::Sequence(elements(alloc, rows)?)),
@@ -96,23 +91,14 @@ impl Shown {
 /// A message of a row: its template, and its fields.
 pub struct Sent(pub u32, pub &'static [Shown]);
 
-impl Sent {
-    fn message(&self, alloc: Global) -> Result<Message, AllocError> {
-        let mut fields = Vec::new(alloc);
-        for field in self.1 {
+pub fn messages(alloc: Global, rows: &[Sent]) -> Tried<Vec<Message>> {
+    let mut messages = Vec::new(alloc);
+    for Sent(template, shown) in rows {
+        let (template, mut fields) = (*template, Vec::new(alloc));
+        for field in *shown {
             fields.push(field.node(alloc)?)?;
         }
-        Ok(Message {
-            template: self.0,
-            fields,
-        })
-    }
-}
-
-pub fn messages(alloc: Global, rows: &[Sent]) -> Result<Vec<Message>, AllocError> {
-    let mut messages = Vec::new(alloc);
-    for row in rows {
-        messages.push(row.message(alloc)?)?;
+        messages.push(Message { template, fields })?;
     }
     Ok(messages)
 }

@@ -1,17 +1,14 @@
 //! Templates that are built. A row describes them in constants, and what takes memory is made of it in a function for
 //! each kind of thing.
 
+use crate::base::*;
 use crate::loads::Wanted::{Fault, Loaded};
-use crate::loads::{Wanted, answers, loaded};
-use crate::same::same;
+use crate::loads::answers;
 use fast_build::LoadCause::{
     Cycle, D8, DuplicateId, DuplicateName, S1, S2, S3, S4, S5, TooDeep, TooMany,
 };
-use fast_build::{Instruction, Load, Operation, Template};
-use fast_template::{FieldPart, Flat, FlatTemplate, Kind, Operator, Presence, Scalar, TemplateSet};
-use std::alloc::Global;
-use std::process::Abort;
-use test_rows::{Tried, rows};
+use fast_build::{Instruction, Operation, Template};
+use fast_template::FlatTemplate;
 
 fn text(alloc: Global, given: Option<&str>) -> Tried<Option<String>> {
     match given {
@@ -20,18 +17,13 @@ fn text(alloc: Global, given: Option<&str>) -> Tried<Option<String>> {
     }
 }
 
-fn operation(
-    alloc: Global,
-    operator: Operator,
-    initial: Option<&str>,
-    dictionary: Option<&str>,
-) -> Tried<Operation> {
-    Ok(Operation {
-        operator,
-        initial: text(alloc, initial)?,
-        dictionary: text(alloc, dictionary)?,
-        key: None,
-    })
+type Text<'a> = Option<&'a str>;
+
+fn operation(alloc: Global, operator: Operator, first: Text, within: Text) -> Tried<Operation> {
+    let mut operation = plainly(operator);
+    operation.initial = text(alloc, first)?;
+    operation.dictionary = text(alloc, within)?;
+    Ok(operation)
 }
 
 // A field of a row.
@@ -355,11 +347,8 @@ fn is_shared(rt: &impl Abort, set: &TemplateSet) {
     same(rt, set.name(6), Some("Shared"));
     same(rt, set.find(7).is_none(), true);
     let flats = members_of(set.find(5));
-    have_keys(
-        rt,
-        flats,
-        &[(1, 1, "X"), (2, 2, "Y"), (3, 3, "L"), (6, 4, "F")],
-    );
+    let keys = [(1, 1, "X"), (2, 2, "Y"), (3, 3, "L"), (6, 4, "F")];
+    have_keys(rt, flats, &keys);
     have_keys(rt, elements_of(flats.get(2)), &[(4, 1, "X"), (5, 2, "Y")]);
     begin_with_seven(rt, members_of(set.find(6)));
 }

@@ -1,16 +1,12 @@
 //! Texts that are loaded.
 
+use crate::base::*;
 use crate::loads::Wanted::{Fault, Loaded};
-use crate::loads::{Wanted, answers, loaded};
-use crate::same::same;
+use crate::loads::answers;
+use crate::texts::DOUBLED;
 use fast_build::LoadCause::{
     Cycle, D8, DuplicateId, DuplicateName, S1, S2, S3, S4, S5, TooDeep, TooMany,
 };
-use fast_build::{Load, LoadCause};
-use fast_template::TemplateSet;
-use std::alloc::Global;
-use std::process::Abort;
-use test_rows::{Tried, rows};
 
 // A text is loaded, or has this fault.
 fn is_judged(rt: &impl Abort, alloc: Global, text: &str, wanted: Wanted) -> Tried {
@@ -27,42 +23,6 @@ struct Row {
     text: &'static str,
     wanted: Wanted,
 }
-
-fn all_judged(rt: &impl Abort, alloc: Global, rows: &[Row]) -> Tried {
-    for row in rows {
-        is_judged(rt, alloc, row.text, row.wanted)?;
-    }
-    Ok(())
-}
-
-// The same, of templates of these instructions.
-fn each_judged(rt: &impl Abort, alloc: Global, rows: &[Row]) -> Tried {
-    for row in rows {
-        is_judged(rt, alloc, &one(alloc, row.text)?, row.wanted)?;
-    }
-    Ok(())
-}
-
-// Seventeen templates, each of which refers to the next one twice; the last has one field. As one text it is proved much
-// faster than what would write it.
-const DOUBLING: &str = r#"{"templates":[
-{"name":"N1","instructions":[{"kind":"templateRef","name":"N2"},{"kind":"templateRef","name":"N2"}]},
-{"name":"N2","instructions":[{"kind":"templateRef","name":"N3"},{"kind":"templateRef","name":"N3"}]},
-{"name":"N3","instructions":[{"kind":"templateRef","name":"N4"},{"kind":"templateRef","name":"N4"}]},
-{"name":"N4","instructions":[{"kind":"templateRef","name":"N5"},{"kind":"templateRef","name":"N5"}]},
-{"name":"N5","instructions":[{"kind":"templateRef","name":"N6"},{"kind":"templateRef","name":"N6"}]},
-{"name":"N6","instructions":[{"kind":"templateRef","name":"N7"},{"kind":"templateRef","name":"N7"}]},
-{"name":"N7","instructions":[{"kind":"templateRef","name":"N8"},{"kind":"templateRef","name":"N8"}]},
-{"name":"N8","instructions":[{"kind":"templateRef","name":"N9"},{"kind":"templateRef","name":"N9"}]},
-{"name":"N9","instructions":[{"kind":"templateRef","name":"N10"},{"kind":"templateRef","name":"N10"}]},
-{"name":"N10","instructions":[{"kind":"templateRef","name":"N11"},{"kind":"templateRef","name":"N11"}]},
-{"name":"N11","instructions":[{"kind":"templateRef","name":"N12"},{"kind":"templateRef","name":"N12"}]},
-{"name":"N12","instructions":[{"kind":"templateRef","name":"N13"},{"kind":"templateRef","name":"N13"}]},
-{"name":"N13","instructions":[{"kind":"templateRef","name":"N14"},{"kind":"templateRef","name":"N14"}]},
-{"name":"N14","instructions":[{"kind":"templateRef","name":"N15"},{"kind":"templateRef","name":"N15"}]},
-{"name":"N15","instructions":[{"kind":"templateRef","name":"N16"},{"kind":"templateRef","name":"N16"}]},
-{"name":"N16","instructions":[{"kind":"templateRef","name":"N17"},{"kind":"templateRef","name":"N17"}]},
-{"name":"N17","instructions":[{"kind":"uInt32","name":"F"}]}]}"#;
 
 #[test]
 fn texts_are_judged(rt: HostRuntime) -> Tried {
@@ -94,12 +54,13 @@ fn texts_are_judged(rt: HostRuntime) -> Tried {
         r#"{"templates":[{"name":"A","instructions":[{"kind":"templateRef","name":"A"}]}]}"#, Fault(Cycle, 1, 0);
         r#"{"templates":[{"name":"A","instructions":[{"kind":"templateRef","name":"Nobody"}]}]}"#, Fault(D8, 1, 1);
         r#"{"templates":[{"name":"A","instructions":[]},{"name":"A","instructions":[]}]}"#, Fault(DuplicateName, 2, 0);
-        r#"{"templates":[{"name":"A","id":1,"instructions":[]},
-                {"name":"B","id":1,"instructions":[]}]}"#,
-            Fault(DuplicateId, 2, 0);
-        DOUBLING, Fault(TooMany, 1, 0);
+        r#"{"templates":[{"name":"A","id":1,"instructions":[]},{"name":"B","id":1,"instructions":[]}]}"#, Fault(DuplicateId, 2, 0);
+        DOUBLED, Fault(TooMany, 1, 0);
     };
-    all_judged(&rt, rt.alloc(), ROWS)
+    for row in ROWS {
+        is_judged(&rt, rt.alloc(), row.text, row.wanted)?;
+    }
+    Ok(())
 }
 
 #[test]
@@ -116,8 +77,7 @@ fn instructions_are_judged(rt: HostRuntime) -> Tried {
         r#"{"kind":"uInt32","name":""},{"kind":"x","name":"F"}"#, Fault(S1, 1, 2);
         // an exponent's checks come before its mantissa's
         r#"{"kind":"decimal","name":"F",
-                "exponent":{"operator":"copy","value":"64"},"mantissa":{"operator":"tail"}}"#,
-            Fault(S3, 1, 1);
+                "exponent":{"operator":"copy","value":"64"},"mantissa":{"operator":"tail"}}"#, Fault(S3, 1, 1);
         // a mantissa alone: the exponent is as if it were empty
         r#"{"kind":"decimal","name":"F","mantissa":{"operator":"copy"}}"#, Loaded;
         r#"{"kind":"uInt32","name":"F","presence":"optional","operator":"default"}"#, Loaded;
@@ -144,22 +104,17 @@ fn instructions_are_judged(rt: HostRuntime) -> Tried {
                 {"kind":"group","name":"G","instructions":[{"kind":"group","name":"G","instructions":[
                 {"kind":"group","name":"G","instructions":[{"kind":"group","name":"G","instructions":[
                 {"kind":"group","name":"G","instructions":[
-                ]}]}]}]}]}]}]}]}]}"#,
-            Fault(TooDeep, 1, 0);
+                ]}]}]}]}]}]}]}]}]}"#, Fault(TooDeep, 1, 0);
         r#"{"kind":"group","name":"G","instructions":[{"kind":"group","name":"G","instructions":[
                 {"kind":"group","name":"G","instructions":[{"kind":"group","name":"G","instructions":[
                 {"kind":"group","name":"G","instructions":[{"kind":"group","name":"G","instructions":[
                 {"kind":"group","name":"G","instructions":[{"kind":"group","name":"G","instructions":[
-                ]}]}]}]}]}]}]}]}"#,
-            Loaded;
+                ]}]}]}]}]}]}]}]}"#, Loaded;
     };
-    each_judged(&rt, rt.alloc(), ROWS)
-}
-
-// The name of a template in a text, where the text is loaded.
-fn is_named(rt: &impl Abort, alloc: Global, text: &str, id: u32, name: &str) -> Tried {
-    let set = loaded(rt, TemplateSet::from_json(alloc, text.as_bytes()))?;
-    same(rt, set.name(id), Some(name));
+    for row in ROWS {
+        let text = one(rt.alloc(), row.text)?;
+        is_judged(&rt, rt.alloc(), &text, row.wanted)?;
+    }
     Ok(())
 }
 
@@ -168,5 +123,7 @@ fn of_a_key_that_stands_twice_the_last_is_read(rt: HostRuntime) -> Tried {
     let wanted = Wanted::Fault(LoadCause::S1, 0, 0);
     answers(&rt, TemplateSet::from_json(rt.alloc(), &[0xFF]), wanted)?;
     let twice = "{\"templates\":[{\"id\":\"x\",\"name\":\"A\",\"id\":7,\"instructions\":[]}]}";
-    is_named(&rt, rt.alloc(), twice, 7, "A")
+    let set = loaded(&rt, TemplateSet::from_json(rt.alloc(), twice.as_bytes()))?;
+    same(&rt, set.name(7), Some("A"));
+    Ok(())
 }

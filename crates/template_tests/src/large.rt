@@ -1,16 +1,10 @@
 //! Sets of many templates, and long initial values that many templates share.
 
+use crate::base::*;
 use crate::building::{
-    Described, Field, Made, PLAIN, Row, all_judged, built, doubling, members_of, numbered,
-    of_number,
+    Described, Field, Made, PLAIN, Row, all_judged, built, doubling, numbered, of_number,
 };
-use crate::loads::{Wanted, loaded};
-use crate::same::same;
-use fast_build::{Load, LoadCause, Template};
-use fast_template::{Flat, Kind, Operator, Scalar, TemplateSet};
-use std::alloc::Global;
-use std::process::Abort;
-use test_rows::{Tried, rows};
+use fast_build::Template;
 
 // A template of one number that may be given by bit 0, with a name of its own.
 fn with_key(alloc: Global, number: u32) -> Tried<Template> {
@@ -114,16 +108,9 @@ fn a_long_value_is_shared_by_all_references(rt: HostRuntime) -> Tried {
 // No level takes a part of the stack, neither where the groups are looked at nor where they are dropped.
 #[test]
 fn a_million_groups_in_groups_are_too_deep(rt: HostRuntime) -> Tried {
-    const ROWS: &[Row] = &[Row {
-        templates: &[
-            ("A", Some(1), &[]),
-            (
-                "B",
-                Some(2),
-                &[Made::Groups(1_000_000, &Made::Field(PLAIN))],
-            ),
-        ],
-        wanted: Wanted::Fault(LoadCause::TooDeep, 2, 0),
-    }];
+    const ROWS: &[Row] = rows! { Row { templates, wanted }:
+        &[("A", Some(1), &[]), ("B", Some(2), &[Made::Groups(1_000_000, &Made::Field(PLAIN))])],
+            Wanted::Fault(LoadCause::TooDeep, 2, 0);
+    };
     all_judged(&rt, rt.alloc(), ROWS)
 }

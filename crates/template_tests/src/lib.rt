@@ -2,6 +2,8 @@
 #![tactic(auto)]
 
 #[cfg(test)]
+mod base;
+#[cfg(test)]
 mod building;
 pub mod generated;
 pub mod growths;
@@ -9,6 +11,7 @@ pub mod growths;
 mod json;
 #[cfg(test)]
 mod large;
+pub mod loaded;
 #[cfg(test)]
 mod loads;
 #[cfg(test)]

@@ -1,32 +1,25 @@
 //! What a load answers.
 
-use crate::same::same;
-use fast_build::{LoadCause, LoadFault};
-use fast_template::TemplateSet;
+use crate::base::*;
+use fast_build::LoadFault;
 use std::alloc::AllocError;
-use std::process::Abort;
-use test_rows::Tried;
+
+// What a load answers.
+pub(crate) type Load = Result<TemplateSet, LoadFault>;
 
 // What a load answers, where it is not refused for memory. Want of memory ends a test, so that one whose
 // allocations fail in turn ends with that error or with its row.
-fn granted(loaded: Result<TemplateSet, LoadFault>) -> Tried<Result<TemplateSet, LoadFault>> {
+fn granted(loaded: Load) -> Tried<Load> {
     match loaded {
-        Err(
-            LoadFault {
-                cause: LoadCause::Memory,
-                template: 0,
-                instruction: 0,
-            },
-        ) => Err(AllocError),
+        Err(fault) if Some(fault) == Wanted::Fault(LoadCause::Memory, 0, 0).fault() => {
+            Err(AllocError)
+        }
         other => Ok(other),
     }
 }
 
 // The set that is loaded.
-pub(crate) fn loaded(
-    rt: &impl Abort,
-    loaded: Result<TemplateSet, LoadFault>,
-) -> Tried<TemplateSet> {
+pub(crate) fn loaded(rt: &impl Abort, loaded: Load) -> Tried<TemplateSet> {
     match granted(loaded)? {
         Ok(set) => Ok(set),
         Err(_) => panic!(rt; "refused"),
@@ -54,11 +47,7 @@ impl Wanted {
 }
 
 // A load has the fault that is wanted, or none. Want of memory ends the test.
-pub(crate) fn answers(
-    rt: &impl Abort,
-    loaded: Result<TemplateSet, LoadFault>,
-    wanted: Wanted,
-) -> Tried {
+pub(crate) fn answers(rt: &impl Abort, loaded: Load, wanted: Wanted) -> Tried {
     same(rt, granted(loaded)?.err(), wanted.fault());
     Ok(())
 }

@@ -1,34 +1,18 @@
 //! Values, keys and what asks for a bit.
 
-use crate::building::members_of;
-use crate::loads::loaded;
-use crate::same::same;
-use fast_build::Load;
+use crate::base::*;
 use fast_template::{
-    ByteString, FieldPart, Flat, Key, Kind, Name, Operator, Part, Presence, Scalar, Scope,
-    TemplateSet, UnicodeText, has_map, needs_bit, part_needs_bit,
+    ByteString, Key, Name, Part, Scope, UnicodeText, has_map, needs_bit, part_needs_bit,
 };
-use std::alloc::Global;
-use std::process::Abort;
-use test_rows::{Tried, rows};
-
-fn name(alloc: Global, text: &str) -> Tried<Name> {
-    Name::of(alloc, text)
-}
+use test_rows::list;
 
 fn key(alloc: Global, scope: Scope, text: &str, part: Part) -> Tried<Key> {
     Ok(Key {
         slot: 3,
         scope,
-        name: name(alloc, text)?,
+        name: Name::of(alloc, text)?,
         part,
     })
-}
-
-// A value has an equal copy.
-fn has_a_copy(rt: &impl Abort, alloc: Global, value: Scalar) -> Tried {
-    same(rt, value.copy(alloc)?, value);
-    Ok(())
 }
 
 // A value of a row.
@@ -63,39 +47,29 @@ impl Value {
 
 #[test]
 fn copies_of_values_are_equal(rt: HostRuntime) -> Tried {
-    const VALUES: &[Value] = &[
-        Value::U32(4294967295),
-        Value::I32(-7942755),
-        Value::U64(18446744073709551615),
-        Value::I64(-9223372036854775808),
-        Value::Decimal(-2, 942755),
-        Value::Ascii(b"GEM6"),
-        Value::Unicode("é"),
-        Value::Bytes(&[0x0A, 0xFF]),
-    ];
+    const VALUES: &[Value] = list! {
+        Value::U32(4294967295), Value::I32(-7942755), Value::U64(18446744073709551615),
+        Value::I64(-9223372036854775808), Value::Decimal(-2, 942755), Value::Ascii(b"GEM6"), Value::Unicode("é"),
+        Value::Bytes(&[0x0A, 0xFF])
+    };
     for value in VALUES {
-        has_a_copy(&rt, rt.alloc(), value.scalar(rt.alloc())?)?;
+        let value = value.scalar(rt.alloc())?;
+        same(&rt, value.copy(rt.alloc())?, value);
     }
-    Ok(())
-}
-
-fn key_has_a_copy(rt: &impl Abort, key: &Key) -> Tried {
-    let copy = key.copy()?;
-    same(rt, &copy, key);
     Ok(())
 }
 
 #[test]
 fn copies_of_keys_are_equal(rt: HostRuntime) -> Tried {
-    let scope = Scope::User(name(rt.alloc(), "mine")?);
+    let scope = Scope::User(Name::of(rt.alloc(), "mine")?);
     let key = key(rt.alloc(), scope, "L", Part::Length)?;
-    key_has_a_copy(&rt, &key)
+    same(&rt, key.copy()?, key);
+    Ok(())
 }
 
 #[test]
 fn a_text_is_filled_again(rt: HostRuntime) -> Tried {
-    let alloc = rt.alloc();
-    let text = UnicodeText::from_string(String::from_str(alloc, "é")?);
+    let text = UnicodeText::from_string(String::from_str(rt.alloc(), "é")?);
     same(&rt, text.as_bytes(), [0xC3, 0xA9].as_slice());
     same(&rt, text.as_str(), "é");
     let mut bytes = text.into_bytes();
@@ -103,13 +77,6 @@ fn a_text_is_filled_again(rt: HostRuntime) -> Tried {
     let text = UnicodeText::from_utf8(bytes);
     same(&rt, text.into_string().as_str(), "");
     Ok(())
-}
-
-// An operator, and whether a mandatory and an optional field of it ask for a bit.
-struct Asking {
-    operator: Operator,
-    mandatory: bool,
-    optional: bool,
 }
 
 // A field whose key is its own.
@@ -125,19 +92,10 @@ fn field(alloc: Global) -> Tried<FieldPart> {
     })
 }
 
-fn asks(rt: &impl Abort, field: &mut FieldPart, rows: &[Asking]) {
-    for row in rows {
-        field.operator = row.operator;
-        field.presence = Presence::Mandatory;
-        same(rt, part_needs_bit(field), row.mandatory);
-        field.presence = Presence::Optional;
-        same(rt, part_needs_bit(field), row.optional);
-    }
-}
-
 #[test]
 fn bits_are_asked_for(rt: HostRuntime) -> Tried {
-    const ROWS: &[Asking] = rows! { Asking { operator, mandatory, optional }:
+    // an operator, and whether a mandatory and an optional field of it ask for a bit
+    const ROWS: &[(Operator, bool, bool)] = rows! {
         Operator::Plain, false, false;
         Operator::Constant, false, true;
         Operator::Default, true, true;
@@ -147,7 +105,13 @@ fn bits_are_asked_for(rt: HostRuntime) -> Tried {
         Operator::Tail, true, true;
     };
     let mut field = field(rt.alloc())?;
-    asks(&rt, &mut field, ROWS);
+    for (operator, mandatory, optional) in ROWS {
+        field.operator = *operator;
+        field.presence = Presence::Mandatory;
+        same(&rt, part_needs_bit(&field), *mandatory);
+        field.presence = Presence::Optional;
+        same(&rt, part_needs_bit(&field), *optional);
+    }
     Ok(())
 }
 
@@ -155,32 +119,28 @@ fn bits_are_asked_for(rt: HostRuntime) -> Tried {
 const DECIMAL: &[u8] = br#"{"templates":[{"name":"D","id":1,"instructions":[
     {"kind":"decimal","name":"Px","exponent":{"operator":"delta"},"mantissa":{"operator":"copy"}}]}]}"#;
 
-fn asks_for_a_map(rt: &impl Abort, members: &[Flat]) {
-    same(rt, members.len(), 1);
-    for decimal in members {
-        same(rt, needs_bit(decimal), false);
-    }
-    same(rt, has_map(members), true);
-    same(rt, has_map(&[]), false);
-}
-
 #[test]
 fn a_map_is_asked_for_by_a_mantissa(rt: HostRuntime) -> Tried {
     let set = loaded(&rt, TemplateSet::from_json(rt.alloc(), DECIMAL))?;
-    asks_for_a_map(&rt, members_of(set.find(1)));
+    let members = members_of(set.find(1));
+    same(&rt, members.len(), 1);
+    for decimal in members {
+        same(&rt, needs_bit(decimal), false);
+    }
+    same(&rt, has_map(members), true);
+    same(&rt, has_map(&[]), false);
     Ok(())
 }
 
 // Of one name, the key of an exponent is before that of a mantissa.
-fn is_before_mantissa(rt: &impl Abort, alloc: Global, exponent: &Key) -> Tried {
-    let mantissa = key(alloc, Scope::Global, "Px", Part::Mantissa)?;
-    let order = [*exponent < mantissa, *exponent != mantissa];
-    same(rt, order, [true, true]);
-    Ok(())
-}
-
 #[test]
 fn keys_are_ordered(rt: HostRuntime) -> Tried {
     let exponent = key(rt.alloc(), Scope::Global, "Px", Part::Exponent)?;
-    is_before_mantissa(&rt, rt.alloc(), &exponent)
+    let mantissa = key(rt.alloc(), Scope::Global, "Px", Part::Mantissa)?;
+    same(
+        &rt,
+        [exponent < mantissa, exponent != mantissa],
+        [true, true],
+    );
+    Ok(())
 }

@@ -7,8 +7,8 @@ use std::alloc::AllocError;
 pub type Tried<T = ()> = Result<T, AllocError>;
 
 /// A table: the values of a row are parted by commas, and each row ends in a semicolon. A heading names a struct and its
-/// fields, or a tuple struct; without one the rows are tuples. Where two dots stand for the fields, a row begins with
-/// the value that it differs from, and names the fields in which it does.
+/// fields, or a tuple struct; without one the rows are tuples. Where two dots stand for the fields, a row names
+/// those in which it differs from the value behind the dots, or, if none is there, from the one that it begins with.
 ///
 /// ```text
 /// const ROWS: &[Row] = rows! { Row { bytes, value }:
@@ -19,14 +19,15 @@ pub type Tried<T = ()> = Result<T, AllocError>;
 #[macro_export]
 macro_rules! rows {
     (@row $row:ident { $($name:ident),+ } $($value:expr),+) => { $row { $($name: $value),+ } };
+    ($row:ident { ..$base:ident }: $($($name:ident: $value:expr),+;)*) => { &[$($row { $($name: $value,)+ ..$base }),*] };
     ($row:ident { .. }: $($base:ident $(, $name:ident: $value:expr)*;)*) => { &[$($row { $($name: $value,)* ..$base }),*] };
     ($row:ident $names:tt: $($($value:expr),+;)*) => { &[$($crate::rows!(@row $row $names $($value),+)),*] };
     ($row:ident: $($($value:expr),+;)*) => { &[$($row($($value),+)),*] };
     ($($($value:expr),+;)*) => { &[$(($($value),+)),*] };
 }
 
-/// A list of words, on a line.
+/// A list, with as many entries on a line as stand there.
 #[macro_export]
-macro_rules! words {
-    ($($word:expr),+) => { &[$($word),+] };
+macro_rules! list {
+    ($($entry:expr),+) => { &[$($entry),+] };
 }
