@@ -2,11 +2,11 @@
 //! first in front, no last byte of zeros but the only one, and the stop bit on the last.
 
 use crate::forms::{Form, are_alike, is_written};
-use crate::same::same;
+use crate::same::{Wired, same};
 use fast_wire::{MapBuilder, WireFault};
 use std::alloc::Global;
 use std::process::Abort;
-use test_rows::rows;
+use test_rows::{list, rows};
 
 /// What is done to a builder, and what it writes.
 #[derive(Clone, Copy)]
@@ -22,14 +22,14 @@ enum Step<'a> {
 }
 
 // What is too long is refused, and nothing is appended.
-fn is_too_long(rt: &impl Abort, alloc: Global, map: &MapBuilder) -> Result<(), WireFault> {
+fn is_too_long(rt: &impl Abort, alloc: Global, map: &MapBuilder) -> Wired {
     let mut out = [0x91].to_vec(alloc)?;
     same(rt, map.write(&mut out), Err(WireFault::TooLong));
     same(rt, out.as_slice(), &[0x91]);
     Ok(())
 }
 
-fn push_all(map: &mut MapBuilder, times: usize, bits: &[bool]) -> Result<(), WireFault> {
+fn push_all(map: &mut MapBuilder, times: usize, bits: &[bool]) -> Wired {
     for _ in 0..times {
         for bit in bits {
             map.push(*bit)?;
@@ -38,31 +38,22 @@ fn push_all(map: &mut MapBuilder, times: usize, bits: &[bool]) -> Result<(), Wir
     Ok(())
 }
 
-fn takes_steps(
-    rt: &impl Abort,
-    alloc: Global,
-    map: &mut MapBuilder,
-    steps: &[Step],
-) -> Result<(), WireFault> {
+// A builder takes these steps.
+fn is_built(rt: &impl Abort, alloc: Global, steps: &[Step]) -> Wired {
+    let mut map = MapBuilder::new(alloc);
     for step in steps {
         match step {
-            Step::Push(times, bits) => push_all(map, *times, bits)?,
+            Step::Push(times, bits) => push_all(&mut map, *times, bits)?,
             Step::Clear => map.clear(),
-            Step::Gives(bytes) => is_written(rt, alloc, b"", map, bytes)?,
-            Step::TooLong => is_too_long(rt, alloc, map)?,
+            Step::Gives(bytes) => is_written(rt, alloc, b"", &map, bytes)?,
+            Step::TooLong => is_too_long(rt, alloc, &map)?,
         }
     }
     Ok(())
 }
 
-// A builder takes these steps.
-fn is_built(rt: &impl Abort, alloc: Global, steps: &[Step]) -> Result<(), WireFault> {
-    let mut map = MapBuilder::new(alloc);
-    takes_steps(rt, alloc, &mut map, steps)
-}
-
 #[test]
-fn maps_are_built(rt: HostRuntime) -> Result<(), WireFault> {
+fn maps_are_built(rt: HostRuntime) -> Wired {
     const ZERO: &[bool] = &[false];
     const ONE: &[bool] = &[true];
     const MIXED: &[bool] = &[true, false, true, false, true, false, true];
@@ -106,22 +97,18 @@ fn maps_are_built(rt: HostRuntime) -> Result<(), WireFault> {
 
 /// 1,792 bits fit 256 bytes. A 0 behind them changes nothing, and behind it a 1 is refused, with nothing appended.
 #[test]
-fn limits(rt: HostRuntime) -> Result<(), WireFault> {
+fn limits(rt: HostRuntime) -> Wired {
     let mut bytes = [0x7f; 256];
     bytes[255] = 0xff;
-    let steps: &[Step] = &[
-        Step::Push(1792, &[true]),
-        Step::Gives(&bytes),
-        Step::Push(1, &[false]),
-        Step::Gives(&bytes),
-        Step::Push(1, &[true]),
-        Step::TooLong,
-    ];
+    let steps: &[Step] = list! {
+        Step::Push(1792, &[true]), Step::Gives(&bytes), Step::Push(1, &[false]), Step::Gives(&bytes),
+        Step::Push(1, &[true]), Step::TooLong
+    };
     is_built(&rt, rt.alloc(), steps)
 }
 
 // A map of these bits is the same, written both ways.
-fn agrees(rt: &impl Abort, alloc: Global, bits: &[bool]) -> Result<(), WireFault> {
+fn agrees(rt: &impl Abort, alloc: Global, bits: &[bool]) -> Wired {
     let mut map = MapBuilder::new(alloc);
     push_all(&mut map, 1, bits)?;
     are_alike(rt, alloc, &map, Form::Map(bits))
@@ -129,7 +116,7 @@ fn agrees(rt: &impl Abort, alloc: Global, bits: &[bool]) -> Result<(), WireFault
 
 /// All lists of at most twelve bits.
 #[test]
-fn as_a_list_is_written(rt: HostRuntime) -> Result<(), WireFault> {
+fn as_a_list_is_written(rt: HostRuntime) -> Wired {
     for count in 0..=12 {
         for number in 0..1 << count {
             let mut bits = [false; 12];

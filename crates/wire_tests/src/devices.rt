@@ -5,17 +5,13 @@ use fast_io::{ByteInput, ByteOutput, Counted, Failed, ScriptInput, ScriptOutput}
 use std::alloc::AllocError;
 use std::io::{Read, Write};
 use std::process::Abort;
-use test_rows::Tried;
+use test_rows::{Tried, rows};
 
 /// The answers of four calls.
 fn four_pulls<R: ByteInput>(reader: &mut R) -> [Result<usize, Failed>; 4] {
     let mut buf = [0u8; 3];
-    [
-        reader.pull(&mut buf),
-        reader.pull(&mut buf),
-        reader.pull(&mut buf),
-        reader.pull(&mut buf),
-    ]
+    let (first, second) = (reader.pull(&mut buf), reader.pull(&mut buf));
+    [first, second, reader.pull(&mut buf), reader.pull(&mut buf)]
 }
 
 // A device takes so many of these bytes, for which it has room, and answers this to a flush. It fails for memory alone,
@@ -24,12 +20,11 @@ fn is_pushed<W: ByteOutput>(
     rt: &impl Abort,
     writer: &mut W,
     bytes: &[u8],
-    count: usize,
-    flushed: Result<(), Failed>,
+    answer: (usize, Result<(), Failed>),
 ) -> Tried {
     match writer.push(bytes) {
         Ok(taken) => {
-            same(rt, (taken, writer.flush()), (count, flushed));
+            same(rt, (taken, writer.flush()), answer);
             Ok(())
         }
         Err(_) => Err(AllocError),
@@ -38,7 +33,7 @@ fn is_pushed<W: ByteOutput>(
 
 // A device with room for two bytes whose flush fails.
 fn is_filled<W: ByteOutput>(rt: &impl Abort, writer: &mut W) -> Tried {
-    is_pushed(rt, writer, b"abc", 2, Err(Failed))?;
+    is_pushed(rt, writer, b"abc", (2, Err(Failed)))?;
     let given = [writer.push(b"c"), writer.push(b"")];
     same(rt, given, [Err(Failed), Ok(0)]);
     same(rt, writer.flush(), Err(Failed));
@@ -48,49 +43,37 @@ fn is_filled<W: ByteOutput>(rt: &impl Abort, writer: &mut W) -> Tried {
 #[test]
 fn pulls(rt: HostRuntime) {
     let mut whole = Counted::new(b"abcde".as_slice());
-    same(
-        &rt,
-        four_pulls(&mut &mut whole),
-        [Ok(3), Ok(2), Ok(0), Ok(0)],
-    );
+    let given = four_pulls(&mut &mut whole);
+    same(&rt, given, [Ok(3), Ok(2), Ok(0), Ok(0)]);
     let mut slow = Counted::new(ScriptInput::new(b"ab", 1, 2));
-    same(
-        &rt,
-        four_pulls(&mut slow),
-        [Ok(1), Err(Failed), Ok(1), Ok(0)],
-    );
+    let given = four_pulls(&mut slow);
+    same(&rt, given, [Ok(1), Err(Failed), Ok(1), Ok(0)]);
     same(&rt, slow.pull(&mut []), Ok(0));
 }
 
 #[test]
 fn pushes(rt: HostRuntime) -> Tried {
     let mut whole = Counted::new(Vec::new(rt.alloc()));
-    is_pushed(&rt, &mut &mut whole, b"abc", 3, Ok(()))?;
+    is_pushed(&rt, &mut &mut whole, b"abc", (3, Ok(())))?;
     let narrow = ScriptOutput::new(rt.alloc(), 2, true, true);
     is_filled(&rt, &mut Counted::new(narrow))
 }
 
 // A script gives so many bytes, or fails, and these stand in the buffer.
-fn reads(
-    rt: &impl Abort,
-    input: &mut ScriptInput,
-    buf: &mut [u8; 3],
-    most: usize,
-    count: Option<usize>,
-    stands: &[u8],
-) {
-    let given = input.read(&mut buf[..most.min(3)]).ok();
-    same(rt, given, count);
-    same(rt, buf.as_slice(), stands);
-}
-
 #[test]
 fn input_fails_where_it_says(rt: HostRuntime) {
+    const READS: &[(usize, Option<usize>, &[u8])] = rows! {
+        3, Some(2), b"ab\0";
+        3, None, b"ab\0";
+        1, Some(1), b"cb\0";
+    };
     let mut buf = [0u8; 3];
     let mut input = ScriptInput::new(b"abcde", 2, 2);
-    reads(&rt, &mut input, &mut buf, 3, Some(2), b"ab\0");
-    reads(&rt, &mut input, &mut buf, 3, None, b"ab\0");
-    reads(&rt, &mut input, &mut buf, 1, Some(1), b"cb\0");
+    for (most, count, stands) in READS {
+        let most = (*most).min(3);
+        same(&rt, input.read(&mut buf[..most]).ok(), *count);
+        same(&rt, buf.as_slice(), *stands);
+    }
 }
 
 // A script with room for two bytes.

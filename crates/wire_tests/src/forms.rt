@@ -1,14 +1,14 @@
 //! The vectors of every form, read, written and sized, and calls at their limits. A test is a table of rows, and what is
 //! done with a row stands in a function of its own: each value that lies at a `?` makes a proof longer.
 
-use crate::same::same;
+use crate::same::{Wired, same};
 use fast_wire::*;
 use std::alloc::Global;
 use std::process::Abort;
-use test_rows::rows;
+use test_rows::{list, rows};
 
 #[test]
-fn forms_are_written_and_read(rt: HostRuntime) -> Result<(), WireFault> {
+fn forms_are_written_and_read(rt: HostRuntime) -> Wired {
     const ROWS: &[(Form, &[u8])] = rows! {
         // unsigned integers
         Form::Unsigned(942_755), b"\x39\x45\xa3";
@@ -59,7 +59,10 @@ fn forms_are_written_and_read(rt: HostRuntime) -> Result<(), WireFault> {
         Form::Map(&[false, false, false, false, false, false, false, true]), b"\x00\xc0";
         Form::Map(&[false; 20]), b"\x80";
     };
-    all_agree(&rt, rt.alloc(), ROWS)
+    for (form, bytes) in ROWS {
+        agrees(&rt, rt.alloc(), *form, bytes)?;
+    }
+    Ok(())
 }
 
 #[test]
@@ -178,19 +181,19 @@ fn places_are_read(rt: HostRuntime) {
 /// What a reader answers that copies nothing: a value and the place after it.
 #[derive(Clone, Copy)]
 enum Read {
-    Unsigned(Result<(u128, usize), WireFault>),
-    Signed(Result<(i128, usize), WireFault>),
-    UnsignedNullable(Result<(Nullable<u128>, usize), WireFault>),
-    SignedNullable(Result<(Nullable<i128>, usize), WireFault>),
-    U64(Result<(u64, usize), WireFault>),
-    I64(Result<(i64, usize), WireFault>),
-    U64Nullable(Result<(Nullable<u64>, usize), WireFault>),
-    I64Nullable(Result<(Nullable<i64>, usize), WireFault>),
-    Text(Result<(Span, usize), WireFault>),
-    Vector(Result<(Span, usize), WireFault>),
-    TextNullable(Result<(Nullable<Span>, usize), WireFault>),
-    VectorNullable(Result<(Nullable<Span>, usize), WireFault>),
-    Utf8(Result<(), WireFault>),
+    Unsigned(Wired<(u128, usize)>),
+    Signed(Wired<(i128, usize)>),
+    UnsignedNullable(Wired<(Nullable<u128>, usize)>),
+    SignedNullable(Wired<(Nullable<i128>, usize)>),
+    U64(Wired<(u64, usize)>),
+    I64(Wired<(i64, usize)>),
+    U64Nullable(Wired<(Nullable<u64>, usize)>),
+    I64Nullable(Wired<(Nullable<i64>, usize)>),
+    Text(Wired<(Span, usize)>),
+    Vector(Wired<(Span, usize)>),
+    TextNullable(Wired<(Nullable<Span>, usize)>),
+    VectorNullable(Wired<(Nullable<Span>, usize)>),
+    Utf8(Wired),
 }
 
 // This is answered of bytes, from a place on.
@@ -221,23 +224,22 @@ fn all_read(rt: &impl Abort, rows: &[(&[u8], usize, Read)]) {
 
 /// The writers in 64 bits append what the others do.
 #[test]
-fn short_forms(rt: HostRuntime) -> Result<(), WireFault> {
+fn short_forms(rt: HostRuntime) -> Wired {
     const U64S: &[u64] = &[0, 127, 128, 942_755, u64::MAX];
     const I64S: &[i64] = &[0, 62, 63, 64, -1, -64, -65, -942_755, i64::MAX, i64::MIN];
-    let alloc = rt.alloc();
     for value in U64S {
         let (short, wide) = (*value, u128::from(*value));
-        are_alike(&rt, alloc, &Form::U64(short), Form::Unsigned(wide))?;
+        are_alike(&rt, rt.alloc(), &Form::U64(short), Form::Unsigned(wide))?;
         let short = Form::U64Nullable(Nullable::Value(short));
         let wide = Form::UnsignedNullable(Nullable::Value(wide));
-        are_alike(&rt, alloc, &short, wide)?;
+        are_alike(&rt, rt.alloc(), &short, wide)?;
     }
     for value in I64S {
         let (short, wide) = (*value, i128::from(*value));
-        are_alike(&rt, alloc, &Form::I64(short), Form::Signed(wide))?;
+        are_alike(&rt, rt.alloc(), &Form::I64(short), Form::Signed(wide))?;
         let short = Form::I64Nullable(Nullable::Value(short));
         let wide = Form::SignedNullable(Nullable::Value(wide));
-        are_alike(&rt, alloc, &short, wide)?;
+        are_alike(&rt, rt.alloc(), &short, wide)?;
     }
     Ok(())
 }
@@ -256,12 +258,7 @@ fn bits_are(rt: &impl Abort, bits: &mut Bits, wanted: &[bool]) {
     same(rt, bits.take(), false);
 }
 
-fn map_is_read(
-    rt: &impl Abort,
-    alloc: Global,
-    bits: &[bool],
-    bytes: &[u8],
-) -> Result<(), WireFault> {
+fn map_is_read(rt: &impl Abort, alloc: Global, bits: &[bool], bytes: &[u8]) -> Wired {
     let (mut read, next) = read_map(alloc, bytes, 0)?;
     same(rt, next, bytes.len());
     bits_are(rt, &mut read, bits);
@@ -269,7 +266,7 @@ fn map_is_read(
 }
 
 // The seven bits of each byte.
-fn groups_are_read(rt: &impl Abort, alloc: Global, bytes: &[u8]) -> Result<(), WireFault> {
+fn groups_are_read(rt: &impl Abort, alloc: Global, bytes: &[u8]) -> Wired {
     let mut bits = [false; 70];
     for (i, bit) in bits.iter_mut().enumerate() {
         let byte = bytes.get(i / 7).copied().unwrap_or(0);
@@ -280,24 +277,23 @@ fn groups_are_read(rt: &impl Abort, alloc: Global, bytes: &[u8]) -> Result<(), W
 
 /// A map that is longer than it need be, one of nine bytes, whose bits stand in one word, and one of ten.
 #[test]
-fn maps_are_read(rt: HostRuntime) -> Result<(), WireFault> {
-    let alloc = rt.alloc();
-    map_is_read(&rt, alloc, &[true, true, true], &[0x70, 0x00, 0x80])?;
+fn maps_are_read(rt: HostRuntime) -> Wired {
+    map_is_read(&rt, rt.alloc(), &[true, true, true], &[0x70, 0x00, 0x80])?;
     let nine = &[0x41, 0x00, 0x7f, 0x02, 0x00, 0x00, 0x00, 0x01, 0xa0];
-    groups_are_read(&rt, alloc, nine)?;
+    groups_are_read(&rt, rt.alloc(), nine)?;
     let ten = &[0x41, 0x00, 0x7f, 0x02, 0x00, 0x00, 0x00, 0x01, 0x20, 0xc1];
-    groups_are_read(&rt, alloc, ten)
+    groups_are_read(&rt, rt.alloc(), ten)
 }
 
 /// A vector that is filled again.
 #[test]
-fn tails(rt: HostRuntime) -> Result<(), WireFault> {
-    const TAILS: &[(&[u8], &[u8])] = &[
-        (&[0x48, 0x65, 0xf9], b"Hey"),
-        (&[0xc1], b"A"),
-        (&[], b""),
-        (&[0x48, 0xe9], b"Hi"),
-    ];
+fn tails(rt: HostRuntime) -> Wired {
+    const TAILS: &[(&[u8], &[u8])] = rows! {
+        &[0x48, 0x65, 0xf9], b"Hey";
+        &[0xc1], b"A";
+        &[], b"";
+        &[0x48, 0xe9], b"Hi";
+    };
     let mut text = Vec::new(rt.alloc());
     for (tail, characters) in TAILS {
         fill_characters(tail, &mut text)?;
@@ -316,9 +312,7 @@ enum Reader {
 }
 
 // The value that a reader without NULL gives.
-fn given(
-    read: Result<(Vec<u8>, usize), WireFault>,
-) -> Result<(Nullable<Vec<u8>>, usize), WireFault> {
+fn given(read: Wired<(Vec<u8>, usize)>) -> Wired<(Nullable<Vec<u8>>, usize)> {
     match read {
         Ok((bytes, next)) => Ok((Nullable::Value(bytes), next)),
         Err(fault) => Err(fault),
@@ -326,7 +320,7 @@ fn given(
 }
 
 impl Reader {
-    fn read(self, alloc: Global, bytes: &[u8]) -> Result<(Nullable<Vec<u8>>, usize), WireFault> {
+    fn read(self, alloc: Global, bytes: &[u8]) -> Wired<(Nullable<Vec<u8>>, usize)> {
         match self {
             Reader::Ascii => given(read_ascii(alloc, bytes, 0)),
             Reader::AsciiNullable => read_ascii_nullable(alloc, bytes, 0),
@@ -349,14 +343,9 @@ fn shown(value: &Nullable<Vec<u8>>) -> Nullable<&[u8]> {
 }
 
 // This value was read, up to this place.
-fn is_value(
-    rt: &impl Abort,
-    read: (Nullable<Vec<u8>>, usize),
-    value: Nullable<&[u8]>,
-    next: usize,
-) {
-    same(rt, shown(&read.0), value);
-    same(rt, read.1, next);
+fn is_value(rt: &impl Abort, read: (Nullable<Vec<u8>>, usize), wanted: (Nullable<&[u8]>, usize)) {
+    same(rt, shown(&read.0), wanted.0);
+    same(rt, read.1, wanted.1);
 }
 
 // Bytes are read as this value, up to this place. Where memory was refused, the same call reads it, and the test ends.
@@ -364,18 +353,17 @@ fn is_read_to(
     rt: &impl Abort,
     alloc: Global,
     reader: Reader,
-    value: Nullable<&[u8]>,
+    wanted: (Nullable<&[u8]>, usize),
     bytes: &[u8],
-    next: usize,
-) -> Result<(), WireFault> {
+) -> Wired {
     match reader.read(alloc, bytes) {
         Ok(read) => {
-            is_value(rt, read, value, next);
+            is_value(rt, read, wanted);
             Ok(())
         }
         Err(fault) => {
             same(rt, fault, WireFault::Memory);
-            is_value(rt, reader.read(alloc, bytes)?, value, next);
+            is_value(rt, reader.read(alloc, bytes)?, wanted);
             Err(fault)
         }
     }
@@ -383,7 +371,7 @@ fn is_read_to(
 
 /// A refused copy is Memory, and the same call then gives the row's answer. Some are longer than they need be.
 #[test]
-fn copies_are_read(rt: HostRuntime) -> Result<(), WireFault> {
+fn copies_are_read(rt: HostRuntime) -> Wired {
     const LETTER: Nullable<&[u8]> = Nullable::Value(b"A");
     const ACCENT: Nullable<&[u8]> = Nullable::Value(&[0xc3, 0xa9]);
     const ROWS: &[(Reader, Nullable<&[u8]>, &[u8])] = rows! {
@@ -396,25 +384,18 @@ fn copies_are_read(rt: HostRuntime) -> Result<(), WireFault> {
         Reader::AsciiNullable, LETTER, b"\x00\x00\xc1";
     };
     for (reader, value, bytes) in ROWS {
-        is_read_to(&rt, rt.alloc(), *reader, *value, bytes, bytes.len())?;
+        is_read_to(&rt, rt.alloc(), *reader, (*value, bytes.len()), bytes)?;
     }
     map_is_read(&rt, rt.alloc(), &[true, true, true], &[0xf0])
 }
 
 /// As many zeros as a text may have, behind a preamble of two.
 #[test]
-fn the_longest_text_of_zeros(rt: HostRuntime) -> Result<(), WireFault> {
+fn the_longest_text_of_zeros(rt: HostRuntime) -> Wired {
     let mut groups = [0x00; 65_540];
     groups[65_536] = 0x80;
-    let zeros = Nullable::Value(&groups[..65_535]);
-    is_read_to(
-        &rt,
-        rt.alloc(),
-        Reader::AsciiNullable,
-        zeros,
-        &groups,
-        65_537,
-    )
+    let (alloc, zeros) = (rt.alloc(), Nullable::Value(&groups[..65_535]));
+    is_read_to(&rt, alloc, Reader::AsciiNullable, (zeros, 65_537), &groups)
 }
 
 /// Where no value stands no memory is asked for: the answer is the same, whichever allocation is refused.
@@ -455,7 +436,7 @@ fn maps_are_refused(rt: HostRuntime) {
 }
 
 #[test]
-fn the_longest_map(rt: HostRuntime) -> Result<(), WireFault> {
+fn the_longest_map(rt: HostRuntime) -> Wired {
     let ones = [true; 1792];
     let mut out = Vec::new(rt.alloc());
     write_map(&ones, &mut out)?;
@@ -501,17 +482,17 @@ pub(crate) enum Form<'a> {
 
 /// What has one form.
 pub(crate) trait Written {
-    fn append(&self, out: &mut Vec<u8>) -> Result<(), WireFault>;
+    fn append(&self, out: &mut Vec<u8>) -> Wired;
 }
 
 impl Written for MapBuilder {
-    fn append(&self, out: &mut Vec<u8>) -> Result<(), WireFault> {
+    fn append(&self, out: &mut Vec<u8>) -> Wired {
         self.write(out)
     }
 }
 
 impl Written for Form<'_> {
-    fn append(&self, out: &mut Vec<u8>) -> Result<(), WireFault> {
+    fn append(&self, out: &mut Vec<u8>) -> Wired {
         match *self {
             Form::Unsigned(value) => write_unsigned(value, out),
             Form::Signed(value) => write_signed(value, out),
@@ -572,12 +553,7 @@ fn form_size(form: Form) -> Option<usize> {
 
 // Writes behind bytes that are there. Where memory was refused, nothing was appended, and the same call writes; that it
 // was refused is answered.
-fn appended(
-    rt: &impl Abort,
-    front: &[u8],
-    form: &impl Written,
-    out: &mut Vec<u8>,
-) -> Result<(), WireFault> {
+fn appended(rt: &impl Abort, front: &[u8], form: &impl Written, out: &mut Vec<u8>) -> Wired {
     let first = form.append(out);
     if first.is_err() {
         same(rt, first, Err(WireFault::Memory));
@@ -594,7 +570,7 @@ pub(crate) fn is_written(
     front: &[u8],
     form: &impl Written,
     bytes: &[u8],
-) -> Result<(), WireFault> {
+) -> Wired {
     let mut out = front.to_vec(alloc)?;
     let first = appended(rt, front, form, &mut out);
     same(rt, out.get(..front.len()), Some(front));
@@ -603,19 +579,14 @@ pub(crate) fn is_written(
 }
 
 /// Two forms are written as the same bytes.
-pub(crate) fn are_alike(
-    rt: &impl Abort,
-    alloc: Global,
-    form: &impl Written,
-    other: Form,
-) -> Result<(), WireFault> {
+pub(crate) fn are_alike(rt: &impl Abort, alloc: Global, form: &impl Written, other: Form) -> Wired {
     let mut bytes = Vec::new(alloc);
     other.append(&mut bytes)?;
     is_written(rt, alloc, b"", form, &bytes)
 }
 
 // A form is read from these bytes, and they are so many.
-fn is_read(rt: &impl Abort, alloc: Global, form: Form, bytes: &[u8]) -> Result<(), WireFault> {
+fn is_read(rt: &impl Abort, alloc: Global, form: Form, bytes: &[u8]) -> Wired {
     let next = bytes.len();
     let wanted = match form {
         Form::Unsigned(value) => Read::Unsigned(Ok((value, next))),
@@ -623,18 +594,18 @@ fn is_read(rt: &impl Abort, alloc: Global, form: Form, bytes: &[u8]) -> Result<(
         Form::UnsignedNullable(value) => Read::UnsignedNullable(Ok((value, next))),
         Form::SignedNullable(value) => Read::SignedNullable(Ok((value, next))),
         Form::Ascii(text) => {
-            let text = Nullable::Value(text);
-            return is_read_to(rt, alloc, Reader::Ascii, text, bytes, next);
+            let text = (Nullable::Value(text), next);
+            return is_read_to(rt, alloc, Reader::Ascii, text, bytes);
         }
         Form::AsciiNullable(text) => {
-            return is_read_to(rt, alloc, Reader::AsciiNullable, text, bytes, next);
+            return is_read_to(rt, alloc, Reader::AsciiNullable, (text, next), bytes);
         }
         Form::Vector(items) => {
-            let items = Nullable::Value(items);
-            return is_read_to(rt, alloc, Reader::Vector, items, bytes, next);
+            let items = (Nullable::Value(items), next);
+            return is_read_to(rt, alloc, Reader::Vector, items, bytes);
         }
         Form::VectorNullable(items) => {
-            return is_read_to(rt, alloc, Reader::VectorNullable, items, bytes, next);
+            return is_read_to(rt, alloc, Reader::VectorNullable, (items, next), bytes);
         }
         Form::Map(bits) => return map_is_read(rt, alloc, bits, bytes),
         // the readers in 64 bits have a table of their own
@@ -645,7 +616,7 @@ fn is_read(rt: &impl Abort, alloc: Global, form: Form, bytes: &[u8]) -> Result<(
 }
 
 // A form is written as these bytes, of which its size is the number, and read from them.
-fn agrees(rt: &impl Abort, alloc: Global, form: Form, bytes: &[u8]) -> Result<(), WireFault> {
+fn agrees(rt: &impl Abort, alloc: Global, form: Form, bytes: &[u8]) -> Wired {
     is_written(rt, alloc, b"", &form, bytes)?;
     let size = match form {
         Form::Map(_) => None,
@@ -655,17 +626,10 @@ fn agrees(rt: &impl Abort, alloc: Global, form: Form, bytes: &[u8]) -> Result<()
     is_read(rt, alloc, form, bytes)
 }
 
-fn all_agree(rt: &impl Abort, alloc: Global, rows: &[(Form, &[u8])]) -> Result<(), WireFault> {
-    for (form, bytes) in rows {
-        agrees(rt, alloc, *form, bytes)?;
-    }
-    Ok(())
-}
-
 /// A refused growth appends nothing, and the same call then gives the row's answer: run with the first, the
 /// second and each later allocation refused, until a run meets no refusal.
 #[test]
-fn refused_growths(rt: HostRuntime) -> Result<(), WireFault> {
+fn refused_growths(rt: HostRuntime) -> Wired {
     const ROWS: &[(Form, &[u8])] = rows! {
         // integers
         Form::Unsigned(942_755), b"\x39\x45\xa3";
@@ -701,7 +665,7 @@ fn refused_growths(rt: HostRuntime) -> Result<(), WireFault> {
 }
 
 // A text of so many letters is written, sized and read, with NULL and without.
-fn long_text_agrees(rt: &impl Abort, alloc: Global, count: usize) -> Result<(), WireFault> {
+fn long_text_agrees(rt: &impl Abort, alloc: Global, count: usize) -> Wired {
     let text = vec![in alloc; 0x41; count]?;
     let mut entity = text.as_slice().to_vec(alloc)?;
     if let Some(last) = entity.last_mut() {
@@ -719,27 +683,26 @@ fn long_vector_agrees(
     count: usize,
     front: &[u8],
     is_nullable: bool,
-) -> Result<(), WireFault> {
+) -> Wired {
     let items = vec![in alloc; 0x41; count]?;
     let mut vector = front.to_vec(alloc)?;
     vector.extend_from_slice(&items)?;
-    let form = if is_nullable {
-        Form::VectorNullable(Nullable::Value(&items))
-    } else {
-        Form::Vector(&items)
-    };
-    agrees(rt, alloc, form, &vector)
+    if is_nullable {
+        let items = Nullable::Value(items.as_slice());
+        return agrees(rt, alloc, Form::VectorNullable(items), &vector);
+    }
+    agrees(rt, alloc, Form::Vector(&items), &vector)
 }
 
 /// Longer than a page of memory, and as long as may be.
 #[test]
-fn long_forms(rt: HostRuntime) -> Result<(), WireFault> {
-    const VECTORS: &[(usize, &[u8], bool)] = &[
-        (4_097, &[0x20, 0x81], false),
-        (4_097, &[0x20, 0x82], true),
-        (65_535, &[0x03, 0x7f, 0xff], false),
-        (65_535, &[0x04, 0x00, 0x80], true),
-    ];
+fn long_forms(rt: HostRuntime) -> Wired {
+    const VECTORS: &[(usize, &[u8], bool)] = rows! {
+        4_097, &[0x20, 0x81], false;
+        4_097, &[0x20, 0x82], true;
+        65_535, &[0x03, 0x7f, 0xff], false;
+        65_535, &[0x04, 0x00, 0x80], true;
+    };
     for (count, front, is_nullable) in VECTORS {
         long_text_agrees(&rt, rt.alloc(), *count)?;
         long_vector_agrees(&rt, rt.alloc(), *count, front, *is_nullable)?;
@@ -748,7 +711,7 @@ fn long_forms(rt: HostRuntime) -> Result<(), WireFault> {
 }
 
 // Forms that are written one behind the other into room that is there.
-fn fit(rt: &impl Abort, forms: &[Form], bytes: &[u8], out: &mut Vec<u8>) -> Result<(), WireFault> {
+fn fit(rt: &impl Abort, forms: &[Form], bytes: &[u8], out: &mut Vec<u8>) -> Wired {
     out.reserve(64)?;
     for form in forms {
         form.append(out)?;
@@ -759,22 +722,14 @@ fn fit(rt: &impl Abort, forms: &[Form], bytes: &[u8], out: &mut Vec<u8>) -> Resu
 
 /// A form that fits the room that is there asks for no memory.
 #[test]
-fn no_memory_where_it_fits(rt: HostRuntime) -> Result<(), WireFault> {
-    const FORMS: &[Form] = &[
-        // a decimal: the exponent and then the mantissa
-        Form::Signed(2),
-        Form::Signed(942_755),
-        Form::Unsigned(942_755),
-        Form::Signed(-942_755),
-        Form::Ascii(b"Hey"),
-        Form::AsciiNullable(Nullable::Value(b"")),
-        Form::Vector(&[0xc3, 0xa9]),
-        Form::VectorNullable(Nullable::Null),
-        Form::Map(&[true]),
-    ];
-    const WANTED: &[u8] = &[
-        0x82, 0x39, 0x45, 0xa3, 0x39, 0x45, 0xa3, 0x46, 0x3a, 0xdd, 0x48, 0x65, 0xf9, 0x00, 0x80,
-        0x82, 0xc3, 0xa9, 0x80, 0xc0,
-    ];
+fn no_memory_where_it_fits(rt: HostRuntime) -> Wired {
+    // a decimal (the exponent and then the mantissa), and others
+    const FORMS: &[Form] = list! {
+        Form::Signed(2), Form::Signed(942_755), Form::Unsigned(942_755), Form::Signed(-942_755), Form::Ascii(b"Hey"),
+        Form::AsciiNullable(Nullable::Value(b"")), Form::Vector(&[0xc3, 0xa9]),
+        Form::VectorNullable(Nullable::Null), Form::Map(&[true])
+    };
+    const WANTED: &[u8] =
+        b"\x82\x39\x45\xa3\x39\x45\xa3\x46\x3a\xdd\x48\x65\xf9\x00\x80\x82\xc3\xa9\x80\xc0";
     fit(&rt, FORMS, WANTED, &mut Vec::new(rt.alloc()))
 }

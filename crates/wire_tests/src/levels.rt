@@ -7,21 +7,16 @@ use test_rows::rows;
 
 /// An entity, and whether it is overlong as an unsigned and as a signed integer, as a map, and as an ASCII string
 /// without NULL and with it.
-struct Row(&'static [u8], [bool; 5]);
+type Row = (&'static [u8], [bool; 5]);
 
-fn is_judged(rt: &impl Abort, row: &Row) {
-    let Row(bytes, wanted) = row;
+fn is_judged(rt: &impl Abort, (bytes, wanted): &Row) {
     match entity_end(bytes, 0, 256) {
         Ok(next) => {
             let entity = &bytes[0..next];
             same(rt, next, bytes.len());
-            let judged = [
-                overlong_unsigned(entity),
-                overlong_signed(entity),
-                overlong_map(entity),
-                overlong_ascii(entity, false),
-                overlong_ascii(entity, true),
-            ];
+            let (unsigned, signed) = (overlong_unsigned(entity), overlong_signed(entity));
+            let (plain, nullable) = (overlong_ascii(entity, false), overlong_ascii(entity, true));
+            let judged = [unsigned, signed, overlong_map(entity), plain, nullable];
             same(rt, judged, *wanted);
         }
         Err(_) => panic!(rt; "no entity"),
@@ -30,7 +25,7 @@ fn is_judged(rt: &impl Abort, row: &Row) {
 
 #[test]
 fn overlong_entities(rt: HostRuntime) {
-    const ROWS: &[Row] = rows! { Row:
+    const ROWS: &[Row] = rows! {
         // one group
         b"\x80", [false, false, false, false, false];
         b"\x81", [false, false, false, false, false];

@@ -1,5 +1,6 @@
 //! What tests compare.
 
+use fast_wire::WireFault;
 use std::fmt::Debug;
 use std::process::Abort;
 
@@ -7,3 +8,6 @@ use std::process::Abort;
 pub(crate) fn same<T: PartialEq + Debug + Drop>(rt: &impl Abort, given: T, wanted: T) {
     assert_eq!(rt; given, wanted);
 }
+
+/// What a test of forms answers, or a part of one.
+pub(crate) type Wired<T = ()> = Result<T, WireFault>;
