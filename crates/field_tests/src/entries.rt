@@ -4,13 +4,10 @@ ghost use Rattle.std.specs.Prelude.{◌≡◌, Contains, IfSome, IsTrue};
 ghost use Rattle.fast_template.specs.Resolved.{instruction_of, keys_of_one};
 ghost use Rattle.fast_template.specs.TemplateSets.{keys_in};
 
-use crate::same::same;
+use crate::base::*;
 use fast_build::{Load, LoadCause, LoadFault};
 use fast_dictionary::{Entries, Entry, EntryRef, MapEntries, SlotEntries, Spare};
 use fast_template::{Flat, Key, Name, Part, Scalar, Scope, TemplateSet, UnicodeText};
-use std::alloc::{AllocError, Global};
-use std::process::Abort;
-use test_rows::Tried;
 
 fn key(alloc: Global, slot: u32, name: &str) -> Tried<Key> {
     Ok(Key {
@@ -158,14 +155,8 @@ fn walk<E: Entries>(
 fn entries_in_a_map(rt: HostRuntime) -> Tried {
     let first = key(rt.alloc(), 1, "A")?;
     let second = key(rt.alloc(), 2, "B")?;
-    walk(
-        &rt,
-        rt.alloc(),
-        MapEntries::new(rt.alloc()),
-        &first,
-        &second,
-        false,
-    )
+    let map = MapEntries::new(rt.alloc());
+    walk(&rt, rt.alloc(), map, &first, &second, false)
 }
 
 // A reference to an entry is copied to an equal one.
@@ -205,14 +196,8 @@ fn key_at(set: &TemplateSet, place: usize) -> Option<&Key>
 fn walk_slots(rt: &impl Abort, alloc: Global, set: &TemplateSet) -> Tried {
     match (key_at(set, 0), key_at(set, 1)) {
         (Some(first), Some(second)) => {
-            walk(
-                rt,
-                alloc,
-                SlotEntries::new(alloc, set)?,
-                first,
-                second,
-                true,
-            )
+            let slots = SlotEntries::new(alloc, set)?;
+            walk(rt, alloc, slots, first, second, true)
         }
         _ => panic!(rt; "other fields"),
     }

@@ -4,30 +4,31 @@ ghost use Rattle.std.specs.Prelude.{◌≡◌, true};
 ghost use Rattle.fast_field.specs.Parts.{IsFieldPart};
 ghost use Rattle.fast_field.specs.Within.{HoldsScalar};
 
+use crate::base::*;
 use crate::judged::holds_scalar;
-use crate::same::same;
 use crate::ways::is_part;
 use fast_dictionary::Entry;
 use fast_template::{
     ByteString, FieldPart, Initial, Key, Kind, Name, Operator, Part, Presence, Scalar, Scope,
     UnicodeText,
 };
-use std::alloc::Global;
-use std::process::Abort;
-use test_rows::Tried;
 
 // A field with a key of its own.
 pub(crate) fn part_of(
     alloc: Global,
-    part: Part,
-    kind: Kind,
-    presence: Presence,
-    operator: Operator,
+    (part, kind): (Part, Kind),
+    (presence, operator): (Presence, Operator),
     initial: Option<Value>,
 ) -> Tried<FieldPart> {
     let initial = match initial {
         Some(value) => Some(Initial::of(alloc, value.scalar(alloc)?)?),
         None => None,
+    };
+    let key = Key {
+        slot: 1,
+        scope: Scope::Global,
+        name: Name::of(alloc, "F")?,
+        part,
     };
     Ok(FieldPart {
         number: 1,
@@ -36,12 +37,7 @@ pub(crate) fn part_of(
         presence,
         operator,
         initial,
-        key: Key {
-            slot: 1,
-            scope: Scope::Global,
-            name: Name::of(alloc, "F")?,
-            part,
-        },
+        key,
     })
 }
 
@@ -91,40 +87,25 @@ pub(crate) enum Shape {
 impl Shape {
     pub(crate) fn instr(self, alloc: Global) -> Tried<FieldPart> {
         let (whole, mandatory, optional) = (Part::Whole, Presence::Mandatory, Presence::Optional);
-        let (part, kind, presence, operator, initial) = match self {
-            Shape::Mandatory(kind, operator) => (whole, kind, mandatory, operator, None),
-            Shape::Optional(kind, operator) => (whole, kind, optional, operator, None),
+        let (part, presence, operator, initial) = match self {
+            Shape::Mandatory(kind, operator) => ((whole, kind), mandatory, operator, None),
+            Shape::Optional(kind, operator) => ((whole, kind), optional, operator, None),
             Shape::Initial(presence, operator, number) => {
-                (
-                    whole,
-                    Kind::UInt32,
-                    presence,
-                    operator,
-                    Some(Value::U32(number)),
-                )
+                let initial = Some(Value::U32(number));
+                ((whole, Kind::UInt32), presence, operator, initial)
             }
             Shape::Tail(text) => {
-                (
-                    whole,
-                    Kind::Ascii,
-                    optional,
-                    Operator::Tail,
-                    Some(Value::Ascii(text)),
-                )
+                let initial = Some(Value::Ascii(text));
+                ((whole, Kind::Ascii), optional, Operator::Tail, initial)
             }
-            Shape::Length(operator) => (Part::Length, Kind::UInt32, mandatory, operator, None),
+            Shape::Length(operator) => ((Part::Length, Kind::UInt32), mandatory, operator, None),
             Shape::Exponent(presence, operator, initial) => {
-                (
-                    Part::Exponent,
-                    Kind::Int32,
-                    presence,
-                    operator,
-                    initial.map(Value::I32),
-                )
+                let initial = initial.map(Value::I32);
+                ((Part::Exponent, Kind::Int32), presence, operator, initial)
             }
-            Shape::Mantissa(operator) => (Part::Mantissa, Kind::Int64, mandatory, operator, None),
+            Shape::Mantissa(operator) => ((Part::Mantissa, Kind::Int64), mandatory, operator, None),
         };
-        part_of(alloc, part, kind, presence, operator, initial)
+        part_of(alloc, part, (presence, operator), initial)
     }
 }
 

@@ -1,18 +1,15 @@
 //! Fields that go the general way: what is read of their bytes, and the best form that is written of it.
 
+use crate::base::*;
 use crate::fields::Kept::{Assigned, Empty, Undefined};
 use crate::fields::Shape::{Mandatory, Optional};
 use crate::fields::Value::{Ascii, Bytes, Decimal, U32, U64, Unicode};
 use crate::fields::{Kept, Shape, are_such, is_kept};
-use crate::same::same;
 use fast_dictionary::Spare;
 use fast_field::{FieldFault, FieldRefusal, Level, find_field, write_found};
 use fast_template::Kind::{UInt32, UInt64};
 use fast_template::Operator::{Copy, Delta, Increment, Tail};
 use fast_template::{FieldPart, Kind, Operator};
-use std::alloc::{AllocError, Global};
-use std::process::Abort;
-use test_rows::{Tried, rows};
 
 // A field, its entry, bytes that stand for it under bit 1, to their end, the bit and the bytes of the best form, and the entry
 // afterwards.
@@ -32,15 +29,8 @@ fn is_written(rt: &impl Abort, alloc: Global, instr: &FieldPart, row: &Row) -> T
         return Ok(());
     }
     let mut spare = Spare::new(alloc);
-    let found = match find_field(
-        &mut spare,
-        instr,
-        entry.view(),
-        true,
-        Level::Usual,
-        row.2,
-        0,
-    ) {
+    let (kept, level) = (entry.view(), Level::Usual);
+    let found = match find_field(&mut spare, instr, kept, true, level, row.2, 0) {
         Ok((found, next)) => {
             same(rt, next, row.2.len());
             found
@@ -61,14 +51,9 @@ fn is_written(rt: &impl Abort, alloc: Global, instr: &FieldPart, row: &Row) -> T
     }
 }
 
-fn is_rewritten(rt: &impl Abort, alloc: Global, row: &Row) -> Tried {
-    let instr = row.0.instr(alloc)?;
-    is_written(rt, alloc, &instr, row)
-}
-
 fn all_rewritten(rt: &impl Abort, alloc: Global, rows: &[Row]) -> Tried {
     for row in rows {
-        is_rewritten(rt, alloc, row)?;
+        is_written(rt, alloc, &row.0.instr(alloc)?, row)?;
     }
     Ok(())
 }

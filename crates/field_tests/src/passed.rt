@@ -1,11 +1,11 @@
 //! Rows on fields that are passed at once, and on numbers that are sent in one byte. A test has a table of rows, since each
 //! value that is made at a call makes its proof longer.
 
+use crate::base::*;
 use crate::fields::Kept::{Assigned, Empty, Undefined};
 use crate::fields::Shape::{Exponent, Initial, Length, Mandatory, Optional};
 use crate::fields::Value::{Ascii, I32, I64, U32, U64};
 use crate::fields::{Kept, Shape, are_such, is_kept};
-use crate::same::same;
 use fast_dictionary::Entry;
 use fast_field::Passed::{Absent, Elsewhere, Present};
 use fast_field::{Passed, pass_left_out};
@@ -13,9 +13,6 @@ use fast_take::{pass_quickly, take_short_number};
 use fast_template::Kind::{Int32, Int64, UInt32, UInt64};
 use fast_template::Operator::{Constant, Copy, Default, Delta, Increment, Plain, Tail};
 use fast_template::{Kind, Operator, Part, Presence};
-use std::alloc::Global;
-use std::process::Abort;
-use test_rows::{Tried, rows};
 
 // A field, its entry, what bit 0 gives, and the entry afterwards.
 struct Row(Shape, Kept, Passed, Kept);

@@ -2,20 +2,17 @@
 //! each value that lies there at a `?` makes its proof longer.
 
 use self::Wanted::{Absent, Fault, Keeps, Present};
+use crate::base::*;
 use crate::fields::Kept::{Assigned, Empty, Undefined};
 use crate::fields::Shape::{Exponent, Initial, Length, Mandatory, Optional};
 use crate::fields::Value::{Ascii, Bytes, Decimal, I32, I64, Letters, U32, Unicode};
 use crate::fields::{Kept, Shape, Value, is_kept, scalar_of};
-use crate::same::same;
-use fast_dictionary::{Entry, EntryRef, Spare};
+use fast_dictionary::{Entry, Spare};
 use fast_field::FieldFault::{D2, D4, D5, D6, D7, Limit, NeedMore, R1, R2, R6, R9};
-use fast_field::{FieldFault, Found, Level, find_field, next_entry, read_field, read_in_place};
+use fast_field::{FieldFault, Level, find_field, next_entry, read_field, read_in_place};
 use fast_template::Kind::{Int32, Int64, UInt32, UInt64};
 use fast_template::Operator::{Constant, Copy, Default, Delta, Increment, Plain, Tail};
 use fast_template::{FieldPart, Kind, Presence, Scalar};
-use std::alloc::{AllocError, Global};
-use std::process::Abort;
-use test_rows::{Tried, rows};
 
 // What is read: a value, the entry afterwards, and the place after it.
 type Read = Result<(Option<Scalar>, Entry, usize), FieldFault>;
@@ -60,28 +57,15 @@ fn judged(rt: &impl Abort, alloc: Global, read: Read, wanted: Wanted) -> Tried {
     Ok(())
 }
 
-// Reads one field beside its entry.
-fn read_beside(
-    rt: &impl Abort,
-    alloc: Global,
-    instr: &FieldPart,
-    level: Level,
-    row: &Row,
-) -> Tried {
-    let entry = row.1.entry(alloc)?;
-    let read = read_field(alloc, instr, entry.view(), row.2, level, row.3, 0);
-    judged(rt, alloc, read, row.4)
-}
-
 // What is found of one field where its entry lies.
 fn found_in_place(
     alloc: Global,
     instr: &FieldPart,
     entry: &mut Entry,
-    bit: bool,
     level: Level,
-    bytes: &[u8],
+    row: &Row,
 ) -> Tried<ReadInPlace> {
+    let (bit, bytes) = (row.2, row.3);
     match read_in_place(&mut Spare::new(alloc), instr, entry, bit, level, bytes, 0) {
         Ok((found, next)) => {
             let value = found.into_value(alloc, instr, entry.view())?;
@@ -91,47 +75,20 @@ fn found_in_place(
     }
 }
 
-// What is found, compared with what is wanted. A refusal leaves the entry.
-fn compared(
-    rt: &impl Abort,
-    alloc: Global,
-    found: ReadInPlace,
-    entry: Entry,
-    before: Entry,
-    wanted: Wanted,
-) -> Tried {
-    match found {
-        Ok((value, next)) => judged(rt, alloc, Ok((value, entry, next)), wanted),
+// Reads one field beside its entry, and where it lies; what is found is compared with what is wanted. A refusal leaves
+// the entry.
+fn read_so(rt: &impl Abort, alloc: Global, level: Level, row: &Row) -> Tried {
+    let (instr, before) = (row.0.instr(alloc)?, row.1.entry(alloc)?);
+    let read = read_field(alloc, &instr, before.view(), row.2, level, row.3, 0);
+    judged(rt, alloc, read, row.4)?;
+    let mut entry = row.1.entry(alloc)?;
+    match found_in_place(alloc, &instr, &mut entry, level, row)? {
+        Ok((value, next)) => judged(rt, alloc, Ok((value, entry, next)), row.4),
         Err(fault) => {
             same(rt, entry, before);
-            judged(rt, alloc, Err(fault), wanted)
+            judged(rt, alloc, Err(fault), row.4)
         }
     }
-}
-
-// Reads one field where its entry lies.
-fn read_within(
-    rt: &impl Abort,
-    alloc: Global,
-    instr: &FieldPart,
-    level: Level,
-    row: &Row,
-) -> Tried {
-    let before = row.1.entry(alloc)?;
-    let mut entry = row.1.entry(alloc)?;
-    let found = found_in_place(alloc, instr, &mut entry, row.2, level, row.3)?;
-    compared(rt, alloc, found, entry, before, row.4)
-}
-
-// Reads one field in both ways.
-fn read_with(rt: &impl Abort, alloc: Global, instr: &FieldPart, level: Level, row: &Row) -> Tried {
-    read_beside(rt, alloc, instr, level, row)?;
-    read_within(rt, alloc, instr, level, row)
-}
-
-fn read_so(rt: &impl Abort, alloc: Global, level: Level, row: &Row) -> Tried {
-    let instr = row.0.instr(alloc)?;
-    read_with(rt, alloc, &instr, level, row)
 }
 
 #[test]
@@ -267,8 +224,7 @@ fn fields_at_the_strict_level(rt: HostRuntime) -> Tried {
 struct Next(Shape, Kept, Option<Value>, Kept);
 
 fn leaves(rt: &impl Abort, alloc: Global, row: &Next) -> Tried {
-    let instr = row.0.instr(alloc)?;
-    let entry = row.1.entry(alloc)?;
+    let (instr, entry) = (row.0.instr(alloc)?, row.1.entry(alloc)?);
     let value = scalar_of(alloc, row.2)?;
     let after = next_entry(alloc, &instr, entry.view(), value.as_ref())?;
     is_kept(rt, alloc, &after, row.3)
@@ -288,50 +244,24 @@ fn entries_after_values(rt: HostRuntime) -> Tried {
     Ok(())
 }
 
-// A copy of what was found.
-fn copy_of(
-    alloc: Global,
-    found: &Found,
-    instr: &FieldPart,
-    kept: EntryRef,
-) -> Tried<Option<Scalar>> {
-    match found.value(instr, kept) {
-        Some(value) => Ok(Some(value.copy(alloc)?)),
-        None => Ok(None),
-    }
-}
-
-// A copy of what is read under bit 0 on an entry.
-fn copied(alloc: Global, instr: &FieldPart, kept: EntryRef) -> Tried<Option<Scalar>> {
-    match find_field(
-        &mut Spare::new(alloc),
-        instr,
-        kept,
-        false,
-        Level::Usual,
-        &[],
-        0,
-    ) {
-        Ok((found, _)) => copy_of(alloc, &found, instr, kept),
+// A copy of what is read under bit 0 on an entry, where the field is an optional copy of characters.
+fn copy_in(alloc: Global, kept: Kept) -> Tried<Option<Scalar>> {
+    let instr = Optional(Kind::Ascii, Copy).instr(alloc)?;
+    let entry = kept.entry(alloc)?;
+    let spare = &mut Spare::new(alloc);
+    let kept = entry.view();
+    match find_field(spare, &instr, kept, false, Level::Usual, &[], 0) {
+        Ok((found, _)) => match found.value(&instr, kept) {
+            Some(value) => Ok(Some(value.copy(alloc)?)),
+            None => Ok(None),
+        },
         Err(_) => Ok(None),
     }
 }
 
-// The same where the field is an optional copy of characters.
-fn copy_kept(alloc: Global, kept: EntryRef) -> Tried<Option<Scalar>> {
-    let instr = Optional(Kind::Ascii, Copy).instr(alloc)?;
-    copied(alloc, &instr, kept)
-}
-
-fn copy_in(alloc: Global, kept: Kept) -> Tried<Option<Scalar>> {
-    let entry = kept.entry(alloc)?;
-    copy_kept(alloc, entry.view())
-}
-
 #[test]
 fn values_that_lie_in_the_entry(rt: HostRuntime) -> Tried {
-    let alloc = rt.alloc();
-    let value = copy_in(alloc, Assigned(Ascii(b"GEM6")))?;
-    same(&rt, value, Some(Ascii(b"GEM6").scalar(alloc)?));
+    let value = copy_in(rt.alloc(), Assigned(Ascii(b"GEM6")))?;
+    same(&rt, value, Some(Ascii(b"GEM6").scalar(rt.alloc())?));
     Ok(())
 }

@@ -1,21 +1,18 @@
 //! Rows on fields that are taken: each is as it is read, and its value is told from where it lies.
 
 use self::Wanted::{AsRead, Keeps, Tells};
+use crate::base::*;
 use crate::fields::Kept::{Assigned, Empty, Undefined};
 use crate::fields::Shape::{Initial, Length, Mandatory, Optional};
 use crate::fields::Value::{Ascii, Bytes, Decimal, I32, I64, U32, U64, Unicode};
 use crate::fields::{Kept, Shape, Value, are_such, is_kept};
-use crate::same::same;
 use crate::takes::is_taken;
 use fast_dictionary::Entry;
 use fast_field::{FieldFault, Level};
 use fast_take::{Aside, Room, take};
 use fast_template::Kind::{Int32, Int64, UInt32, UInt64};
 use fast_template::Operator::{Constant, Copy, Default, Delta, Increment, Plain, Tail};
-use fast_template::{FieldPart, Kind, Operator, Presence};
-use std::alloc::{AllocError, Global};
-use std::process::Abort;
-use test_rows::{Tried, rows};
+use fast_template::{FieldPart, Kind, Presence};
 
 // A field, its entry, and what the bytes behind the first give, to their end.
 #[derive(Clone, Copy)]
@@ -66,8 +63,7 @@ fn gives(
 fn is_so(
     rt: &impl Abort,
     alloc: Global,
-    instr: &FieldPart,
-    entry: &Entry,
+    (instr, entry): (&FieldPart, &Entry),
     row: &Row,
     aside: &mut Aside,
     room: &mut Room,
@@ -76,18 +72,8 @@ fn is_so(
         return Ok(());
     }
     let Row(_, before, bytes, wanted) = *row;
-    let at = bytes.len().min(1);
-    is_taken(
-        rt,
-        alloc,
-        instr,
-        entry,
-        true,
-        Level::Usual,
-        bytes,
-        at,
-        aside,
-    )?;
+    let (at, level) = (bytes.len().min(1), Level::Usual);
+    is_taken(rt, alloc, instr, entry, true, level, bytes, at, aside)?;
     let (value, after) = match wanted {
         Wanted::Keeps(value) => (value, Kept::Assigned(value)),
         Wanted::Tells(value) => (value, before),
@@ -102,7 +88,7 @@ fn all_taken(rt: &impl Abort, alloc: Global, rows: &[Row]) -> Tried {
     for row in rows {
         let instr = row.0.instr(alloc)?;
         let entry = row.1.entry(alloc)?;
-        is_so(rt, alloc, &instr, &entry, row, &mut aside, &mut room)?;
+        is_so(rt, alloc, (&instr, &entry), row, &mut aside, &mut room)?;
     }
     Ok(())
 }

@@ -5,18 +5,14 @@
 ghost use Rattle.std.specs.Prelude.{◌≡◌, ◌≤◌, length};
 ghost use Rattle.fast_field.specs.Parts.{IsBitOf, IsFieldPart};
 
-use crate::fields::{Value, part_of};
-use crate::judged::{applies_to, holds_scalar};
-use crate::same::same;
-use crate::ways::{OPERATORS, PARTS, generated, is_part, needs_initial};
+use crate::base::*;
+use crate::judged::holds_scalar;
+use crate::ways::{generated, instructions, is_part};
 use fast_dictionary::Entry;
 use fast_field::{FieldFault, FieldRefusal, Level, read_field, units, write_in_place};
 use fast_take::{Aside, Took, Unkept, take};
-use fast_template::{FieldPart, Kind, Operator, Part, Presence, Scalar, part_needs_bit};
-use std::alloc::{AllocError, Global};
-use std::process::Abort;
+use fast_template::{FieldPart, Kind, Operator, Scalar, part_needs_bit};
 use template_tests::generated::Numbers;
-use test_rows::Tried;
 
 // How many fields of an instruction follow one another.
 const FIELDS: u32 = 48;
@@ -137,13 +133,12 @@ fn all_taken(
     rt: &impl Abort,
     alloc: Global,
     numbers: &mut Numbers,
-    which: Part,
     instr: &FieldPart,
     level: Level,
 ) -> Tried {
     let mut aside = Aside::new(alloc);
     let mut entry = Entry::Undefined;
-    if !is_part(which, instr) {
+    if !is_part(instr.part, instr) {
         same(rt, false, true);
         return Ok(());
     }
@@ -154,19 +149,10 @@ fn all_taken(
         let (after, next) = is_taken(rt, alloc, instr, &entry, bit, level, &bytes, at, &mut aside)?;
         let end = next.unwrap_or(bytes.len()).min(bytes.len());
         for cut in at..end {
-            let (same_entry, _) = is_taken(
-                rt,
-                alloc,
-                instr,
-                &entry,
-                bit,
-                level,
-                &bytes[..cut],
-                at,
-                &mut aside,
-            )?;
+            let front = &bytes[..cut];
+            let (kept, _) = is_taken(rt, alloc, instr, &entry, bit, level, front, at, &mut aside)?;
             if next.is_some() {
-                same(rt, &same_entry, &entry);
+                same(rt, &kept, &entry);
             }
         }
         entry = after;
@@ -174,51 +160,12 @@ fn all_taken(
     Ok(())
 }
 
-// The same with an initial value, and without one where none is wanted, at both levels.
-fn instructions_taken(
-    rt: &impl Abort,
-    alloc: Global,
-    numbers: &mut Numbers,
-    which: Part,
-    kind: Kind,
-    presence: Presence,
-    operator: Operator,
-    initial: Value,
-) -> Tried {
-    if !applies_to(operator, kind) {
-        return Ok(());
-    }
-    for level in [Level::Usual, Level::Strict] {
-        if which != Part::Exponent {
-            let instr = part_of(alloc, which, kind, presence, operator, Some(initial))?;
-            all_taken(rt, alloc, numbers, which, &instr, level)?;
-        }
-        if !needs_initial(operator, presence) {
-            let instr = part_of(alloc, which, kind, presence, operator, None)?;
-            all_taken(rt, alloc, numbers, which, &instr, level)?;
-        }
-    }
-    Ok(())
-}
-
 #[test]
 fn generated_fields_are_taken_as_they_are_read(rt: HostRuntime) -> Tried {
     let mut numbers = Numbers::new(2);
-    for (which, kind, initial) in PARTS {
-        for operator in OPERATORS {
-            for presence in [Presence::Mandatory, Presence::Optional] {
-                instructions_taken(
-                    &rt,
-                    rt.alloc(),
-                    &mut numbers,
-                    *which,
-                    *kind,
-                    presence,
-                    *operator,
-                    *initial,
-                )?;
-            }
-        }
+    for instr in &instructions(rt.alloc())? {
+        all_taken(&rt, rt.alloc(), &mut numbers, instr, Level::Usual)?;
+        all_taken(&rt, rt.alloc(), &mut numbers, instr, Level::Strict)?;
     }
     Ok(())
 }

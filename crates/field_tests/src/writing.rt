@@ -7,11 +7,11 @@ ghost use Rattle.fast_field.specs.Found.{CanLie};
 ghost use Rattle.fast_field.specs.Parts.{IsFieldPart};
 ghost use Rattle.fast_field.specs.Within.{HoldsScalar};
 
+use crate::base::*;
 use crate::fields::Kept::{Assigned, Empty, Undefined};
 use crate::fields::Shape::{Exponent, Initial, Mandatory, Optional};
 use crate::fields::Value::{Ascii, Bytes, Decimal, I32, Letters, U32, U64, Unicode, Wide};
 use crate::fields::{Kept, Shape, Value, are_such, scalar_of};
-use crate::same::same;
 use fast_dictionary::{Entry, EntryRef, Spare};
 use fast_field::FieldRefusal::{D3, D4, D6, Limit, Mismatch, NotConstant, R1, TooShort};
 use fast_field::{
@@ -21,38 +21,33 @@ use fast_field::{
 use fast_template::Kind::{UInt32, UInt64};
 use fast_template::Operator::{Constant, Copy, Default, Delta, Increment, Tail};
 use fast_template::{ByteString, FieldPart, Kind, Presence, Scalar};
-use std::alloc::{AllocError, Global};
-use std::process::Abort;
-use test_rows::{Tried, rows};
+
+// A field, its entry, and a value or none.
+#[derive(Drop)]
+struct Given {
+    alloc: Global,
+    instr: FieldPart,
+    entry: Entry,
+    value: Option<Scalar>,
+}
 
 // A value is planned so, or refused so.
-fn planned(
-    rt: &impl Abort,
-    instr: &FieldPart,
-    entry: EntryRef,
-    value: Option<&Scalar>,
-    wanted: Result<Plan, FieldRefusal>,
-)
-    requires part { IsFieldPart instr.now }
-    requires entry { HoldsScalar (entry_of entry) }
+fn planned(rt: &impl Abort, given: &Given, wanted: Result<Plan, FieldRefusal>)
+    requires part { IsFieldPart given.now.instr }
+    requires entry { HoldsScalar given.now.entry }
 {
-    same(rt, plan_field(instr, entry, value), wanted);
+    let plan = plan_field(&given.instr, given.entry.view(), given.value.as_ref());
+    same(rt, plan, wanted);
 }
 
 // A value is written behind a byte that is there. Where memory was refused, nothing was appended, the same call writes
 // it, and the test ends.
-fn appended(
-    rt: &impl Abort,
-    alloc: Global,
-    instr: &FieldPart,
-    entry: EntryRef,
-    value: Option<&Scalar>,
-    bytes: &[u8],
-) -> Tried
-    requires part { IsFieldPart instr.now }
-    requires entry { HoldsScalar (entry_of entry) }
+fn appended(rt: &impl Abort, given: &Given, bytes: &[u8]) -> Tried
+    requires part { IsFieldPart given.now.instr }
+    requires entry { HoldsScalar given.now.entry }
 {
-    let mut out = vec![in alloc; 0x2a]?;
+    let (instr, entry, value) = (&given.instr, given.entry.view(), given.value.as_ref());
+    let mut out = vec![in given.alloc; 0x2a]?;
     let first = write_field(instr, entry, value, &mut out);
     let is_refused = first == Err(FieldRefusal::Memory);
     if is_refused {
@@ -73,74 +68,47 @@ fn granted(is_refused: bool) -> Tried {
     Ok(())
 }
 
-// What a call answered, the entry afterwards, and what was written.
+// What a call answered, the entry afterwards, what was written, and whether memory was refused at first.
 #[derive(Drop)]
-struct Answer {
-    bit: Result<bool, FieldRefusal>,
-    entry: Entry,
-    out: Vec<u8>,
-    // at first
-    is_refused: bool,
-}
+struct Answer(Result<bool, FieldRefusal>, Entry, Vec<u8>, bool);
 
-fn answered(
-    rt: &impl Abort,
-    answer: Answer,
-    bit: Result<bool, FieldRefusal>,
-    bytes: &[u8],
-    after: &Entry,
-) {
-    same(rt, answer.bit, bit);
-    same(rt, answer.out.as_slice(), bytes);
-    same(rt, &answer.entry, after);
+// What is answered and written, and the entry afterwards.
+type Wanted<'a> = (Result<bool, FieldRefusal>, &'a [u8], &'a Entry);
+
+fn answered(rt: &impl Abort, answer: Answer, wanted: Wanted) {
+    same(rt, answer.0, wanted.0);
+    same(rt, answer.2.as_slice(), wanted.1);
+    same(rt, &answer.1, wanted.2);
 }
 
 // Writes a value behind these bytes, and changes a copy of its entry where it lies. Where memory was refused, the entry is
 // as it was, and the same call is made once more.
-fn put_in_place(
-    rt: &impl Abort,
-    alloc: Global,
-    instr: &FieldPart,
-    before: &Entry,
-    value: Option<&Scalar>,
-    front: Vec<u8>,
-) -> Tried<Answer>
-    requires part { IsFieldPart instr.now }
-    requires entry { HoldsScalar before.now }
+fn put_in_place(rt: &impl Abort, given: &Given, front: Vec<u8>) -> Tried<Answer>
+    requires part { IsFieldPart given.now.instr }
+    requires entry { HoldsScalar given.now.entry }
 {
+    let (alloc, instr, value) = (given.alloc, &given.instr, given.value.as_ref());
     let size = front.len();
     let mut out = front;
-    let mut entry = before.view().copy(alloc)?;
+    let mut entry = given.entry.view().copy(alloc)?;
     let mut bit = write_in_place(alloc, instr, &mut entry, value, &mut out);
     let is_refused = bit == Err(FieldRefusal::Memory);
     if is_refused {
-        same(rt, &entry, before);
+        same(rt, &entry, &given.entry);
         same(rt, out.len(), size);
         bit = write_in_place(alloc, instr, &mut entry, value, &mut out);
     }
-    Ok(Answer {
-        bit,
-        entry,
-        out,
-        is_refused,
-    })
+    Ok(Answer(bit, entry, out, is_refused))
 }
 
 // A value is written, and its entry changed where it lies.
-fn written_in_place(
-    rt: &impl Abort,
-    alloc: Global,
-    instr: &FieldPart,
-    entry: &Entry,
-    value: Option<&Scalar>,
-    wanted: (bool, &[u8], &Entry),
-) -> Tried
-    requires part { IsFieldPart instr.now }
-    requires entry { HoldsScalar entry.now }
+fn written_in_place(rt: &impl Abort, given: &Given, wanted: Wanted) -> Tried
+    requires part { IsFieldPart given.now.instr }
+    requires entry { HoldsScalar given.now.entry }
 {
-    let answer = put_in_place(rt, alloc, instr, entry, value, Vec::new(alloc))?;
-    let is_refused = answer.is_refused;
-    answered(rt, answer, Ok(wanted.0), wanted.1, wanted.2);
+    let answer = put_in_place(rt, given, Vec::new(given.alloc))?;
+    let is_refused = answer.3;
+    answered(rt, answer, wanted);
     granted(is_refused)
 }
 
@@ -155,126 +123,65 @@ fn found(alloc: Global, value: Option<&Scalar>) -> Tried<Found>
 }
 
 // Moves a copy of a value into a copy of its entry, and writes it.
-fn put_where_found(
-    alloc: Global,
-    instr: &FieldPart,
-    entry: &Entry,
-    value: Option<&Scalar>,
-) -> Tried<Answer>
-    requires part { IsFieldPart instr.now }
-    requires entry { HoldsScalar entry.now }
+fn put_where_found(given: &Given) -> Tried<Answer>
+    requires part { IsFieldPart given.now.instr }
+    requires entry { HoldsScalar given.now.entry }
 {
+    let (alloc, instr) = (given.alloc, &given.instr);
     let mut out = Vec::new(alloc);
-    let mut entry = entry.view().copy(alloc)?;
-    let found = found(alloc, value)?;
+    let mut entry = given.entry.view().copy(alloc)?;
+    let found = found(alloc, given.value.as_ref())?;
     let bit = match write_found(&mut Spare::new(alloc), instr, &mut entry, found, &mut out) {
         Ok((_, bit)) => Ok(bit),
         Err(refusal) => Err(refusal),
     };
     let is_refused = bit == Err(FieldRefusal::Memory);
-    Ok(Answer {
-        bit,
-        entry,
-        out,
-        is_refused,
-    })
+    Ok(Answer(bit, entry, out, is_refused))
 }
 
 // The same of a value that is moved into its entry.
-fn written_where_found(
-    rt: &impl Abort,
-    alloc: Global,
-    instr: &FieldPart,
-    entry: &Entry,
-    value: Option<&Scalar>,
-    wanted: (bool, &[u8], &Entry),
-) -> Tried
-    requires part { IsFieldPart instr.now }
-    requires entry { HoldsScalar entry.now }
+fn written_where_found(rt: &impl Abort, given: &Given, wanted: Wanted) -> Tried
+    requires part { IsFieldPart given.now.instr }
+    requires entry { HoldsScalar given.now.entry }
 {
-    let answer = put_where_found(alloc, instr, entry, value)?;
-    if answer.is_refused {
-        same(rt, answer.out.as_slice(), [].as_slice());
+    let answer = put_where_found(given)?;
+    if answer.3 {
+        same(rt, answer.2.as_slice(), [].as_slice());
         return Err(AllocError);
     }
-    answered(rt, answer, Ok(wanted.0), wanted.1, wanted.2);
+    answered(rt, answer, wanted);
     Ok(())
 }
 
 // A value is planned, and written by each call.
-fn written_by_each(
-    rt: &impl Abort,
-    alloc: Global,
-    instr: &FieldPart,
-    entry: &Entry,
-    value: Option<&Scalar>,
-    bit: bool,
-    bytes: &[u8],
-) -> Tried
-    requires part { IsFieldPart instr.now }
-    requires entry { HoldsScalar entry.now }
+fn written_by_each(rt: &impl Abort, given: &Given, bit: bool, bytes: &[u8]) -> Tried
+    requires part { IsFieldPart given.now.instr }
+    requires entry { HoldsScalar given.now.entry }
 {
     let size = bytes.len();
-    planned(rt, instr, entry.view(), value, Ok(Plan { bit, size }));
-    appended(rt, alloc, instr, entry.view(), value, bytes)?;
-    let after = next_entry(alloc, instr, entry.view(), value)?;
-    let wanted = (bit, bytes, &after);
-    written_in_place(rt, alloc, instr, entry, value, wanted)?;
-    written_where_found(rt, alloc, instr, entry, value, wanted)
+    planned(rt, given, Ok(Plan { bit, size }));
+    appended(rt, given, bytes)?;
+    let (kept, value) = (given.entry.view(), given.value.as_ref());
+    let after = next_entry(given.alloc, &given.instr, kept, value)?;
+    let wanted = (Ok(bit), bytes, &after);
+    written_in_place(rt, given, wanted)?;
+    written_where_found(rt, given, wanted)
 }
 
-// A value is refused, and nothing is appended.
-fn not_appended(
-    rt: &impl Abort,
-    alloc: Global,
-    instr: &FieldPart,
-    entry: EntryRef,
-    value: Option<&Scalar>,
-    refusal: FieldRefusal,
-) -> Tried
-    requires part { IsFieldPart instr.now }
-    requires entry { HoldsScalar (entry_of entry) }
+// A value is refused by each call: nothing is appended, and nothing has changed.
+fn refused_by_each(rt: &impl Abort, given: &Given, refusal: FieldRefusal) -> Tried
+    requires part { IsFieldPart given.now.instr }
+    requires entry { HoldsScalar given.now.entry }
 {
-    let mut out = vec![in alloc; 0x2a]?;
-    let answer = write_field(instr, entry, value, &mut out);
-    same(rt, answer, Err(refusal));
+    planned(rt, given, Err(refusal));
+    let (instr, entry, value) = (&given.instr, given.entry.view(), given.value.as_ref());
+    let mut out = vec![in given.alloc; 0x2a]?;
+    same(rt, write_field(instr, entry, value, &mut out), Err(refusal));
     same(rt, out.as_slice(), [0x2a].as_slice());
+    // the same where the entry lies
+    let answer = put_in_place(rt, given, out)?;
+    answered(rt, answer, (Err(refusal), &[0x2a], &given.entry));
     Ok(())
-}
-
-// The same where the entry lies, which has not changed.
-fn not_in_place(
-    rt: &impl Abort,
-    alloc: Global,
-    instr: &FieldPart,
-    entry: &Entry,
-    value: Option<&Scalar>,
-    refusal: FieldRefusal,
-) -> Tried
-    requires part { IsFieldPart instr.now }
-    requires entry { HoldsScalar entry.now }
-{
-    let front = vec![in alloc; 0x2a]?;
-    let answer = put_in_place(rt, alloc, instr, entry, value, front)?;
-    answered(rt, answer, Err(refusal), &[0x2a], entry);
-    Ok(())
-}
-
-// A value is refused by each call, and nothing has changed.
-fn refused_by_each(
-    rt: &impl Abort,
-    alloc: Global,
-    instr: &FieldPart,
-    entry: &Entry,
-    value: Option<&Scalar>,
-    refusal: FieldRefusal,
-) -> Tried
-    requires part { IsFieldPart instr.now }
-    requires entry { HoldsScalar entry.now }
-{
-    planned(rt, instr, entry.view(), value, Err(refusal));
-    not_appended(rt, alloc, instr, entry.view(), value, refusal)?;
-    not_in_place(rt, alloc, instr, entry, value, refusal)
 }
 
 // A field, its entry, a value, and whether bit 0 does not give it and what is written, or why it is refused.
@@ -282,28 +189,22 @@ struct Row(Shape, Kept, Option<Value>, Answered);
 
 type Answered = Result<(bool, &'static [u8]), FieldRefusal>;
 
-fn is_answered(
-    rt: &impl Abort,
-    alloc: Global,
-    instr: &FieldPart,
-    entry: &Entry,
-    value: Option<&Scalar>,
-    answer: Answered,
-) -> Tried {
-    if !are_such(rt, instr, entry) {
+fn is_row(rt: &impl Abort, alloc: Global, row: &Row) -> Tried {
+    let (instr, entry) = (row.0.instr(alloc)?, row.1.entry(alloc)?);
+    let value = scalar_of(alloc, row.2)?;
+    if !are_such(rt, &instr, &entry) {
         return Ok(());
     }
-    match answer {
-        Ok((bit, bytes)) => written_by_each(rt, alloc, instr, entry, value, bit, bytes),
-        Err(refusal) => refused_by_each(rt, alloc, instr, entry, value, refusal),
+    let given = Given {
+        alloc,
+        instr,
+        entry,
+        value,
+    };
+    match row.3 {
+        Ok((bit, bytes)) => written_by_each(rt, &given, bit, bytes),
+        Err(refusal) => refused_by_each(rt, &given, refusal),
     }
-}
-
-fn is_row(rt: &impl Abort, alloc: Global, row: &Row) -> Tried {
-    let instr = row.0.instr(alloc)?;
-    let entry = row.1.entry(alloc)?;
-    let value = scalar_of(alloc, row.2)?;
-    is_answered(rt, alloc, &instr, &entry, value.as_ref(), row.3)
 }
 
 #[test]
@@ -375,37 +276,33 @@ fn goes_round(rt: &impl Abort, alloc: Global, count: usize) -> Tried {
     if let Some(last) = bytes.last_mut() {
         *last = 0xc1;
     }
-    let instr = Mandatory(Kind::Ascii, Copy).instr(alloc)?;
-    let entry = Entry::Undefined;
+    let (instr, entry) = (Mandatory(Kind::Ascii, Copy).instr(alloc)?, Entry::Undefined);
     if !are_such(rt, &instr, &entry) {
         return Ok(());
     }
-    written_by_each(rt, alloc, &instr, &entry, Some(&value), true, &bytes)?;
-    is_read_back(rt, alloc, &instr, &bytes, value)
+    let given = Given {
+        alloc,
+        instr,
+        entry,
+        value: Some(value),
+    };
+    written_by_each(rt, &given, true, &bytes)?;
+    is_read_back(rt, given, &bytes)
 }
 
 // A value is read from these bytes, and kept in the entry.
-fn is_read_back(
-    rt: &impl Abort,
-    alloc: Global,
-    instr: &FieldPart,
-    bytes: &[u8],
-    value: Scalar,
-) -> Tried
-    requires { IsFieldPart instr.now }
+fn is_read_back(rt: &impl Abort, given: Given, bytes: &[u8]) -> Tried
+    requires { IsFieldPart given.instr }
 {
-    match read_field(
-        alloc,
-        instr,
-        EntryRef::Undefined,
-        true,
-        Level::Usual,
-        bytes,
-        0,
-    ) {
+    let (kept, level) = (EntryRef::Undefined, Level::Usual);
+    match read_field(given.alloc, &given.instr, kept, true, level, bytes, 0) {
         Ok((read, entry, next)) => {
-            same(rt, read.as_ref(), Some(&value));
-            same(rt, entry, Entry::Assigned(value));
+            same(rt, &read, &given.value);
+            let kept = match given.value {
+                Some(value) => Entry::Assigned(value),
+                None => Entry::Empty,
+            };
+            same(rt, entry, kept);
             same(rt, next, bytes.len());
             Ok(())
         }
