@@ -6,5 +6,5 @@ mod long;
 mod messages;
 mod pieces;
 pub(crate) mod steps;
-mod streams;
+pub(crate) mod streams;
 mod strict;

@@ -3,17 +3,15 @@
 ghost use Rattle.std.specs.Prelude.{IfOk};
 ghost use Rattle.fast_walk.specs.Traversals.{ServesAll};
 
-use fast_dictionary::{Entries, SlotEntries};
-use fast_template::TemplateSet;
-use std::alloc::Global;
-use test_rows::Tried;
+use crate::base::*;
+use fast_dictionary::SlotEntries;
 
 // Slots of a set, which serve its keys.
-pub(crate) fn slots_of<'a>(alloc: Global, set: &'a TemplateSet) -> Tried<SlotEntries<'a>>
+pub(crate) fn slots_of<'a>(on: &'a Loaded) -> Tried<SlotEntries<'a>>
     ensures { IfOk result
-        (λ s. ServesAll (⟦<SlotEntries<'a> as Entries>⟧.serves s) set.now) }
+        (λ s. ServesAll (⟦<SlotEntries<'a> as Entries>⟧.serves s) on.now.set) }
 {
-    match SlotEntries::new(alloc, set) {
+    match SlotEntries::new(on.alloc, &on.set) {
         Err(error) => Err(error),
         Ok(entries) => Ok(entries),
     }

@@ -1,18 +1,12 @@
 //! Long streams, over both kinds of entries.
 
-use crate::decoding::streams::{agrees, both_decode, both_read};
-use crate::same::same;
-use crate::worked::{loaded, worked};
-use fast_stream::{Fault, Message, Node};
-use fast_template::{Scalar, TemplateSet};
-use std::alloc::Global;
-use std::process::Abort;
+use crate::base::*;
+use crate::decoding::steps::{Task, both_fulfil};
+use crate::decoding::streams::both_read;
 use stream_rows::long::{LONG, LONG_BARE, LONG_SEQUENCES, Long, MANY, stream_of};
 use stream_rows::modes::{InMode, in_each_mode};
-use stream_rows::quotes::quote;
 use stream_rows::sent::messages;
 use template_tests::texts::BARE;
-use test_rows::Tried;
 
 // How the bytes of a stream come.
 #[derive(Clone, Copy)]
@@ -25,94 +19,59 @@ pub(crate) enum Coming {
     EachWay,
 }
 
-// Whether a stream that comes so has these messages and then this fault, or none.
-fn comes(
-    alloc: Global,
-    set: &TemplateSet,
-    coming: Coming,
-    given: &InMode,
-    want: &[Message],
-    fault: Option<Fault>,
-) -> Tried<bool> {
+// Whether what is wanted of a stream comes so.
+fn comes(on: &Loaded, coming: Coming, given: &InMode, want: Want) -> Tried<bool> {
     let InMode { mode, stream, .. } = given;
+    let whole = Task::Cut(stream, b"", want);
     match coming {
-        Coming::Whole => both_decode(alloc, set, *mode, stream, b"", want, fault),
-        Coming::Reads => Ok(
-            both_read(alloc, set, *mode, stream, 4096, want, fault)?
-                && both_decode(alloc, set, *mode, stream, b"", want, fault)?,
-        ),
-        Coming::ByteByByte => both_read(alloc, set, *mode, stream, 1, want, fault),
-        Coming::EachWay => agrees(alloc, set, *mode, stream, want, fault),
+        Coming::Whole => both_fulfil(on, *mode, whole),
+        Coming::Reads => {
+            Ok(both_read(on, *mode, stream, 4096, want)? && both_fulfil(on, *mode, whole)?)
+        }
+        Coming::ByteByByte => both_read(on, *mode, stream, 1, want),
+        Coming::EachWay => agrees(on, *mode, stream, want),
     }
 }
 
-// A plain stream has these messages and this fault, or none, in each of these modes.
-fn each_comes(
-    rt: &impl Abort,
-    alloc: Global,
-    set: &TemplateSet,
-    coming: Coming,
-    streams: &[InMode],
-    want: &[Message],
-    fault: Option<Fault>,
-) -> Tried {
-    for given in streams {
-        let fault = given.moved(fault);
-        same(rt, comes(alloc, set, coming, given, want, fault)?, true);
+// What is wanted of a plain stream comes so in all modes.
+fn are_read(rt: &impl Abort, on: &Loaded, coming: Coming, plain: &[u8], want: Want) -> Tried {
+    for given in &in_each_mode(on.alloc, plain, want.1.is_some())? {
+        let want = Want(want.0, given.moved(want.1));
+        same(rt, comes(on, coming, given, want)?, true);
     }
     Ok(())
 }
 
-// The same in all modes.
-fn are_read(
-    rt: &impl Abort,
-    alloc: Global,
-    set: &TemplateSet,
-    coming: Coming,
-    plain: &[u8],
-    want: &[Message],
-    fault: Option<Fault>,
-) -> Tried {
-    let streams = in_each_mode(alloc, plain, fault.is_some())?;
-    each_comes(rt, alloc, set, coming, &streams, want, fault)
+fn is_read(rt: &impl Abort, on: &Loaded, coming: Coming, row: &Long) -> Tried {
+    let plain = stream_of(on.alloc, row.pieces)?;
+    let want = messages(on.alloc, row.want)?;
+    are_read(rt, on, coming, &plain, Want(&want, row.end.fault()))
 }
 
-fn is_read(rt: &impl Abort, alloc: Global, set: &TemplateSet, coming: Coming, row: &Long) -> Tried {
-    let plain = stream_of(alloc, row.pieces)?;
-    let want = messages(alloc, row.want)?;
-    are_read(rt, alloc, set, coming, &plain, &want, row.end.fault())
-}
-
-pub(crate) fn all_read(
-    rt: &impl Abort,
-    alloc: Global,
-    set: &TemplateSet,
-    coming: Coming,
-    rows: &[Long],
-) -> Tried {
+pub(crate) fn all_read(rt: &impl Abort, on: &Loaded, coming: Coming, rows: &[Long]) -> Tried {
     for row in rows {
-        is_read(rt, alloc, set, coming, row)?;
+        is_read(rt, on, coming, row)?;
     }
     Ok(())
 }
 
 #[test]
 fn long_strings(rt: HostRuntime) -> Tried {
-    let set = worked(&rt, rt.alloc())?;
-    all_read(&rt, rt.alloc(), &set, Coming::Reads, LONG)
+    let on = worked(&rt, rt.alloc())?;
+    all_read(&rt, &on, Coming::Reads, LONG)
 }
 
 // Streams of many nodes: what canonicalise and check make of them is tested in reads.
 #[test]
 fn long_streams_of_elements(rt: HostRuntime) -> Tried {
-    let set = worked(&rt, rt.alloc())?;
-    all_read(&rt, rt.alloc(), &set, Coming::Whole, LONG_SEQUENCES)
+    let on = worked(&rt, rt.alloc())?;
+    all_read(&rt, &on, Coming::Whole, LONG_SEQUENCES)
 }
 
 #[test]
 fn long_streams_of_empty_elements(rt: HostRuntime) -> Tried {
-    let set = loaded(&rt, rt.alloc(), BARE)?;
-    all_read(&rt, rt.alloc(), &set, Coming::Whole, LONG_BARE)
+    let on = loaded(&rt, rt.alloc(), BARE)?;
+    all_read(&rt, &on, Coming::Whole, LONG_BARE)
 }
 
 // The quotes of the stream of many: each has the next number and a price that is higher by one.
@@ -128,14 +87,14 @@ fn quotes(alloc: Global) -> Tried<Vec<Message>> {
     Ok(messages)
 }
 
-fn quotes_are_read(rt: &impl Abort, alloc: Global, set: &TemplateSet) -> Tried {
-    let plain = stream_of(alloc, MANY)?;
-    let want = quotes(alloc)?;
-    are_read(rt, alloc, set, Coming::Reads, &plain, &want, None)
+fn quotes_are_read(rt: &impl Abort, on: &Loaded) -> Tried {
+    let plain = stream_of(on.alloc, MANY)?;
+    let want = quotes(on.alloc)?;
+    are_read(rt, on, Coming::Reads, &plain, Want(&want, None))
 }
 
 #[test]
 fn long_streams_of_many_messages(rt: HostRuntime) -> Tried {
-    let set = worked(&rt, rt.alloc())?;
-    quotes_are_read(&rt, rt.alloc(), &set)
+    let on = worked(&rt, rt.alloc())?;
+    quotes_are_read(&rt, &on)
 }

@@ -1,19 +1,10 @@
 //! Messages, and the calls that read one.
 
-use crate::decoding::steps::{Step, count, follow};
-use crate::same::same;
-use crate::slots::slots_of;
-use crate::worked::worked;
-use fast_dictionary::MapEntries;
-use fast_stream::{Cause, Message, Node};
-use fast_template::{Scalar, TemplateSet};
-use std::alloc::Global;
-use std::process::Abort;
-use stream_rows::ends::End;
-use stream_rows::modes::PLAIN;
-use stream_rows::quotes::{QUOTE, quote};
+use crate::base::*;
+use crate::decoding::steps::Step::{Fed, Finish, Held, Reset};
+use crate::decoding::steps::{Step, count};
+use stream_rows::quotes::QUOTE;
 use stream_rows::sent::text;
-use test_rows::Tried;
 
 // This text and nothing, in a vector with at least this much room.
 fn texts(alloc: Global, characters: &[u8], room: usize) -> Tried<Vec<Node>> {
@@ -59,50 +50,31 @@ fn messages_are_equal_by_their_contents(rt: HostRuntime) -> Tried {
     Ok(())
 }
 
-const TAKEN: &[Step] = &[
-    Step::Fed(0),
-    Step::Feed(QUOTE, End::Whole),
-    Step::Fed(8),
-    Step::Held(0),
-    Step::Finish(End::Whole),
-];
+const TAKEN: &[Step] = list! {
+    Fed(0), Feed(QUOTE, Whole), Fed(8), Held(0), Finish(Whole)
+};
 
-// This message alone was read.
-fn is_only(rt: &impl Abort, messages: &[Message], want: &Message) {
-    same(rt, messages.len(), 1);
-    same(rt, messages.first(), Some(want));
-}
-
-// The stream gives this message, over both kinds of entries.
-fn both_read_quote(rt: &impl Abort, alloc: Global, set: &TemplateSet, want: &Message) -> Tried {
-    let map = MapEntries::new(alloc);
-    is_only(rt, &follow(rt, alloc, set, PLAIN, map, TAKEN)?, want);
-    let slots = slots_of(alloc, set)?;
-    is_only(rt, &follow(rt, alloc, set, PLAIN, slots, TAKEN)?, want);
+// The stream gives this message alone, over both kinds of entries.
+#[test]
+fn a_stream_is_read(rt: HostRuntime) -> Tried {
+    let want = quote(rt.alloc(), b"AB", -2, 100)?;
+    let on = worked(&rt, rt.alloc())?;
+    let messages = follow(&rt, &on, PLAIN, MapEntries::new(rt.alloc()), TAKEN)?;
+    same(&rt, messages.len(), 1);
+    same(&rt, messages.first(), Some(&want));
+    let messages = follow(&rt, &on, PLAIN, slots_of(&on)?, TAKEN)?;
+    same(&rt, messages.len(), 1);
+    same(&rt, messages.first(), Some(&want));
     Ok(())
 }
 
 #[test]
-fn a_stream_is_read(rt: HostRuntime) -> Tried {
-    let want = quote(rt.alloc(), b"AB", -2, 100)?;
-    let set = worked(&rt, rt.alloc())?;
-    both_read_quote(&rt, rt.alloc(), &set, &want)
-}
-
-#[test]
 fn a_stream_is_refused_and_begun_again(rt: HostRuntime) -> Tried {
-    const REFUSED: End = End::Fault(Cause::D5, 1, 1, 0, 0);
-    const STEPS: &[Step] = &[
-        Step::Fed(0),
-        Step::Feed(&[0x80], REFUSED),
-        Step::Finish(REFUSED),
-        Step::Reset,
-        Step::Fed(0),
-        Step::Feed(QUOTE, End::Whole),
-        Step::Fed(8),
-        Step::Held(0),
-        Step::Finish(End::Whole),
-    ];
+    const REFUSED: End = At(D5, 1, 1, 0, 0);
+    const STEPS: &[Step] = list! {
+        Fed(0), Feed(&[0x80], REFUSED), Finish(REFUSED), Reset, Fed(0), Feed(QUOTE, Whole), Fed(8), Held(0),
+        Finish(Whole)
+    };
     same(&rt, count(&rt, rt.alloc(), STEPS)?, 1);
     Ok(())
 }
@@ -110,12 +82,9 @@ fn a_stream_is_refused_and_begun_again(rt: HostRuntime) -> Tried {
 // A stream that ends within the decimal, of which one byte has come.
 #[test]
 fn a_stream_that_is_cut_is_truncated(rt: HostRuntime) -> Tried {
-    const STEPS: &[Step] = &[
-        Step::Fed(0),
-        Step::Feed(&[0xF0, 0x81, 0x81, 0x41, 0xC2, 0xFE], End::Whole),
-        Step::Held(1),
-        Step::Finish(End::Fault(Cause::Truncated, 1, 5, 1, 3)),
-    ];
+    const STEPS: &[Step] = list! {
+        Fed(0), Feed(&[0xF0, 0x81, 0x81, 0x41, 0xC2, 0xFE], Whole), Held(1), Finish(At(Truncated, 1, 5, 1, 3))
+    };
     same(&rt, count(&rt, rt.alloc(), STEPS)?, 0);
     Ok(())
 }

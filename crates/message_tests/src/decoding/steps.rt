@@ -2,19 +2,8 @@
 
 ghost use Rattle.fast_walk.specs.Traversals.{ServesAll};
 
-use crate::granted::granted;
-use crate::same::same;
-use crate::slots::slots_of;
-use crate::worked::worked;
+use crate::base::*;
 use fast_decoder::{Decoder, Mode};
-use fast_dictionary::{Entries, MapEntries};
-use fast_stream::{Fault, Message};
-use fast_template::TemplateSet;
-use std::alloc::Global;
-use std::process::Abort;
-use stream_rows::ends::End;
-use stream_rows::modes::PLAIN;
-use test_rows::Tried;
 
 // A call, and what it answers.
 #[derive(Clone, Copy)]
@@ -28,82 +17,68 @@ pub(crate) enum Step<'a> {
     Held(usize),
 }
 
+// The messages of a stream, and then its fault, or none.
+#[derive(Clone, Copy)]
+pub(crate) struct Want<'a>(pub(crate) &'a [Message], pub(crate) Option<Fault>);
+
+// A decoder, and the messages that it gave.
+#[derive(Drop)]
+struct Fed<'a, E: Entries> {
+    decoder: Decoder<'a, E>,
+    out: Vec<Message>,
+}
+
 // Whether a decoder that was fed little is fed these bytes with this fault, or none.
-fn feeds<E: Entries>(
-    decoder: &mut Decoder<'_, E>,
-    bytes: &[u8],
-    end: End,
-    out: &mut Vec<Message>,
-) -> Tried<bool> {
-    if decoder.fed() >= 100_000 || bytes.len() >= 100_000 {
+fn feeds<E: Entries>(fed: &mut Fed<E>, bytes: &[u8], end: End) -> Tried<bool> {
+    if fed.decoder.fed() >= 100_000 || bytes.len() >= 100_000 {
         return Ok(false);
     }
-    let fault = granted(decoder.feed(bytes, out).err())?;
+    let fault = granted(fed.decoder.feed(bytes, &mut fed.out).err())?;
     Ok(fault == end.fault())
 }
 
 // Whether so many bytes are held after one byte more.
-fn holds_behind<E: Entries>(
-    decoder: &mut Decoder<'_, E>,
-    byte: u8,
-    held: usize,
-    out: &mut Vec<Message>,
-) -> Tried<bool> {
-    if decoder.fed() > 100_000 {
+fn holds_behind<E: Entries>(fed: &mut Fed<E>, byte: u8, held: usize) -> Tried<bool> {
+    if fed.decoder.fed() > 100_000 {
         return Ok(false);
     }
-    granted(decoder.feed(&[byte], out).err())?;
-    Ok(decoder.held() == held)
+    granted(fed.decoder.feed(&[byte], &mut fed.out).err())?;
+    Ok(fed.decoder.held() == held)
 }
 
-// Whether a fresh decoder is fed a stream that is cut in two with these messages and then this fault, or none.
-fn is_cut_so<E: Entries>(
-    decoder: &mut Decoder<'_, E>,
-    front: &[u8],
-    back: &[u8],
-    want: &[Message],
-    fault: Option<Fault>,
-    out: &mut Vec<Message>,
-) -> Tried<bool> {
-    out.clear();
-    if decoder.fed() != 0 || front.len() > 100_000 || back.len() > 100_000 {
+// Whether a fresh decoder is fed a stream that is cut in two with what is wanted.
+fn is_cut_so<E: Entries>(fed: &mut Fed<E>, front: &[u8], back: &[u8], want: Want) -> Tried<bool> {
+    fed.out.clear();
+    if fed.decoder.fed() != 0 || front.len() > 100_000 || back.len() > 100_000 {
         return Ok(false);
     }
-    let end = match decoder.feed(front, out) {
+    let end = match fed.decoder.feed(front, &mut fed.out) {
         Err(fault) => Some(fault),
-        Ok(()) => match decoder.feed(back, out) {
+        Ok(()) => match fed.decoder.feed(back, &mut fed.out) {
             Err(fault) => Some(fault),
-            Ok(()) => decoder.finish().err(),
+            Ok(()) => fed.decoder.finish().err(),
         },
     };
-    Ok(granted(end)? == fault && out.as_slice() == want)
+    Ok(granted(end)? == want.1 && fed.out.as_slice() == want.0)
 }
 
-fn takes<E: Entries>(
-    decoder: &mut Decoder<'_, E>,
-    step: Step,
-    out: &mut Vec<Message>,
-) -> Tried<bool> {
+fn takes<E: Entries>(fed: &mut Fed<E>, step: Step) -> Tried<bool> {
     match step {
-        Step::Feed(bytes, end) => feeds(decoder, bytes, end, out),
-        Step::Byte(byte, held) => holds_behind(decoder, byte, held, out),
-        Step::Finish(end) => Ok(decoder.finish().err() == end.fault()),
+        Step::Feed(bytes, end) => feeds(fed, bytes, end),
+        Step::Byte(byte, held) => holds_behind(fed, byte, held),
+        Step::Finish(end) => Ok(fed.decoder.finish().err() == end.fault()),
         Step::Reset => {
-            decoder.reset();
+            fed.decoder.reset();
             Ok(true)
         }
-        Step::Fed(count) => Ok(decoder.fed() == count),
-        Step::Held(count) => Ok(decoder.held() == count),
+        Step::Fed(count) => Ok(fed.decoder.fed() == count),
+        Step::Held(count) => Ok(fed.decoder.held() == count),
     }
 }
 
-fn takes_all<E: Entries>(
-    decoder: &mut Decoder<'_, E>,
-    steps: &[Step],
-    out: &mut Vec<Message>,
-) -> Tried<bool> {
+fn takes_all<E: Entries>(fed: &mut Fed<E>, steps: &[Step]) -> Tried<bool> {
     for step in steps {
-        if !takes(decoder, *step, out)? {
+        if !takes(fed, *step)? {
             return Ok(false);
         }
     }
@@ -115,32 +90,24 @@ fn takes_all<E: Entries>(
 pub(crate) enum Task<'a> {
     // Answer all steps so.
     Follow(&'a [Step<'a>]),
-    // Give these messages of a stream that is cut in two, and then this fault, or none.
-    Cut(&'a [u8], &'a [u8], &'a [Message], Option<Fault>),
+    // Give what is wanted of a stream that is cut in two.
+    Cut(&'a [u8], &'a [u8], Want<'a>),
 }
 
-fn fulfils<E: Entries>(
-    decoder: &mut Decoder<'_, E>,
-    task: Task,
-    out: &mut Vec<Message>,
-) -> Tried<bool> {
+fn fulfils<E: Entries>(fed: &mut Fed<E>, task: Task) -> Tried<bool> {
     match task {
-        Task::Follow(steps) => takes_all(decoder, steps, out),
-        Task::Cut(front, back, want, fault) => is_cut_so(decoder, front, back, want, fault, out),
+        Task::Follow(steps) => takes_all(fed, steps),
+        Task::Cut(front, back, want) => is_cut_so(fed, front, back, want),
     }
 }
 
 // Whether a decoder does. Where memory was refused, it does after a reset, and the test ends.
-fn fulfils_or_resets<E: Entries>(
-    decoder: &mut Decoder<'_, E>,
-    task: Task,
-    out: &mut Vec<Message>,
-) -> Tried<bool> {
-    match fulfils(decoder, task, out) {
+fn fulfils_or_resets<E: Entries>(fed: &mut Fed<E>, task: Task) -> Tried<bool> {
+    match fulfils(fed, task) {
         Ok(done) => Ok(done),
         Err(error) => {
-            decoder.reset();
-            if fulfils(decoder, task, out) == Ok(true) {
+            fed.decoder.reset();
+            if fulfils(fed, task) == Ok(true) {
                 Err(error)
             } else {
                 Ok(false)
@@ -149,69 +116,57 @@ fn fulfils_or_resets<E: Entries>(
     }
 }
 
-// Whether a decoder over these entries does.
+// The messages of a decoder over these entries, where it does.
 fn fulfils_over<E: Entries>(
-    alloc: Global,
-    set: &TemplateSet,
+    on: &Loaded,
     mode: Mode,
     entries: E,
     task: Task,
-    out: &mut Vec<Message>,
-) -> Tried<bool>
-    requires { ServesAll (E.serves entries) set.now }
+) -> Tried<Option<Vec<Message>>>
+    requires { ServesAll (E.serves entries) on.now.set }
 {
-    let mut decoder = Decoder::new(alloc, set, mode, entries);
-    fulfils_or_resets(&mut decoder, task, out)
+    let decoder = Decoder::new(on.alloc, &on.set, mode, entries);
+    let out = Vec::new(on.alloc);
+    let mut fed = Fed { decoder, out };
+    let done = fulfils_or_resets(&mut fed, task)?;
+    Ok(if done { Some(fed.out) } else { None })
 }
 
 // Whether decoders over both kinds of entries do.
-pub(crate) fn both_fulfil(
-    alloc: Global,
-    set: &TemplateSet,
-    mode: Mode,
-    task: Task,
-    out: &mut Vec<Message>,
-) -> Tried<bool> {
-    if !fulfils_over(alloc, set, mode, MapEntries::new(alloc), task, out)? {
+pub(crate) fn both_fulfil(on: &Loaded, mode: Mode, task: Task) -> Tried<bool> {
+    let map = MapEntries::new(on.alloc);
+    if fulfils_over(on, mode, map, task)?.is_none() {
         return Ok(false);
     }
-    fulfils_over(alloc, set, mode, slots_of(alloc, set)?, task, out)
+    Ok(fulfils_over(on, mode, slots_of(on)?, task)?.is_some())
 }
 
 // The messages of a decoder that answers all steps so.
 pub(crate) fn follow<E: Entries>(
     rt: &impl Abort,
-    alloc: Global,
-    set: &TemplateSet,
+    on: &Loaded,
     mode: Mode,
     entries: E,
     steps: &[Step],
 ) -> Tried<Vec<Message>>
-    requires { ServesAll (E.serves entries) set.now }
+    requires { ServesAll (E.serves entries) on.now.set }
 {
-    let mut messages = Vec::new(alloc);
-    let task = Task::Follow(steps);
-    let done = fulfils_over(alloc, set, mode, entries, task, &mut messages)?;
-    same(rt, done, true);
-    Ok(messages)
+    match fulfils_over(on, mode, entries, Task::Follow(steps))? {
+        Some(messages) => Ok(messages),
+        None => panic!(rt; "not so"),
+    }
 }
 
 // The number of messages of a decoder that answers all steps so, over both kinds of entries.
-pub(crate) fn count_in(
-    rt: &impl Abort,
-    alloc: Global,
-    set: &TemplateSet,
-    mode: Mode,
-    steps: &[Step],
-) -> Tried<usize> {
-    let messages = follow(rt, alloc, set, mode, MapEntries::new(alloc), steps)?;
-    let others = follow(rt, alloc, set, mode, slots_of(alloc, set)?, steps)?;
+pub(crate) fn count_in(rt: &impl Abort, on: &Loaded, mode: Mode, steps: &[Step]) -> Tried<usize> {
+    let messages = follow(rt, on, mode, MapEntries::new(on.alloc), steps)?;
+    let others = follow(rt, on, mode, slots_of(on)?, steps)?;
     same(rt, others.as_slice() == messages.as_slice(), true);
     Ok(messages.len())
 }
 
 // The same of the worked templates and plain messages.
 pub(crate) fn count(rt: &impl Abort, alloc: Global, steps: &[Step]) -> Tried<usize> {
-    let set = worked(rt, alloc)?;
-    count_in(rt, alloc, &set, PLAIN, steps)
+    let on = worked(rt, alloc)?;
+    count_in(rt, &on, PLAIN, steps)
 }

@@ -2,33 +2,18 @@
 
 ghost use Rattle.fast_walk.specs.Traversals.{ServesAll};
 
-use crate::decoding::steps::{Step, follow};
-use crate::same::same;
-use crate::slots::slots_of;
-use crate::worked::{loaded, worked};
-use fast_dictionary::{Entries, MapEntries};
+use crate::base::*;
+use crate::encoding::relaying::STREAMS;
 use fast_encoder::{EncodeCause, EncodeFault, Encoder, MessageOutputStream};
 use fast_io::{ByteOutput, Counted, ScriptOutput};
-use fast_stream::{Message, Node};
-use fast_template::{Scalar, TemplateSet, UnicodeText};
-use std::alloc::{AllocError, Global};
-use std::process::Abort;
+use fast_template::UnicodeText;
 use std::str::from_utf8;
-use stream_rows::ends::End;
-use stream_rows::modes::PLAIN;
-use stream_rows::quotes::quote;
 use stream_rows::sent::text;
-use test_rows::{Tried, rows};
 
 // The messages of a stream.
-fn decoded(
-    rt: &impl Abort,
-    alloc: Global,
-    set: &TemplateSet,
-    stream: &[u8],
-) -> Tried<Vec<Message>> {
-    let steps = [Step::Feed(stream, End::Whole)];
-    follow(rt, alloc, set, PLAIN, MapEntries::new(alloc), &steps)
+fn decoded(rt: &impl Abort, on: &Loaded, stream: &[u8]) -> Tried<Vec<Message>> {
+    let steps = [Feed(stream, Whole)];
+    follow(rt, on, PLAIN, MapEntries::new(on.alloc), &steps)
 }
 
 // Whether an answer is that of refused memory.
@@ -39,78 +24,50 @@ fn is_for_memory(answer: Result<(), EncodeFault>) -> bool {
     }
 }
 
+// An encoder, and what it appended.
+#[derive(Drop)]
+struct Fed<'a, E: Entries> {
+    encoder: Encoder<'a, E>,
+    out: Vec<u8>,
+}
+
 // Whether an encoder answers this to a message. Where memory was refused, nothing was appended, the same call answers
 // it, and the test ends.
 fn answers<E: Entries>(
-    encoder: &mut Encoder<'_, E>,
+    fed: &mut Fed<E>,
     message: &Message,
     want: Result<(), EncodeFault>,
-    out: &mut Vec<u8>,
 ) -> Tried<bool> {
-    let size = out.len();
-    let given = encoder.encode(message, out);
+    let size = fed.out.len();
+    let given = fed.encoder.encode(message, &mut fed.out);
     if !is_for_memory(given) {
         return Ok(given == want);
     }
-    if out.len() == size && encoder.encode(message, out) == want {
+    if fed.out.len() == size && fed.encoder.encode(message, &mut fed.out) == want {
         return Err(AllocError);
     }
     Ok(false)
 }
 
 // Whether all messages are encoded.
-fn encodes_all<E: Entries>(
-    encoder: &mut Encoder<'_, E>,
-    messages: &[Message],
-    out: &mut Vec<u8>,
-) -> Tried<bool> {
+fn encodes_all<E: Entries>(fed: &mut Fed<E>, messages: &[Message]) -> Tried<bool> {
     for message in messages {
-        if !answers(encoder, message, Ok(()), out)? {
+        if !answers(fed, message, Ok(()))? {
             return Ok(false);
         }
     }
     Ok(true)
 }
 
-// Whether messages have these canonical bytes.
-fn encodes<E: Entries>(
-    encoder: &mut Encoder<'_, E>,
-    messages: &[Message],
-    canonical: &[u8],
-    out: &mut Vec<u8>,
-) -> Tried<bool> {
-    Ok(encodes_all(encoder, messages, out)? && out.as_slice() == canonical)
-}
-
-// Whether a message is refused so behind others, and nothing appended.
-fn refuses_behind<E: Entries>(
-    encoder: &mut Encoder<'_, E>,
-    before: &[Message],
-    message: &Message,
-    fault: EncodeFault,
-    out: &mut Vec<u8>,
-) -> Tried<bool> {
-    if !encodes_all(encoder, before, out)? {
-        return Ok(false);
-    }
-    let size = out.len();
-    Ok(answers(encoder, message, Err(fault), out)? && out.len() == size)
-}
-
 // Whether a refusal leaves the entries as they were, and a reset makes them undefined, and what is written.
-fn goes_on<E: Entries>(
-    encoder: &mut Encoder<'_, E>,
-    long: &Message,
-    short: &Message,
-    out: &mut Vec<u8>,
-) -> Tried<bool> {
+fn goes_on<E: Entries>(fed: &mut Fed<E>, long: &Message, short: &Message) -> Tried<bool> {
     const WANT: &[u8] = b"\xe0\x88\x78\x61\xe2\x80\xe0\x88\x78\x61\xe2";
-    let first = answers(encoder, long, Ok(()), out)?;
-    let second = encoder.encode(short, out).is_err();
-    let third = answers(encoder, long, Ok(()), out)?;
-    encoder.reset();
-    let fourth = answers(encoder, long, Ok(()), out)?;
-    Ok(first && second && third && fourth && out.as_slice() == WANT)
+    let first = answers(fed, long, Ok(()))?;
+    let second = fed.encoder.encode(short, &mut fed.out).is_err();
+    let third = answers(fed, long, Ok(()))?;
+    fed.encoder.reset();
+    let fourth = answers(fed, long, Ok(()))?;
+    Ok(first && second && third && fourth && fed.out.as_slice() == WANT)
 }
 
 // What an encoder that is new must do.
@@ -125,95 +82,60 @@ pub(crate) enum Task<'a> {
 }
 
 // Whether it does.
-fn fulfils<E: Entries>(
-    encoder: &mut Encoder<'_, E>,
-    task: &Task,
-    out: &mut Vec<u8>,
-) -> Tried<bool> {
+fn fulfils<E: Entries>(fed: &mut Fed<E>, task: &Task) -> Tried<bool> {
     match task {
-        Task::Encode(messages, canonical) => encodes(encoder, messages, canonical, out),
-        Task::Refuse(before, message, fault) => {
-            refuses_behind(encoder, before, message, *fault, out)
+        Task::Encode(messages, canonical) => {
+            Ok(encodes_all(fed, messages)? && fed.out.as_slice() == *canonical)
         }
-        Task::GoOn(long, short) => goes_on(encoder, long, short, out),
+        Task::Refuse(before, message, fault) => {
+            if !encodes_all(fed, before)? {
+                return Ok(false);
+            }
+            let size = fed.out.len();
+            Ok(answers(fed, message, Err(*fault))? && fed.out.len() == size)
+        }
+        Task::GoOn(long, short) => goes_on(fed, long, short),
     }
 }
 
 // The same over these entries.
-fn fulfils_over<E: Entries>(
-    alloc: Global,
-    set: &TemplateSet,
-    entries: E,
-    task: &Task,
-) -> Tried<bool>
-    requires { ServesAll (E.serves entries) set.now }
+fn fulfils_over<E: Entries>(on: &Loaded, entries: E, task: &Task) -> Tried<bool>
+    requires { ServesAll (E.serves entries) on.now.set }
 {
-    let mut encoder = Encoder::new(alloc, set, entries);
-    let mut out = Vec::new(alloc);
-    fulfils(&mut encoder, task, &mut out)
+    let encoder = Encoder::new(on.alloc, &on.set, entries);
+    let out = Vec::new(on.alloc);
+    fulfils(&mut Fed { encoder, out }, task)
 }
 
 // Encoders over both kinds of entries do.
-pub(crate) fn both_fulfil(rt: &impl Abort, alloc: Global, set: &TemplateSet, task: &Task) -> Tried {
-    let map = MapEntries::new(alloc);
-    same(rt, fulfils_over(alloc, set, map, task)?, true);
-    let slots = slots_of(alloc, set)?;
-    same(rt, fulfils_over(alloc, set, slots, task)?, true);
+pub(crate) fn both_fulfil(rt: &impl Abort, on: &Loaded, task: &Task) -> Tried {
+    let map = MapEntries::new(on.alloc);
+    same(rt, fulfils_over(on, map, task)?, true);
+    let slots = slots_of(on)?;
+    same(rt, fulfils_over(on, slots, task)?, true);
     Ok(())
 }
 
 // The messages of a stream have these canonical bytes.
 pub(crate) fn has_canonical(
     rt: &impl Abort,
-    alloc: Global,
-    set: &TemplateSet,
+    on: &Loaded,
     stream: &[u8],
     canonical: &[u8],
 ) -> Tried {
-    let messages = decoded(rt, alloc, set, stream)?;
-    both_fulfil(rt, alloc, set, &Task::Encode(&messages, canonical))
-}
-
-// Streams, and their canonical bytes.
-fn all_have_canonical(rt: &impl Abort, alloc: Global, rows: &[(&[u8], &[u8])]) -> Tried {
-    let set = worked(rt, alloc)?;
-    for (stream, canonical) in rows {
-        has_canonical(rt, alloc, &set, stream, canonical)?;
-    }
-    Ok(())
+    let messages = decoded(rt, on, stream)?;
+    both_fulfil(rt, on, &Task::Encode(&messages, canonical))
 }
 
 #[test]
 fn canonical_messages(rt: HostRuntime) -> Tried {
-    const ROWS: &[(&[u8], &[u8])] = rows! {
-        // messages of streams
-        b"\xf0\x81\x81\x41\xc2\xfe\x00\xe4", b"\xf0\x81\x81\x41\xc2\xfe\x00\xe4";
-        b"\xf0\x81\x81\x41\xc2\xfe\x00\xe4\x80\x80\x81", b"\xf0\x81\x81\x41\xc2\xfe\x00\xe4\x80\x80\x81";
-        b"\xf0\x81\x81\x41\xc2\xfe\x00\xe4\xf8\x81\x82\x41\xc2\x80\x81\x80",
-            b"\xf0\x81\x81\x41\xc2\xfe\x00\xe4\x80\x80\x81";
-        b"\xc0\x8a\x80\x47\x45\x48\xb6\x80\x82\x4d\xb6\x80\xfd\x45\xd3",
-            b"\xc0\x8a\x80\x47\x45\x48\xb6\x80\x82\x4d\xb6\x80\xfd\x45\xd3";
-        // messages with others inside
-        b"\xf0\x83\x80\x85\x90\x39\x45\xa3", b"\xf0\x83\x80\x85\x90\x39\x45\xa3";
-        b"\xc0\x84\x80\x80\x81\x80\x83\x85\x86", b"\xc0\x84\x80\x80\x81\x80\x83\x85\x86";
-        b"\xc0\x85\x82\xc0\x85\x80", b"\xc0\x85\x82\xc0\x85\x80";
-        b"\xf0\x8b\xc0\x85\x86\x80\xa0\x80", b"\xf0\x8b\xc0\x85\x86\x80\xa0\x80";
-    };
-    all_have_canonical(&rt, rt.alloc(), ROWS)
-}
-
-// A message is refused for this behind others, over both kinds of entries.
-fn is_refused(
-    rt: &impl Abort,
-    alloc: Global,
-    before: &[Message],
-    message: &Message,
-    cause: EncodeCause,
-    instruction: u32,
-) -> Tried {
-    let fault = EncodeFault { cause, instruction };
-    let set = worked(rt, alloc)?;
-    both_fulfil(rt, alloc, &set, &Task::Refuse(before, message, fault))
+    let on = worked(&rt, rt.alloc())?;
+    for row in STREAMS {
+        if !row.refused {
+            has_canonical(&rt, &on, row.stream, row.canonical)?;
+        }
+    }
+    Ok(())
 }
 
 pub(crate) fn message(template: u32, fields: Vec<Node>) -> Message {
@@ -307,10 +229,12 @@ impl Odd {
 // A message, why it is refused, and the instruction.
 struct Refused(Odd, EncodeCause, u32);
 
-fn all_refused(rt: &impl Abort, alloc: Global, before: &[Message], rows: &[Refused]) -> Tried {
+fn all_refused(rt: &impl Abort, on: &Loaded, before: &[Message], rows: &[Refused]) -> Tried {
     for Refused(odd, cause, instruction) in rows {
-        let message = odd.message(alloc)?;
-        is_refused(rt, alloc, before, &message, *cause, *instruction)?;
+        let message = odd.message(on.alloc)?;
+        let (cause, instruction) = (*cause, *instruction);
+        let fault = EncodeFault { cause, instruction };
+        both_fulfil(rt, on, &Task::Refuse(before, &message, fault))?;
     }
     Ok(())
 }
@@ -332,7 +256,7 @@ fn messages_that_are_refused(rt: HostRuntime) -> Tried {
         Odd::Fixed, EncodeCause::D3, 1;
         Odd::Emptied, EncodeCause::D6, 2;
     };
-    all_refused(&rt, rt.alloc(), &[], ROWS)
+    all_refused(&rt, &worked(&rt, rt.alloc())?, &[], ROWS)
 }
 
 // The same behind a message of a string.
@@ -343,15 +267,15 @@ fn messages_that_are_refused_behind_another(rt: HostRuntime) -> Tried {
         Odd::Short, EncodeCause::TooShort, 1;
     };
     let before = string(rt.alloc(), 8, b"xab")?;
-    all_refused(&rt, rt.alloc(), &[before], ROWS)
+    all_refused(&rt, &worked(&rt, rt.alloc())?, &[before], ROWS)
 }
 
 #[test]
 fn a_refusal_changes_nothing(rt: HostRuntime) -> Tried {
     let long = string(rt.alloc(), 8, b"xab")?;
     let short = string(rt.alloc(), 8, b"x")?;
-    let set = worked(&rt, rt.alloc())?;
-    both_fulfil(&rt, rt.alloc(), &set, &Task::GoOn(&long, &short))
+    let on = worked(&rt, rt.alloc())?;
+    both_fulfil(&rt, &on, &Task::GoOn(&long, &short))
 }
 
 const WRITE: EncodeFault = EncodeFault {
@@ -359,11 +283,11 @@ const WRITE: EncodeFault = EncodeFault {
     instruction: 0,
 };
 
+// A stream of messages over a script.
+type Output<'a, 'o> = MessageOutputStream<'a, Counted<&'o mut ScriptOutput>, MapEntries>;
+
 // Whether a write fails.
-fn fails<W: ByteOutput, E: Entries>(
-    stream: &mut MessageOutputStream<'_, W, E>,
-    first: &Message,
-) -> Tried<bool> {
+fn fails(stream: &mut Output, first: &Message) -> Tried<bool> {
     let answer = stream.write_message(first);
     if is_for_memory(answer) {
         return Err(AllocError);
@@ -371,22 +295,8 @@ fn fails<W: ByteOutput, E: Entries>(
     Ok(answer == Err(WRITE))
 }
 
-// Whether a write that fails is kept, also behind a reset.
-fn fails_thrice<W: ByteOutput, E: Entries>(
-    stream: &mut MessageOutputStream<'_, W, E>,
-    first: &Message,
-) -> Tried<bool> {
-    let once = fails(stream, first)?;
-    let twice = fails(stream, first)?;
-    stream.reset();
-    Ok(once && twice && fails(stream, first)?)
-}
-
 // Whether a message is written. Where memory was refused, to the stream or to the writer, the test ends.
-fn writes<W: ByteOutput, E: Entries>(
-    stream: &mut MessageOutputStream<'_, W, E>,
-    message: &Message,
-) -> Tried<bool> {
+fn writes(stream: &mut Output, message: &Message) -> Tried<bool> {
     let answer = stream.write_message(message);
     if is_for_memory(answer) || answer == Err(WRITE) {
         return Err(AllocError);
@@ -394,66 +304,54 @@ fn writes<W: ByteOutput, E: Entries>(
     Ok(answer.is_ok())
 }
 
-// Whether the messages are written one behind the other, and anew behind a reset.
-fn writes_each<W: ByteOutput, E: Entries>(
-    stream: &mut MessageOutputStream<'_, W, E>,
-    two: &[Message],
-) -> Tried<bool> {
-    for message in two {
-        if !writes(stream, message)? {
-            return Ok(false);
-        }
-    }
-    stream.reset();
-    match two.first() {
-        Some(first) => writes(stream, first),
-        None => Ok(false),
-    }
-}
-
 // What a stream of messages meets.
 #[derive(Clone, Copy)]
 enum Writer<'a> {
-    // A writer that fails at this message.
+    // A writer that fails at this message: the failure is kept, also behind a reset.
     Fails(&'a Message),
-    // A writer that takes all of these.
+    // A writer that takes all of these one behind the other, and the first anew behind a reset.
     Takes(&'a [Message]),
 }
 
-fn meets<W: ByteOutput, E: Entries>(
-    stream: &mut MessageOutputStream<'_, W, E>,
-    writer: Writer,
-) -> Tried<bool> {
+fn meets(stream: &mut Output, writer: Writer) -> Tried<bool> {
     match writer {
-        Writer::Fails(first) => fails_thrice(stream, first),
-        Writer::Takes(two) => writes_each(stream, two),
+        Writer::Fails(first) => {
+            let once = fails(stream, first)?;
+            let twice = fails(stream, first)?;
+            stream.reset();
+            Ok(once && twice && fails(stream, first)?)
+        }
+        Writer::Takes(two) => {
+            for message in two {
+                if !writes(stream, message)? {
+                    return Ok(false);
+                }
+            }
+            stream.reset();
+            match two.first() {
+                Some(first) => writes(stream, first),
+                None => Ok(false),
+            }
+        }
     }
 }
 
 // Whether a stream of messages that is new meets it.
-fn writes_to(
-    alloc: Global,
-    set: &TemplateSet,
-    writer: Writer,
-    out: &mut ScriptOutput,
-) -> Tried<bool> {
-    let counted = Counted::new(out);
-    let mut stream = MessageOutputStream::new(alloc, counted, set, MapEntries::new(alloc));
+fn writes_to(on: &Loaded, writer: Writer, out: &mut ScriptOutput) -> Tried<bool> {
+    let (counted, map) = (Counted::new(out), MapEntries::new(on.alloc));
+    let mut stream = MessageOutputStream::new(on.alloc, counted, &on.set, map);
     meets(&mut stream, writer)
 }
 
 // A writer keeps failing, and has taken these bytes, or a front of them where its own memory was refused.
 fn fails_behind(
     rt: &impl Abort,
-    alloc: Global,
-    set: &TemplateSet,
+    on: &Loaded,
     first: &Message,
-    writer: ScriptOutput,
+    mut out: ScriptOutput,
     taken: &[u8],
 ) -> Tried {
-    let mut out = writer;
-    let failing = Writer::Fails(first);
-    same(rt, writes_to(alloc, set, failing, &mut out)?, true);
+    same(rt, writes_to(on, Writer::Fails(first), &mut out)?, true);
     same(rt, taken.starts_with(out.bytes()), true);
     if out.bytes() != taken {
         return Err(AllocError);
@@ -461,43 +359,19 @@ fn fails_behind(
     Ok(())
 }
 
-fn writers_fail(rt: &impl Abort, alloc: Global, set: &TemplateSet, first: &Message) -> Tried {
-    let full = ScriptOutput::new(alloc, 3, false, false);
-    fails_behind(rt, alloc, set, first, full, &[0xf0, 0x81, 0x81])?;
-    let none = ScriptOutput::new(alloc, 0, true, false);
-    fails_behind(rt, alloc, set, first, none, &[])
-}
-
-fn writers_fail_at(rt: &impl Abort, alloc: Global, set: &TemplateSet, stream: &[u8]) -> Tried {
-    let messages = decoded(rt, alloc, set, stream)?;
-    match messages.first() {
-        Some(first) => writers_fail(rt, alloc, set, first),
-        None => panic!(rt; "no message"),
-    }
-}
-
 #[test]
 fn a_writer_that_fails(rt: HostRuntime) -> Tried {
-    let set = worked(&rt, rt.alloc())?;
-    writers_fail_at(&rt, rt.alloc(), &set, b"\xf0\x81\x81\x41\xc2\xfe\x00\xe4")
-}
-
-// The messages of a stream are written so.
-fn are_written(
-    rt: &impl Abort,
-    alloc: Global,
-    set: &TemplateSet,
-    stream: &[u8],
-    want: &[u8],
-) -> Tried {
-    let two = decoded(rt, alloc, set, stream)?;
-    let mut out = ScriptOutput::new(alloc, 100, false, false);
-    let written = writes_to(alloc, set, Writer::Takes(&two), &mut out);
-    // also where memory was refused
-    same(rt, want.starts_with(out.bytes()), true);
-    same(rt, written?, true);
-    same(rt, out.bytes(), want);
-    Ok(())
+    let on = worked(&rt, rt.alloc())?;
+    let messages = decoded(&rt, &on, b"\xf0\x81\x81\x41\xc2\xfe\x00\xe4")?;
+    match messages.first() {
+        Some(first) => {
+            let full = ScriptOutput::new(rt.alloc(), 3, false, false);
+            fails_behind(&rt, &on, first, full, &[0xf0, 0x81, 0x81])?;
+            let none = ScriptOutput::new(rt.alloc(), 0, true, false);
+            fails_behind(&rt, &on, first, none, &[])
+        }
+        None => panic!(rt; "no message"),
+    }
 }
 
 #[test]
@@ -505,8 +379,15 @@ fn a_writer_that_takes_all(rt: HostRuntime) -> Tried {
     const TWO: &[u8] = b"\xf0\x81\x81\x41\xc2\xfe\x00\xe4\x80\x80\x81";
     const WANT: &[u8] =
         b"\xf0\x81\x81\x41\xc2\xfe\x00\xe4\x80\x80\x81\xf0\x81\x81\x41\xc2\xfe\x00\xe4";
-    let set = worked(&rt, rt.alloc())?;
-    are_written(&rt, rt.alloc(), &set, TWO, WANT)
+    let on = worked(&rt, rt.alloc())?;
+    let two = decoded(&rt, &on, TWO)?;
+    let mut out = ScriptOutput::new(rt.alloc(), 100, false, false);
+    let written = writes_to(&on, Writer::Takes(&two), &mut out);
+    // also where memory was refused
+    same(&rt, WANT.starts_with(out.bytes()), true);
+    same(&rt, written?, true);
+    same(&rt, out.bytes(), WANT);
+    Ok(())
 }
 
 // The last digit of a number, as a character.
@@ -551,21 +432,17 @@ fn wide_message(alloc: Global, fields: u32) -> Tried<Message> {
     Ok(message(1, nodes))
 }
 
-// Whether a message with a map bit too many is refused.
-fn refuses_wide(alloc: Global, set: &TemplateSet, wide: &Message) -> Tried<bool> {
-    let fault = EncodeFault {
+#[test]
+fn a_map_without_room(rt: HostRuntime) -> Tried {
+    const LIMIT: EncodeFault = EncodeFault {
         cause: EncodeCause::Limit,
         instruction: 0,
     };
-    let task = Task::Refuse(&[], wide, fault);
-    fulfils_over(alloc, set, MapEntries::new(alloc), &task)
-}
-
-#[test]
-fn a_map_without_room(rt: HostRuntime) -> Tried {
     let template = wide_template(rt.alloc(), 1792)?;
     let wide = wide_message(rt.alloc(), 1792)?;
-    let set = loaded(&rt, rt.alloc(), from_utf8(&template).unwrap_or(""))?;
-    same(&rt, refuses_wide(rt.alloc(), &set, &wide)?, true);
+    let on = loaded(&rt, rt.alloc(), from_utf8(&template).unwrap_or(""))?;
+    let task = Task::Refuse(&[], &wide, LIMIT);
+    let map = MapEntries::new(rt.alloc());
+    same(&rt, fulfils_over(&on, map, &task)?, true);
     Ok(())
 }

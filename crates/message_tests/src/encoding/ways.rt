@@ -3,25 +3,17 @@
 
 ghost use Rattle.std.specs.Prelude.{◌≡◌, ◌<◌};
 
-use crate::granted::granted;
-use crate::same::same;
-use crate::slots::slots_of;
-use crate::worked::loaded;
+use crate::base::*;
+use crate::encoding::relaying::Relaying;
 use fast_decoder::Decoder;
-use fast_dictionary::{Entries, MapEntries, SlotEntries};
 use fast_encoder::{EncodeCause, Encoder};
 use fast_field::{FieldFault, read_field};
 use fast_machine::Machine;
-use fast_stream::{Fault, Message};
 use fast_template::{FieldPart, Flat, FlatTemplate, TemplateSet, part_needs_bit};
 use fast_walk::Output;
 use fast_wire::{Level, write_map};
 use fast_writer::Writer;
-use std::alloc::{AllocError, Global};
-use std::process::Abort;
-use stream_rows::modes::PLAIN;
 use template_tests::generated::{Numbers, put_sent};
-use test_rows::Tried;
 
 // More than the bytes of any stream here; a decoder asks how many it is fed.
 const LONGEST: usize = 65_536;
@@ -33,32 +25,26 @@ const TRIES: u32 = 24;
 
 // Templates with each operator, type and presence, and with decimals in parts.
 const TEMPLATES: &str = r#"{"templates":[
-{"name":"Numbers","id":1,"instructions":[
- {"kind":"uInt32","name":"NA","operator":"copy"},
+{"name":"Numbers","id":1,"instructions":[{"kind":"uInt32","name":"NA","operator":"copy"},
  {"kind":"uInt32","name":"NB","presence":"optional","operator":"increment"},
  {"kind":"int32","name":"NC","operator":"delta"},
  {"kind":"int32","name":"ND","presence":"optional","operator":"default","value":"-3"},
- {"kind":"uInt64","name":"NE","presence":"optional"},
- {"kind":"uInt64","name":"NF","operator":"default","value":"7"},
+ {"kind":"uInt64","name":"NE","presence":"optional"},{"kind":"uInt64","name":"NF","operator":"default","value":"7"},
  {"kind":"int64","name":"NG","presence":"optional","operator":"delta"},
  {"kind":"int64","name":"NH","operator":"increment","value":"5"},
  {"kind":"uInt32","name":"NI","operator":"constant","value":"9"},
- {"kind":"uInt32","name":"NJ","presence":"optional","operator":"constant","value":"9"},
- {"kind":"int32","name":"NK"},
+ {"kind":"uInt32","name":"NJ","presence":"optional","operator":"constant","value":"9"},{"kind":"int32","name":"NK"},
  {"kind":"uInt64","name":"NL","presence":"optional","operator":"copy","value":"1"}]},
-{"name":"Texts","id":2,"instructions":[
- {"kind":"string","name":"TA","operator":"delta"},
+{"name":"Texts","id":2,"instructions":[{"kind":"string","name":"TA","operator":"delta"},
  {"kind":"string","name":"TB","presence":"optional","operator":"tail"},
- {"kind":"string","name":"TC","operator":"copy","value":"AB"},
- {"kind":"string","name":"TD","presence":"optional"},
+ {"kind":"string","name":"TC","operator":"copy","value":"AB"},{"kind":"string","name":"TD","presence":"optional"},
  {"kind":"string","charset":"unicode","name":"TE","operator":"copy"},
  {"kind":"string","charset":"unicode","name":"TF","presence":"optional","operator":"delta"},
  {"kind":"byteVector","name":"TG","operator":"tail"},
  {"kind":"byteVector","name":"TH","presence":"optional","operator":"default","value":"4142"},
  {"kind":"string","name":"TI","presence":"optional","operator":"constant","value":"A"},
  {"kind":"byteVector","name":"TJ"}]},
-{"name":"Decimals","id":3,"instructions":[
- {"kind":"decimal","name":"DA"},
+{"name":"Decimals","id":3,"instructions":[{"kind":"decimal","name":"DA"},
  {"kind":"decimal","name":"DB","presence":"optional","operator":"copy"},
  {"kind":"decimal","name":"DC","operator":"delta"},
  {"kind":"decimal","name":"DD","presence":"optional","exponent":{"operator":"default","value":"-2"},"mantissa":{"operator":"delta"}},
@@ -178,13 +164,9 @@ fn generated(alloc: Global, numbers: &mut Numbers, set: &TemplateSet) -> Tried<V
 }
 
 // What a decoder makes of a stream: the messages before its first fault, and that.
-fn decoded(
-    alloc: Global,
-    set: &TemplateSet,
-    stream: &[u8],
-) -> Tried<(Vec<Message>, Option<Fault>)> {
-    let mut decoder = Decoder::new(alloc, set, PLAIN, slots_of(alloc, set)?);
-    let mut messages = Vec::new(alloc);
+fn decoded(on: &Loaded, stream: &[u8]) -> Tried<(Vec<Message>, Option<Fault>)> {
+    let mut decoder = Decoder::new(on.alloc, &on.set, PLAIN, slots_of(on)?);
+    let mut messages = Vec::new(on.alloc);
     if stream.len() > LONGEST {
         return Err(AllocError);
     }
@@ -196,14 +178,9 @@ fn decoded(
 }
 
 // The canonical bytes that an encoder makes of messages.
-fn encoded(
-    rt: &impl Abort,
-    alloc: Global,
-    set: &TemplateSet,
-    messages: &[Message],
-) -> Tried<Vec<u8>> {
-    let mut encoder = Encoder::new(alloc, set, slots_of(alloc, set)?);
-    let mut canonical = Vec::new(alloc);
+fn encoded(rt: &impl Abort, on: &Loaded, messages: &[Message]) -> Tried<Vec<u8>> {
+    let mut encoder = Encoder::new(on.alloc, &on.set, slots_of(on)?);
+    let mut canonical = Vec::new(on.alloc);
     for message in messages {
         if let Err(fault) = encoder.encode(message, &mut canonical) {
             same(rt, fault.cause, EncodeCause::Memory);
@@ -214,11 +191,7 @@ fn encoded(
 }
 
 // The first fault of a stream that a machine is fed in pieces of so many bytes.
-fn fault_in_pieces(
-    machine: &mut Machine<'_, Writer, SlotEntries<'_>>,
-    stream: &[u8],
-    size: usize,
-) -> Tried<Option<Fault>>
+fn fault_in_pieces(machine: &mut Relaying, stream: &[u8], size: usize) -> Tried<Option<Fault>>
     requires { 0 < size }
 {
     for piece in stream.chunks(size) {
@@ -233,12 +206,12 @@ fn fault_in_pieces(
 }
 
 // A stream that is read and written at once has the canonical bytes, and the fault, of one that is decoded and encoded.
-fn goes_both_ways(rt: &impl Abort, alloc: Global, set: &TemplateSet, stream: &[u8]) -> Tried {
-    let (messages, fault) = decoded(alloc, set, stream)?;
-    let canonical = encoded(rt, alloc, set, &messages)?;
+fn goes_both_ways(rt: &impl Abort, on: &Loaded, stream: &[u8]) -> Tried {
+    let (messages, fault) = decoded(on, stream)?;
+    let canonical = encoded(rt, on, &messages)?;
     for size in [LONGEST, 1, 2, 7] {
-        let entries = slots_of(alloc, set)?;
-        let mut machine = Machine::new(alloc, set, PLAIN, Writer::new(alloc), entries);
+        let entries = slots_of(on)?;
+        let mut machine = Machine::new(on.alloc, &on.set, PLAIN, Writer::new(on.alloc), entries);
         same(rt, fault_in_pieces(&mut machine, stream, size)?, fault);
         same(rt, machine.receiver.finished(), canonical.as_slice());
         same(rt, machine.messages(), messages.len() as u64);
@@ -247,35 +220,27 @@ fn goes_both_ways(rt: &impl Abort, alloc: Global, set: &TemplateSet, stream: &[u
 }
 
 // The same of a stream with another byte at a place, and of what stands in front of that.
-fn goes_on_both_ways(
-    rt: &impl Abort,
-    alloc: Global,
-    numbers: &mut Numbers,
-    set: &TemplateSet,
-    stream: &[u8],
-    at: usize,
-) -> Tried {
-    let mut other = stream.to_vec(alloc)?;
-    if let Some(byte) = other.get_mut(at) {
-        *byte = numbers.below(255);
+fn goes_on_both_ways(rt: &impl Abort, on: &Loaded, stream: &[u8], at: usize, other: u8) -> Tried {
+    let mut changed = stream.to_vec(on.alloc)?;
+    if let Some(byte) = changed.get_mut(at) {
+        *byte = other;
     }
-    goes_both_ways(rt, alloc, set, &other)?;
-    goes_both_ways(rt, alloc, set, &stream[..at.min(stream.len())])
+    goes_both_ways(rt, on, &changed)?;
+    goes_both_ways(rt, on, &stream[..at.min(stream.len())])
 }
 
 #[test]
 fn generated_streams_go_the_same_both_ways(rt: HostRuntime) -> Tried {
-    let alloc = rt.alloc();
-    let set = loaded(&rt, alloc, TEMPLATES)?;
+    let on = loaded(&rt, rt.alloc(), TEMPLATES)?;
     let mut numbers = Numbers::new(2);
     let mut bytes = 0usize;
     for _ in 0..24u8 {
-        let stream = generated(alloc, &mut numbers, &set)?;
+        let stream = generated(rt.alloc(), &mut numbers, &on.set)?;
         bytes = bytes.saturating_add(stream.len());
-        goes_both_ways(&rt, alloc, &set, &stream)?;
+        goes_both_ways(&rt, &on, &stream)?;
         for _ in 0..6u8 {
             let at = stream.len().saturating_mul(usize::from(numbers.below(255))) / 255;
-            goes_on_both_ways(&rt, alloc, &mut numbers, &set, &stream, at)?;
+            goes_on_both_ways(&rt, &on, &stream, at, numbers.below(255))?;
         }
     }
     // (they are no streams of a message or two)

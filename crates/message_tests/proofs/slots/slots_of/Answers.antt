@@ -8,4 +8,4 @@ use Rattle.message_tests.proofs.slots.slots_of.Goals as goal
 
 -- slots serve the keys of their set
 pub returns-in-Ok : goal.returns-in-Ok
-returns-in-Ok c = λ k found. subst (λ f. IsTrue (f k)) (sym c.in-Ok.ensures.keys) (list_any-from_Contains (eq_by_cmp_equiv key_cmp-total) k (keys_in c.args.set.now) found)
+returns-in-Ok c = λ k found. subst (λ f. IsTrue (f k)) (sym c.in-Ok.ensures.keys) (list_any-from_Contains (eq_by_cmp_equiv key_cmp-total) k (keys_in c.args.on.now.set) found)
