@@ -1,9 +1,8 @@
 //! Recordings that are accepted: each packet from undefined entries.
 
-use crate::runs::{Call, counted, gives, loaded, usually};
-use fast_template::TemplateSet;
-use std::alloc::Global;
+use crate::runs::{Answer, Call, Given, SHOW, counted, gives, loaded, usually};
 use std::process::Abort;
+use template_tests::loaded::Loaded;
 use template_tests::texts::WORKED;
 use test_rows::{Tried, rows};
 
@@ -23,24 +22,16 @@ const TWO_TYPES: &str = r#"{"templates":[
 {"name":"Must","id":4,"instructions":[{"kind":"uInt32","name":"Seq","operator":"delta"}]}]}"#;
 
 // The row's recording through each call.
-fn all_accept(rt: &impl Abort, alloc: Global, set: &TemplateSet, rows: &[Row]) -> Tried {
+fn all_accept(rt: &impl Abort, on: &Loaded, rows: &[Row]) -> Tried {
     for row in rows {
         let given = usually(row.bytes);
         let read = row.bytes.len() as u64;
-        let shown = counted(row.packets, 0, row.messages, read, row.lines.len() as u64);
-        let counts = counted(row.packets, 0, row.messages, read, read);
-        gives(
-            rt,
-            alloc,
-            set,
-            Call::Show,
-            given,
-            shown,
-            row.lines.as_bytes(),
-            "",
-        )?;
-        gives(rt, alloc, set, Call::Check, given, counts, b"", "")?;
-        gives(rt, alloc, set, Call::Canon, given, counts, row.bytes, "")?;
+        let (counts, lines) = ((row.packets, 0, row.messages), row.lines.as_bytes());
+        let shown = counted(counts, read, lines.len() as u64);
+        let counts = counted(counts, read, read);
+        gives(rt, on, SHOW, given, shown, lines, "")?;
+        gives(rt, on, Call::Check, given, counts, b"", "")?;
+        gives(rt, on, Call::Canon, given, counts, row.bytes, "")?;
     }
     Ok(())
 }
@@ -58,8 +49,8 @@ fn packets_are_read_from_undefined_entries(rt: HostRuntime) -> Tried {
         // a tail that is shorter than the one of the packet before: no plain stream carries these two
         b"\x88\xe0\x88\x41\x42\x43\x44\x45\xc6\x84\xe0\x88\x58\xd9", 2, 2, "8 Tail S=\"ABCDEF\"\n8 Tail S=\"XY\"\n";
     };
-    let set = loaded(&rt, rt.alloc(), WORKED)?;
-    all_accept(&rt, rt.alloc(), &set, ROWS)
+    let on = loaded(&rt, rt.alloc(), WORKED)?;
+    all_accept(&rt, &on, ROWS)
 }
 
 #[test]
@@ -70,61 +61,29 @@ fn packets_that_no_plain_stream_carries(rt: HostRuntime) -> Tried {
         // an absent field, and then a delta
         b"\x82\xc0\x83\x83\xc0\x84\x85", 2, 2, "3 May Seq=-\n4 Must Seq=5\n";
     };
-    let set = loaded(&rt, rt.alloc(), TWO_TYPES)?;
-    all_accept(&rt, rt.alloc(), &set, ROWS)
+    let on = loaded(&rt, rt.alloc(), TWO_TYPES)?;
+    all_accept(&rt, &on, ROWS)
+}
+
+// A recording is checked and made canonical, with these counts.
+fn is_made(rt: &impl Abort, on: &Loaded, given: Given, counts: Answer, made: &[u8]) -> Tried {
+    gives(rt, on, Call::Check, given, counts, b"", "")?;
+    gives(rt, on, Call::Canon, given, counts, made, "")
 }
 
 #[test]
 fn sizes_with_more_groups_than_they_need(rt: HostRuntime) -> Tried {
-    let set = loaded(&rt, rt.alloc(), WORKED)?;
+    let on = loaded(&rt, rt.alloc(), WORKED)?;
     let given = usually(b"\x00\x00\x88\xf0\x81\x81\x41\xc2\xfe\x00\xe4");
     let canonical = b"\x88\xf0\x81\x81\x41\xc2\xfe\x00\xe4";
-    gives(
-        &rt,
-        rt.alloc(),
-        &set,
-        Call::Check,
-        given,
-        counted(1, 0, 1, 11, 9),
-        b"",
-        "",
-    )?;
-    gives(
-        &rt,
-        rt.alloc(),
-        &set,
-        Call::Canon,
-        given,
-        counted(1, 0, 1, 11, 9),
-        canonical,
-        "",
-    )
+    is_made(&rt, &on, given, counted((1, 0, 1), 11, 9), canonical)
 }
 
 // The size is the canonical packet's, and not that of the packet that was read.
 #[test]
 fn packets_that_are_longer_than_they_need(rt: HostRuntime) -> Tried {
-    let set = loaded(&rt, rt.alloc(), WORKED)?;
+    let on = loaded(&rt, rt.alloc(), WORKED)?;
     let given = usually(b"\x90\xf0\x81\x81\x41\xc2\xfe\x00\xe4\xf8\x81\x82\x41\xc2\x80\x81\x80");
     let canonical = b"\x8b\xf0\x81\x81\x41\xc2\xfe\x00\xe4\x80\x80\x81";
-    gives(
-        &rt,
-        rt.alloc(),
-        &set,
-        Call::Check,
-        given,
-        counted(1, 0, 2, 17, 12),
-        b"",
-        "",
-    )?;
-    gives(
-        &rt,
-        rt.alloc(),
-        &set,
-        Call::Canon,
-        given,
-        counted(1, 0, 2, 17, 12),
-        canonical,
-        "",
-    )
+    is_made(&rt, &on, given, counted((1, 0, 2), 17, 12), canonical)
 }

@@ -1,16 +1,14 @@
 //! Recordings that are refused, at their first refusal.
 
-use crate::runs::{Call, Given, gives, loaded, refused, usually};
-use fast_recording::PacketMode;
+use crate::runs::{Call, SHOW, at_level, gives, loaded, refused};
 use fast_stream::Cause;
-use fast_template::TemplateSet;
 use fast_wire::Level;
-use std::alloc::Global;
 use std::process::Abort;
+use template_tests::loaded::Loaded;
 use template_tests::texts::WORKED;
 use test_rows::{Tried, rows};
 
-const QUOTE_LINE: &str = "1 Quote Seq=1 Sym=\"AB\" Px=100e-2 Qty=-\n";
+pub(crate) const QUOTE_LINE: &str = "1 Quote Seq=1 Sym=\"AB\" Px=100e-2 Qty=-\n";
 
 // A recording that is refused: the packet, the message in it, the offset in the recording, template and instruction; the
 // lines of the messages before, and the canonical bytes of the packets before.
@@ -24,50 +22,13 @@ struct Refused {
     canonical: &'static [u8],
 }
 
-fn all_refuse(
-    rt: &impl Abort,
-    alloc: Global,
-    set: &TemplateSet,
-    level: Level,
-    rows: &[Refused],
-) -> Tried {
+fn all_refuse(rt: &impl Abort, on: &Loaded, level: Level, rows: &[Refused]) -> Tried {
     for row in rows {
-        let given = Given {
-            mode: PacketMode {
-                level,
-                keep_going: false,
-            },
-            ..usually(row.bytes)
-        };
-        let answer = refused(
-            row.cause,
-            row.packet,
-            row.message,
-            row.at.0,
-            row.at.1,
-            row.at.2,
-        );
-        gives(
-            rt,
-            alloc,
-            set,
-            Call::Show,
-            given,
-            answer,
-            row.lines.as_bytes(),
-            "",
-        )?;
-        gives(rt, alloc, set, Call::Check, given, answer, b"", "")?;
-        gives(
-            rt,
-            alloc,
-            set,
-            Call::Canon,
-            given,
-            answer,
-            row.canonical,
-            "",
-        )?;
+        let given = at_level(level, false, row.bytes);
+        let answer = refused(row.cause, row.packet, row.message, row.at);
+        gives(rt, on, SHOW, given, answer, row.lines.as_bytes(), "")?;
+        gives(rt, on, Call::Check, given, answer, b"", "")?;
+        gives(rt, on, Call::Canon, given, answer, row.canonical, "")?;
     }
     Ok(())
 }
@@ -94,9 +55,9 @@ fn sizes_that_are_refused(rt: HostRuntime) -> Tried {
         b"\x00\x80", Cause::R6, 1, 1, (0, 0, 0), "", b"";
         b"\x00\x04\x00\x80", Cause::R6, 1, 1, (0, 0, 0), "", b"";
     };
-    let set = loaded(&rt, rt.alloc(), WORKED)?;
-    all_refuse(&rt, rt.alloc(), &set, Level::Usual, USUALLY)?;
-    all_refuse(&rt, rt.alloc(), &set, Level::Strict, STRICTLY)
+    let on = loaded(&rt, rt.alloc(), WORKED)?;
+    all_refuse(&rt, &on, Level::Usual, USUALLY)?;
+    all_refuse(&rt, &on, Level::Strict, STRICTLY)
 }
 
 #[test]
@@ -122,6 +83,6 @@ fn packets_that_are_refused(rt: HostRuntime) -> Tried {
         b"\x88\xf0\x81\x81\x41\xc2\xfe\x00\xe4\x83\x80\x80\x81", Cause::D5, 2, 1, (11, 0, 0), QUOTE_LINE,
             b"\x88\xf0\x81\x81\x41\xc2\xfe\x00\xe4";
     };
-    let set = loaded(&rt, rt.alloc(), WORKED)?;
-    all_refuse(&rt, rt.alloc(), &set, Level::Usual, ROWS)
+    let on = loaded(&rt, rt.alloc(), WORKED)?;
+    all_refuse(&rt, &on, Level::Usual, ROWS)
 }

@@ -2,20 +2,20 @@
 
 ghost use Rattle.std.specs.Prelude.{◌≤◌};
 
-use fast_build::{Load, LoadCause};
+use fast_build::LoadCause;
 use fast_io::{Counted, ScriptInput, ScriptOutput};
 use fast_lines::Form;
 use fast_recording::{
     PacketFault, PacketMode, RecordingFault, RecordingSummary, canonicalise_packets, check_packets,
     show_packets,
 };
-use fast_stream::{Cause, Fault, Place};
-use fast_template::TemplateSet;
+use fast_stream::Cause;
 use fast_wire::Level;
 use std::alloc::{AllocError, Global};
 use std::fmt::Debug;
 use std::process::Abort;
-use template_tests::growths::{refuse_growths, spare_growths};
+use stream_rows::ends::End;
+use template_tests::loaded::{Loaded, load};
 use test_rows::Tried;
 
 /// Aborts unless both are the same.
@@ -23,13 +23,10 @@ pub(crate) fn same<T: PartialEq + Debug + Drop>(rt: &impl Abort, given: T, wante
     assert_eq!(rt; given, wanted);
 }
 
-/// The set of these templates. What its load asks for is not refused: the tests of loads do that.
-pub(crate) fn loaded(rt: &impl Abort, alloc: Global, text: &str) -> Tried<TemplateSet> {
-    spare_growths(alloc)?;
-    let loaded = TemplateSet::from_json(alloc, text.as_bytes());
-    refuse_growths(alloc)?;
-    match loaded {
-        Ok(set) => Ok(set),
+/// The templates of a text.
+pub(crate) fn loaded(rt: &impl Abort, alloc: Global, text: &str) -> Tried<Loaded> {
+    match load(alloc, text)? {
+        Ok(on) => Ok(on),
         Err(fault) => {
             same(rt, fault.cause, LoadCause::Memory);
             Err(AllocError)
@@ -40,8 +37,7 @@ pub(crate) fn loaded(rt: &impl Abort, alloc: Global, text: &str) -> Tried<Templa
 /// What is done with a recording.
 #[derive(Clone, Copy)]
 pub(crate) enum Call {
-    Show,
-    Json,
+    Show(Form),
     Check,
     Canon,
 }
@@ -56,13 +52,23 @@ pub(crate) struct Given<'a> {
     pub(crate) turns: u64,
 }
 
-/// At the usual level, in reads of the usual length.
-pub(crate) fn usually(bytes: &[u8]) -> Given<'_> {
+impl<'a> Given<'a> {
+    /// In reads of so many bytes.
+    pub(crate) fn in_steps(self, step: usize) -> Given<'a> {
+        Given { step, ..self }
+    }
+
+    /// Byte by byte, with this read failing.
+    pub(crate) fn that_fails(self, failing: u64) -> Given<'a> {
+        let given = self.in_steps(1);
+        Given { failing, ..given }
+    }
+}
+
+/// At this level, in reads of the usual length.
+pub(crate) fn at_level(level: Level, keep_going: bool, bytes: &[u8]) -> Given<'_> {
     Given {
-        mode: PacketMode {
-            level: Level::Usual,
-            keep_going: false,
-        },
+        mode: PacketMode { level, keep_going },
         bytes,
         step: 4096,
         failing: 0,
@@ -70,54 +76,41 @@ pub(crate) fn usually(bytes: &[u8]) -> Given<'_> {
     }
 }
 
+/// At the usual level.
+pub(crate) fn usually(bytes: &[u8]) -> Given<'_> {
+    at_level(Level::Usual, false, bytes)
+}
+
+/// The same where refused packets are told of, and the next one is read.
+pub(crate) fn going_on(bytes: &[u8]) -> Given<'_> {
+    at_level(Level::Usual, true, bytes)
+}
+
 /// What is answered, written and told.
 pub(crate) type Answer = Result<RecordingSummary, RecordingFault>;
 
 /// Runs a call.
-pub(crate) fn run(
-    alloc: Global,
-    set: &TemplateSet,
+fn run(
+    on: &Loaded,
     call: Call,
-    given: Given<'_>,
+    given: Given,
     out: &mut ScriptOutput,
     told: &mut ScriptOutput,
 ) -> Answer {
+    let (alloc, set, mode) = (on.alloc, &on.set, given.mode);
     let turns = given.turns.min(100_000);
     let mut reader = Counted::new(ScriptInput::new(given.bytes, given.step.max(1), given.failing));
-    let mut writer = Counted::new(out);
-    let mut teller = Counted::new(told);
+    let out = &mut Counted::new(out);
+    let told = &mut Counted::new(told);
     match call {
-        Call::Show => show_packets(
-            alloc,
-            set,
-            given.mode,
-            Form::Text,
-            &mut reader,
-            &mut writer,
-            &mut teller,
-            turns,
-        ),
-        Call::Json => show_packets(
-            alloc,
-            set,
-            given.mode,
-            Form::Json,
-            &mut reader,
-            &mut writer,
-            &mut teller,
-            turns,
-        ),
-        Call::Check => check_packets(alloc, set, given.mode, &mut reader, &mut teller, turns),
-        Call::Canon => canonicalise_packets(
-            alloc,
-            set,
-            given.mode.level,
-            &mut reader,
-            &mut writer,
-            turns,
-        ),
+        Call::Show(form) => show_packets(alloc, set, mode, form, &mut reader, out, told, turns),
+        Call::Check => check_packets(alloc, set, mode, &mut reader, told, turns),
+        Call::Canon => canonicalise_packets(alloc, set, mode.level, &mut reader, out, turns),
     }
 }
+
+/// What `show` writes lines in.
+pub(crate) const SHOW: Call = Call::Show(Form::Text);
 
 /// Whether memory was refused.
 fn is_refused_memory(answer: Answer) -> bool {
@@ -130,17 +123,16 @@ fn is_refused_memory(answer: Answer) -> bool {
 /// A call answers this, and writes and tells this. Where memory was refused, the test ends.
 pub(crate) fn gives(
     rt: &impl Abort,
-    alloc: Global,
-    set: &TemplateSet,
+    on: &Loaded,
     call: Call,
-    given: Given<'_>,
+    given: Given,
     wanted: Answer,
     written: &[u8],
     lines: &str,
 ) -> Tried {
-    let mut out = ScriptOutput::new(alloc, 10_000_000, false, false);
-    let mut told = ScriptOutput::new(alloc, 10_000_000, false, false);
-    let answer = run(alloc, set, call, given, &mut out, &mut told);
+    let mut out = ScriptOutput::new(on.alloc, 10_000_000, false, false);
+    let mut told = ScriptOutput::new(on.alloc, 10_000_000, false, false);
+    let answer = run(on, call, given, &mut out, &mut told);
     if is_refused_memory(answer) && answer != wanted {
         return Err(AllocError);
     }
@@ -150,14 +142,9 @@ pub(crate) fn gives(
     Ok(())
 }
 
-/// Counts.
-pub(crate) fn counted(
-    packets: u64,
-    refused: u64,
-    messages: u64,
-    read: u64,
-    written: u64,
-) -> Answer {
+/// Packets, those of them that are refused, and messages; bytes that are read, and bytes that are written.
+pub(crate) fn counted(counts: (u64, u64, u64), read: u64, written: u64) -> Answer {
+    let (packets, refused, messages) = counts;
     Ok(RecordingSummary {
         packets,
         refused,
@@ -167,25 +154,11 @@ pub(crate) fn counted(
     })
 }
 
-/// A refusal.
-pub(crate) fn refused(
-    cause: Cause,
-    packet: u64,
-    message: u64,
-    offset: u64,
-    template: u32,
-    instruction: u32,
-) -> Answer {
-    Err(RecordingFault::Packet(PacketFault {
-        packet,
-        fault: Fault {
-            cause,
-            place: Place {
-                message,
-                offset,
-                template,
-                instruction,
-            },
-        },
-    }))
+/// A refusal in this packet and this message of it, at this offset, template and instruction.
+pub(crate) fn refused(cause: Cause, packet: u64, message: u64, at: (u64, u32, u32)) -> Answer {
+    let fault = End::At(cause, message, at.0, at.1, at.2).fault();
+    match fault {
+        Some(fault) => Err(RecordingFault::Packet(PacketFault { packet, fault })),
+        None => Err(RecordingFault::Memory),
+    }
 }
