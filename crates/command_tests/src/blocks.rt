@@ -1,24 +1,11 @@
 //! Worked streams in blocks through each command. What is written is plain.
 
-ghost use Rattle.std.specs.Prelude.{◌≤◌};
-
+use crate::base::*;
 use crate::streams::{
-    At, Made, QUOTE_LINE, REFUSALS, ROWS, Refusal, Row, TWO_LINES, all_end, all_stop, counted,
-    gives, made_before, makes, refused,
+    QUOTE_LINE, REFUSALS, ROWS, Refusal, Row, TWO_LINES, all_end, all_stop, gives, made_before,
+    refused,
 };
-use crate::strict::told;
-use crate::worked::worked;
-use fast_command::Command;
-use fast_decoder::Mode;
-use fast_io::ScriptInput;
-use fast_stream::Cause;
-use fast_template::TemplateSet;
-use std::alloc::{AllocError, Global};
-use std::process::Abort;
-use stream_rows::long::{MANY, stream_of};
 use stream_rows::modes::{BLOCKS, STRICT_BLOCKS};
-use stream_rows::quotes::{QUOTE, TWO_SHORT};
-use test_rows::{Tried, rows};
 
 #[test]
 fn blocks_of_messages(rt: HostRuntime) -> Tried {
@@ -80,70 +67,46 @@ fn in_block(alloc: Global, size: usize, stream: &[u8]) -> Tried<Vec<u8>> {
 }
 
 /// What each command makes of a stream in one block: what it makes of the plain one, but for the byte of the size.
-fn ends_in_block(
-    rt: &impl Abort,
-    alloc: Global,
-    set: &TemplateSet,
-    mode: Mode,
-    row: &Row,
-    stream: &[u8],
-    step: usize,
-) -> Tried
-    requires { 1 ≤ step }
-{
-    if stream.is_empty() {
+fn ends_in_block(rt: &impl Abort, on: &Loaded, mode: Mode, row: &Row, step: usize) -> Tried {
+    if row.stream.is_empty() {
         return Ok(());
     }
-    let block = in_block(alloc, stream.len(), stream)?;
-    let told = told(alloc, row.messages, block.len(), row.canonical.len())?;
-    let lines = row.lines.as_bytes();
-    let made = Made {
-        lines,
-        told: told.as_bytes(),
-        canonical: row.canonical,
-        shown: counted(row.messages, block.len(), lines.len()),
-        counted: counted(row.messages, block.len(), row.canonical.len()),
-    };
-    makes(rt, alloc, set, mode, &block, step, 0, made)
+    let block = in_block(on.alloc, row.stream.len(), row.stream)?;
+    let told = told(on.alloc, row.messages, block.len(), row.canonical.len())?;
+    let texts = [row.lines.as_bytes(), told.as_bytes(), row.canonical];
+    let made = made_of(row.messages, block.len(), texts);
+    makes(rt, on, in_mode(mode, &block, step), made)
 }
 
 #[test]
 fn worked_streams_in_blocks(rt: HostRuntime) -> Tried {
-    let alloc = rt.alloc();
-    let set = worked(&rt, alloc)?;
+    let on = worked(&rt, rt.alloc())?;
     for row in ROWS {
-        ends_in_block(&rt, alloc, &set, BLOCKS, row, row.stream, 1)?;
-        ends_in_block(&rt, alloc, &set, BLOCKS, row, row.stream, 4096)?;
-        ends_in_block(&rt, alloc, &set, STRICT_BLOCKS, row, row.canonical, 2)?;
+        ends_in_block(&rt, &on, BLOCKS, row, 1)?;
+        ends_in_block(&rt, &on, BLOCKS, row, 4096)?;
+        let mut canonical = *row;
+        canonical.stream = row.canonical;
+        ends_in_block(&rt, &on, STRICT_BLOCKS, &canonical, 2)?;
     }
     Ok(())
 }
 
 /// The same of a stream that is refused. Its block has room for one byte more, so that it does not end too early.
-fn stops_in_block(
-    rt: &impl Abort,
-    alloc: Global,
-    set: &TemplateSet,
-    row: &Refusal,
-    step: usize,
-) -> Tried
-    requires { 1 ≤ step }
-{
-    let block = in_block(alloc, row.stream.len().saturating_add(1), row.stream)?;
+fn stops_in_block(rt: &impl Abort, on: &Loaded, row: &Refusal, step: usize) -> Tried {
+    let block = in_block(on.alloc, row.stream.len().saturating_add(1), row.stream)?;
     let At(offset, template, instruction) = row.at;
     let at = At(offset.saturating_add(1), template, instruction);
     let answer = refused(row.cause, row.messages.saturating_add(1), at);
     let made = made_before(row.lines.as_bytes(), row.canonical, answer);
-    makes(rt, alloc, set, BLOCKS, &block, step, 0, made)
+    makes(rt, on, in_mode(BLOCKS, &block, step), made)
 }
 
 #[test]
 fn worked_refusals_in_blocks(rt: HostRuntime) -> Tried {
-    let alloc = rt.alloc();
-    let set = worked(&rt, alloc)?;
+    let on = worked(&rt, rt.alloc())?;
     for row in REFUSALS {
-        stops_in_block(&rt, alloc, &set, row, 1)?;
-        stops_in_block(&rt, alloc, &set, row, 4096)?;
+        stops_in_block(&rt, &on, row, 1)?;
+        stops_in_block(&rt, &on, row, 4096)?;
     }
     Ok(())
 }
@@ -151,58 +114,31 @@ fn worked_refusals_in_blocks(rt: HostRuntime) -> Tried {
 // As many elements as there may be, each empty, in a block.
 #[test]
 fn a_long_message_in_a_block(rt: HostRuntime) -> Tried {
-    let alloc = rt.alloc();
-    let set = worked(&rt, alloc)?;
-    let reader = ScriptInput::new(b"\x85\xc0\x86\x03\x7f\xff", 2, 0);
+    let on = worked(&rt, rt.alloc())?;
+    let given = in_mode(BLOCKS, b"\x85\xc0\x86\x03\x7f\xff", 2);
     let told = b"ok messages=1 bytes=6 canonical=5\n";
-    gives(
-        &rt,
-        alloc,
-        &set,
-        BLOCKS,
-        Command::Check,
-        reader,
-        told,
-        counted(1, 6, 5),
-    )
-}
-
-/// The canonical bytes of blocks of many messages, in steps of one size.
-fn is_long_in_blocks(
-    rt: &impl Abort,
-    alloc: Global,
-    set: &TemplateSet,
-    pieces: &[(&[u8], usize)],
-    step: usize,
-    read: usize,
-    plain: &[u8],
-) -> Tried
-    requires { 1 ≤ step }
-{
-    let stream = stream_of(alloc, pieces)?;
-    gives(
-        rt,
-        alloc,
-        set,
-        STRICT_BLOCKS,
-        Command::Canon,
-        ScriptInput::new(&stream, step, 0),
-        plain,
-        counted(10_001, read, 30_008),
-    )
-}
-
-fn are_long_in_blocks(rt: &impl Abort, alloc: Global, set: &TemplateSet, plain: &[u8]) -> Tried {
-    // a block whose size has three bytes, and one for each message
-    const ONE: &[(&[u8], usize)] = &[(b"\x01\x6a\xb8", 1), (QUOTE, 1), (b"\x80\x80\x81", 10_000)];
-    const EACH: &[(&[u8], usize)] = &[(b"\x88", 1), (QUOTE, 1), (b"\x83\x80\x80\x81", 10_000)];
-    is_long_in_blocks(rt, alloc, set, ONE, 4096, 30_011, plain)?;
-    is_long_in_blocks(rt, alloc, set, EACH, 1000, 40_009, plain)
+    gives(&rt, &on, given.to(Command::Check), told, counted(1, 6, 5))
 }
 
 #[test]
 fn long_streams_in_blocks(rt: HostRuntime) -> Tried {
     let plain = stream_of(rt.alloc(), MANY)?;
-    let set = worked(&rt, rt.alloc())?;
-    are_long_in_blocks(&rt, rt.alloc(), &set, &plain)
+    let on = worked(&rt, rt.alloc())?;
+    // a block whose size has three bytes, and one for each message
+    let one = &[
+        (b"\x01\x6a\xb8".as_slice(), 1),
+        (QUOTE, 1),
+        (b"\x80\x80\x81", 10_000),
+    ];
+    let stream = stream_of(rt.alloc(), one)?;
+    let given = in_mode(STRICT_BLOCKS, &stream, 4096).to(Command::Canon);
+    gives(&rt, &on, given, &plain, counted(10_001, 30_011, 30_008))?;
+    let each = &[
+        (b"\x88".as_slice(), 1),
+        (QUOTE, 1),
+        (b"\x83\x80\x80\x81", 10_000),
+    ];
+    let stream = stream_of(rt.alloc(), each)?;
+    let given = in_mode(STRICT_BLOCKS, &stream, 1000).to(Command::Canon);
+    gives(&rt, &on, given, &plain, counted(10_001, 40_009, 30_008))
 }

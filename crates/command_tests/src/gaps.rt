@@ -1,41 +1,23 @@
 //! Lines that are long: texts are left out of them as gaps, and filled as they are handed on.
 
-ghost use Rattle.std.specs.Prelude.{◌≤◌};
-
+use crate::base::*;
 use crate::granted::may_be_refused;
 use crate::lines::lines_of;
-use crate::same::same;
-use crate::worked::loaded;
-use fast_canon::{CanonFault, Summary};
-use fast_command::{Command, Form, run};
-use fast_io::{Counted, ScriptInput};
-use fast_stream::Cause;
-use fast_template::TemplateSet;
-use std::alloc::{AllocError, Global};
+use crate::streams::play;
 use std::io::{self, Write};
-use std::process::Abort;
-use std::test::Fail;
-use stream_rows::long::stream_of;
-use stream_rows::modes::PLAIN;
-use test_rows::{Tried, rows};
 
 // Elements of a copied string; and behind them a number; elements of texts of each operator; and of a long label.
-const GAPPED: &str = r#"{"templates":[
-    {"name":"Ten","id":2,"instructions":[{"kind":"sequence","name":"L","instructions":[
-     {"kind":"string","name":"S","operator":"copy"}]}]},
-    {"name":"All","id":3,"instructions":[{"kind":"sequence","name":"L","instructions":[
-     {"kind":"string","name":"A","operator":"delta"},
-     {"kind":"string","name":"T","operator":"tail"},
-     {"kind":"string","charset":"unicode","name":"U","operator":"copy"},
-     {"kind":"byteVector","name":"V","operator":"copy"},
-     {"kind":"string","name":"D","operator":"default","value":"=================="}]}]},
-    {"name":"End","id":4,"instructions":[{"kind":"sequence","name":"L","instructions":[
-     {"kind":"string","name":"S","operator":"copy"}]},{"kind":"uInt32","name":"N"}]},
-    {"name":"Label","id":5,"instructions":[{"kind":"sequence","name":"L","instructions":[
-     {"kind":"string","name":"S","operator":"copy"},
-     {"kind":"uInt32","name":"NameThatIsNoShortPieceAndIsLeftOutOfALongLineSinceItAloneHasMoreThanEightyUnitsInItAsHasThe","operator":"copy"},
-     {"kind":"string","name":"AnotherNameThatIsNoShortPieceAndIsLeftOutOfALongLineSinceItHasMoreThanEightyUnitsInItAsWell","operator":"copy"}
-     ]}]}]}"#;
+const GAPPED: &str = r#"{"templates":[{"name":"Ten","id":2,"instructions":[
+ {"kind":"sequence","name":"L","instructions":[{"kind":"string","name":"S","operator":"copy"}]}]},
+ {"name":"All","id":3,"instructions":[{"kind":"sequence","name":"L","instructions":[
+ {"kind":"string","name":"A","operator":"delta"},{"kind":"string","name":"T","operator":"tail"},
+ {"kind":"string","charset":"unicode","name":"U","operator":"copy"},{"kind":"byteVector","name":"V","operator":"copy"},
+ {"kind":"string","name":"D","operator":"default","value":"=================="}]}]},
+ {"name":"End","id":4,"instructions":[{"kind":"sequence","name":"L","instructions":[
+ {"kind":"string","name":"S","operator":"copy"}]},{"kind":"uInt32","name":"N"}]},{"name":"Label","id":5,"instructions":[
+ {"kind":"sequence","name":"L","instructions":[{"kind":"string","name":"S","operator":"copy"},
+ {"kind":"uInt32","name":"NameThatIsNoShortPieceAndIsLeftOutOfALongLineSinceItAloneHasMoreThanEightyUnitsInItAsHasThe","operator":"copy"},
+ {"kind":"string","name":"AnotherNameThatIsNoShortPieceAndIsLeftOutOfALongLineSinceItHasMoreThanEightyUnitsInItAsWell","operator":"copy"}]}]}]}"#;
 
 // What is written stands to a line: whether it is a front of it, how many bytes it has, and the most of one write.
 #[derive(Clone, Copy, Debug, PartialEq, Eq, Drop)]
@@ -45,11 +27,14 @@ struct Came {
     most: usize,
 }
 
-const NOTHING: Came = Came {
-    is_front: true,
-    bytes: 0,
-    most: 0,
-};
+// A front of so many bytes.
+fn front_of(bytes: usize, most: usize) -> Came {
+    Came {
+        is_front: true,
+        bytes,
+        most,
+    }
+}
 
 // A writer that compares what it is handed with a line.
 #[derive(Drop)]
@@ -74,54 +59,26 @@ impl Write for Compared<'_> {
     }
 }
 
-// What `show` answers of a stream in reads of so many bytes, and what it writes beside this line.
-fn show_over(
-    alloc: Global,
-    set: &TemplateSet,
-    form: Form,
-    stream: &[u8],
-    read: usize,
-    line: &[u8],
-) -> (Result<Summary, CanonFault>, Came)
-    requires { 1 ≤ read }
-{
-    let mut came = NOTHING;
-    let mut reader = Counted::new(ScriptInput::new(stream, read, 0));
-    let mut writer = Counted::new(Compared {
+// What `show` answers of a stream, and what it writes beside this line.
+fn show_over(on: &Loaded, given: Given, line: &[u8]) -> (Answer, Came) {
+    let mut came = front_of(0, 0);
+    let writer = Compared {
         line,
         came: &mut came,
-    });
-    let answer = run(
-        alloc,
-        Command::Show,
-        set,
-        PLAIN,
-        form,
-        &mut reader,
-        &mut writer,
-        1_000_000,
-    );
+    };
+    let answer = play(on, given.turns(1_000_000), &mut Counted::new(writer));
     (answer, came)
 }
 
 // The line of a stream is this one, in writes of at most so many bytes; where memory is refused, a front of it is written.
-fn is_shown(
-    rt: &impl Abort,
-    answer: Result<Summary, CanonFault>,
-    came: Came,
-    wanted: Came,
-) -> Tried {
-    match answer {
-        Ok(_) => {
-            same(rt, came, wanted);
-            Ok(())
-        }
-        Err(fault) => {
-            same(rt, may_be_refused(Err(fault)), true);
-            same(rt, came.is_front, true);
-            Err(AllocError)
-        }
+fn is_shown(rt: &impl Abort, (answer, came): (Answer, Came), wanted: Came) -> Tried {
+    if answer.is_ok() {
+        same(rt, came, wanted);
+        return Ok(());
     }
+    same(rt, may_be_refused(answer), true);
+    same(rt, came.is_front, true);
+    Err(AllocError)
 }
 
 // Pieces that come so many times together.
@@ -145,18 +102,11 @@ fn line_of(alloc: Global, groups: &[Group]) -> Tried<Vec<u8>> {
     Ok(line)
 }
 
-fn is_shown_in(rt: &impl Abort, alloc: Global, set: &TemplateSet, row: &Row, read: usize) -> Tried
-    requires { 1 ≤ read }
-{
-    let stream = stream_of(alloc, row.stream)?;
-    let line = line_of(alloc, row.line)?;
-    let (answer, came) = show_over(alloc, set, Form::Text, &stream, read, &line);
-    let wanted = Came {
-        is_front: true,
-        bytes: line.len(),
-        most: row.most,
-    };
-    is_shown(rt, answer, came, wanted)
+fn is_shown_in(rt: &impl Abort, on: &Loaded, row: &Row, read: usize) -> Tried {
+    let stream = stream_of(on.alloc, row.stream)?;
+    let line = line_of(on.alloc, row.line)?;
+    let shown = show_over(on, plainly(&stream, read), &line);
+    is_shown(rt, shown, front_of(line.len(), row.most))
 }
 
 // 16 elements of 65,000 units.
@@ -189,12 +139,10 @@ const BORDER: &[Row] = rows! { Row { stream, line, most }:
 };
 
 // Each row is shown in reads of so many bytes.
-fn all_shown_in(rt: &impl Abort, alloc: Global, rows: &[Row], read: usize) -> Tried
-    requires { 1 ≤ read }
-{
-    let set = loaded(rt, alloc, GAPPED)?;
+fn all_shown_in(rt: &impl Abort, alloc: Global, rows: &[Row], read: usize) -> Tried {
+    let on = loaded(rt, alloc, GAPPED)?;
     for row in rows {
-        is_shown_in(rt, alloc, &set, row, read)?;
+        is_shown_in(rt, &on, row, read)?;
     }
     Ok(())
 }
@@ -213,46 +161,21 @@ fn long_streams_are_cut_around_the_limit(rt: HostRuntime) -> Tried {
     Ok(())
 }
 
-// A hundred times the limit: 1,601 elements of 65,535 units, sent once.
-const HUNDRED: Row = Row {
-    stream: &[
-        (b"\xC0\x82\x0C\xC1\xC0", 1),
-        (b"\x41", 65_534),
-        (b"\xC1", 1),
-        (b"\x80", 1_600),
-    ],
-    line: &[
-        HEAD,
-        (&[(b"{S=\"", 1), (b"A", 65_535), (b"\"} ", 1)], 1_600),
-        (&[(b"{S=\"", 1), (b"A", 65_535), (b"\"}]\n", 1)], 1),
-    ],
-    most: 1_114_221,
-};
-
-// Two lines of ten million bytes, the second one of the text that the first has left.
-const TEN_MILLION: Row = Row {
-    stream: &[
-        (b"\xC0\x82\x01\x9A\xC0", 1),
-        (b"\x41", 64_927),
-        (b"\xC1", 1),
-        (b"\x80", 153),
-        (b"\x80\x01\x9A", 1),
-        (b"\x80", 154),
-    ],
-    line: &[
-        HEAD,
-        (&[(b"{S=\"", 1), (b"A", 64_928), (b"\"} ", 1)], 153),
-        (&[(b"{S=\"", 1), (b"A", 64_928), (b"\"}]\n", 1)], 1),
-        HEAD,
-        (&[(b"{S=\"", 1), (b"A", 64_928), (b"\"} ", 1)], 153),
-        (&[(b"{S=\"", 1), (b"A", 64_928), (b"\"}]\n", 1)], 1),
-    ],
-    most: 1_168_837,
+const LONG_LINES: &[Row] = rows! { Row { stream, line, most }:
+    // two lines of ten million bytes, the second one of the text that the first has left
+    &[(b"\xC0\x82\x01\x9A\xC0", 1), (b"\x41", 64_927), (b"\xC1", 1), (b"\x80", 153), (b"\x80\x01\x9A", 1), (b"\x80", 154)],
+        &[HEAD, (&[(b"{S=\"", 1), (b"A", 64_928), (b"\"} ", 1)], 153), (&[(b"{S=\"", 1), (b"A", 64_928), (b"\"}]\n", 1)], 1),
+        HEAD, (&[(b"{S=\"", 1), (b"A", 64_928), (b"\"} ", 1)], 153), (&[(b"{S=\"", 1), (b"A", 64_928), (b"\"}]\n", 1)], 1)],
+        1_168_837;
+    // a hundred times the limit: 1,601 elements of 65,535 units, sent once
+    &[(b"\xC0\x82\x0C\xC1\xC0", 1), (b"\x41", 65_534), (b"\xC1", 1), (b"\x80", 1_600)], &[HEAD,
+        (&[(b"{S=\"", 1), (b"A", 65_535), (b"\"} ", 1)], 1_600), (&[(b"{S=\"", 1), (b"A", 65_535), (b"\"}]\n", 1)], 1)],
+        1_114_221;
 };
 
 #[test]
 fn long_streams_of_a_hundred_times_the_limit(rt: HostRuntime) -> Tried {
-    all_shown_in(&rt, rt.alloc(), &[TEN_MILLION, HUNDRED], 4096)
+    all_shown_in(&rt, rt.alloc(), LONG_LINES, 4096)
 }
 
 // Behind 18 elements of 65,535 units a number that is none of its type.
@@ -266,10 +189,10 @@ const REFUSED: &[(&[u8], usize)] = rows! {
 
 #[test]
 fn nothing_of_a_refused_line_is_written(rt: HostRuntime) -> Tried {
-    let set = loaded(&rt, rt.alloc(), GAPPED)?;
+    let on = loaded(&rt, rt.alloc(), GAPPED)?;
     let stream = stream_of(rt.alloc(), REFUSED)?;
-    let (answer, came) = show_over(rt.alloc(), &set, Form::Text, &stream, 4096, b"");
-    same(&rt, came, NOTHING);
+    let (answer, came) = show_over(&on, plainly(&stream, 4096), b"");
+    same(&rt, came, front_of(0, 0));
     match answer {
         Err(CanonFault::Stream(fault)) if fault.cause == Cause::D2 => {
             same(&rt, fault.place.offset, 65_556);
@@ -294,30 +217,26 @@ const EVERY: &[&[(&[u8], usize)]] = rows! {
 
 fn is_shown_as_told(
     rt: &impl Abort,
-    alloc: Global,
-    set: &TemplateSet,
+    on: &Loaded,
     form: Form,
     pieces: &[(&[u8], usize)],
 ) -> Result<(), Fail> {
-    let stream = stream_of(alloc, pieces)?;
-    let line = lines_of(alloc, set, form, &stream)?;
+    let stream = stream_of(on.alloc, pieces)?;
+    let line = lines_of(on, form, &stream)?;
     same(rt, line.len() > 1_048_576, true);
-    let (answer, came) = show_over(alloc, set, form, &stream, 4096, &line);
-    let wanted = Came {
-        is_front: true,
-        bytes: line.len(),
-        most: came.most,
-    };
-    is_shown(rt, answer, came, wanted)?;
-    Ok(())
+    let mut given = plainly(&stream, 4096);
+    given.form = form;
+    let (answer, came) = show_over(on, given, &line);
+    let wanted = front_of(line.len(), came.most);
+    Ok(is_shown(rt, (answer, came), wanted)?)
 }
 
 #[test]
 fn long_texts_of_each_kind(rt: HostRuntime) -> Result<(), Fail> {
-    let set = loaded(&rt, rt.alloc(), GAPPED)?;
+    let on = loaded(&rt, rt.alloc(), GAPPED)?;
     for pieces in EVERY {
-        is_shown_as_told(&rt, rt.alloc(), &set, Form::Text, pieces)?;
-        is_shown_as_told(&rt, rt.alloc(), &set, Form::Json, pieces)?;
+        is_shown_as_told(&rt, &on, Form::Text, pieces)?;
+        is_shown_as_told(&rt, &on, Form::Json, pieces)?;
     }
     Ok(())
 }

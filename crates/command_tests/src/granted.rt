@@ -1,15 +1,14 @@
 //! Answers where memory is refused: such an answer ends a test, so that one whose allocations fail in turn ends with want
 //! of memory or with its rows.
 
-use crate::same::same;
-use fast_canon::{CanonFault, Summary};
-use fast_stream::Cause;
-use std::alloc::AllocError;
-use std::process::Abort;
-use test_rows::Tried;
+use crate::base::*;
+use fast_canon::Summary;
+
+/// What a command answers.
+pub(crate) type Answer = Result<Summary, CanonFault>;
 
 /// Whether a command may answer so where memory is refused, to it or to the writer of a test.
-pub(crate) fn may_be_refused(answer: Result<Summary, CanonFault>) -> bool {
+pub(crate) fn may_be_refused(answer: Answer) -> bool {
     match answer {
         Ok(_) => false,
         Err(CanonFault::Memory | CanonFault::Write) => true,
@@ -20,8 +19,8 @@ pub(crate) fn may_be_refused(answer: Result<Summary, CanonFault>) -> bool {
 /// A command answered this and wrote this. Where memory was refused, what it wrote is a front of it, and the test ends.
 pub(crate) fn answers(
     rt: &impl Abort,
-    given: Result<Summary, CanonFault>,
-    wanted: Result<Summary, CanonFault>,
+    given: Answer,
+    wanted: Answer,
     out: &[u8],
     written: &[u8],
 ) -> Tried {

@@ -1,23 +1,10 @@
 //! Lines in JSON: which bytes they are, and what they are read back as.
 
-ghost use Rattle.std.specs.Prelude.{◌≤◌};
-
-use crate::granted::answers;
-use crate::lines::{has_lines, one_is_refused};
-use crate::same::same;
-use crate::streams::{counted, play};
-use crate::worked::{loaded, worked};
-use fast_command::{Command, Form};
-use fast_io::{ScriptInput, ScriptOutput};
+use crate::base::*;
+use crate::lines::{has_lines, is_refused};
+use crate::streams::gives;
 use fast_stream::Node;
-use fast_template::TemplateSet;
 use serde_json::Value;
-use std::alloc::Global;
-use std::process::Abort;
-use std::test::Fail;
-use stream_rows::modes::PLAIN;
-use template_tests::texts::WORKED;
-use test_rows::{Tried, rows};
 
 /// A stream of one message, its line, and another spelling of what that stands for.
 pub(crate) struct Row {
@@ -48,21 +35,12 @@ pub(crate) const WORKED_ROWS: &[Row] = rows! { Row { stream, line, read_as }:
 
 /// A template with a field of each type, two of one name, names that are escaped, and a group in a group.
 pub(crate) const KINDS: &str = r#"{"templates":[
-{"name":"K\"\\","id":4294967295,"instructions":[
- {"kind":"uInt32","name":"u32"},
- {"kind":"int32","name":"i32"},
- {"kind":"uInt64","name":"u64"},
- {"kind":"int64","name":"i64"},
- {"kind":"decimal","name":"d"},
- {"kind":"string","name":"a"},
- {"kind":"string","charset":"unicode","name":"t"},
- {"kind":"byteVector","name":"b"},
- {"kind":"uInt32","name":"twice","presence":"optional"},
- {"kind":"uInt32","name":"twice","presence":"optional"},
- {"kind":"group","name":"g","instructions":[
-  {"kind":"group","name":"\"","instructions":[]}]},
- {"kind":"sequence","name":"s","instructions":[
-  {"kind":"int32","name":"\\"}]}]}]}"#;
+{"name":"K\"\\","id":4294967295,"instructions":[{"kind":"uInt32","name":"u32"},{"kind":"int32","name":"i32"},
+ {"kind":"uInt64","name":"u64"},{"kind":"int64","name":"i64"},{"kind":"decimal","name":"d"},
+ {"kind":"string","name":"a"},{"kind":"string","charset":"unicode","name":"t"},{"kind":"byteVector","name":"b"},
+ {"kind":"uInt32","name":"twice","presence":"optional"},{"kind":"uInt32","name":"twice","presence":"optional"},
+ {"kind":"group","name":"g","instructions":[{"kind":"group","name":"\"","instructions":[]}]},
+ {"kind":"sequence","name":"s","instructions":[{"kind":"int32","name":"\\"}]}]}]}"#;
 
 pub(crate) const KIND_ROWS: &[Row] = rows! { Row { stream, line, read_as }:
     // what is farthest from nought, and strings that are escaped
@@ -95,29 +73,10 @@ pub(crate) const KIND_ROWS: &[Row] = rows! { Row { stream, line, read_as }:
 };
 
 /// This is what `show` writes of a stream in JSON, in steps of one size.
-fn is_written(
-    rt: &impl Abort,
-    alloc: Global,
-    set: &TemplateSet,
-    stream: &[u8],
-    step: usize,
-    line: &[u8],
-) -> Tried
-    requires { 1 ≤ step }
-{
-    let mut out = ScriptOutput::new(alloc, 1_000_000, false, false);
-    let got = play(
-        alloc,
-        set,
-        PLAIN,
-        Form::Json,
-        Command::Show,
-        ScriptInput::new(stream, step, 0),
-        &mut out,
-        1_000,
-    );
-    let answer = counted(1, stream.len(), line.len());
-    answers(rt, got, answer, out.bytes(), line)
+fn is_written(rt: &impl Abort, on: &Loaded, stream: &[u8], step: usize, line: &[u8]) -> Tried {
+    let mut given = plainly(stream, step);
+    given.form = Form::Json;
+    gives(rt, on, given, line, counted(1, stream.len(), line.len()))
 }
 
 /// The line is read as the other spelling.
@@ -128,33 +87,29 @@ fn is_read_as(rt: &impl Abort, alloc: Global, row: &Row) -> Result<(), Fail> {
 }
 
 /// The line is that of the message at hand and of its stream, and is read as the other spelling.
-fn is_shown(rt: &impl Abort, alloc: Global, set: &TemplateSet, row: &Row) -> Result<(), Fail> {
+fn is_shown(rt: &impl Abort, on: &Loaded, row: &Row) -> Result<(), Fail> {
     let line = row.line.as_bytes();
-    has_lines(rt, alloc, set, Form::Json, row.stream, line)?;
-    is_written(rt, alloc, set, row.stream, 1, line)?;
-    is_written(rt, alloc, set, row.stream, 4096, line)?;
-    is_read_as(rt, alloc, row)
+    has_lines(rt, on, Form::Json, row.stream, line)?;
+    is_written(rt, on, row.stream, 1, line)?;
+    is_written(rt, on, row.stream, 4096, line)?;
+    is_read_as(rt, on.alloc, row)
 }
 
 /// Each row is shown of the templates of a text.
 fn are_shown(rt: &impl Abort, alloc: Global, text: &str, rows: &[Row]) -> Result<(), Fail> {
-    let set = loaded(rt, alloc, text)?;
+    let on = loaded(rt, alloc, text)?;
     for row in rows {
-        is_shown(rt, alloc, &set, row)?;
+        is_shown(rt, &on, row)?;
     }
     Ok(())
 }
 
-/// A mandatory sequence that is absent has no line.
-fn absent_is_refused(rt: &impl Abort, alloc: Global) -> Tried {
-    let set = worked(rt, alloc)?;
-    one_is_refused(rt, alloc, &set, Form::Json, 6, Node::Absent)
-}
-
 #[test]
 fn each_line_is_read_as_its_message(rt: HostRuntime) -> Result<(), Fail> {
-    let alloc = rt.alloc();
-    are_shown(&rt, alloc, WORKED, WORKED_ROWS)?;
-    are_shown(&rt, alloc, KINDS, KIND_ROWS)?;
-    Ok(absent_is_refused(&rt, alloc)?)
+    are_shown(&rt, rt.alloc(), WORKED, WORKED_ROWS)?;
+    are_shown(&rt, rt.alloc(), KINDS, KIND_ROWS)?;
+    // a mandatory sequence that is absent has no line
+    let on = worked(&rt, rt.alloc())?;
+    let fields = vec![in rt.alloc(); Node::Absent]?;
+    Ok(is_refused(&rt, &on, Form::Json, 6, fields)?)
 }

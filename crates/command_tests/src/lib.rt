@@ -2,6 +2,8 @@
 #![tactic(auto)]
 
 #[cfg(test)]
+mod base;
+#[cfg(test)]
 mod blocks;
 #[cfg(test)]
 mod canonicalising;
@@ -9,6 +11,8 @@ mod canonicalising;
 mod extremes;
 #[cfg(test)]
 mod gaps;
+#[cfg(test)]
+mod given;
 #[cfg(test)]
 mod granted;
 #[cfg(test)]

@@ -1,18 +1,9 @@
 //! When what is made of messages is handed on: behind each read, and where 65,536 bytes wait between two messages.
 
+use crate::base::*;
 use crate::granted::may_be_refused;
-use crate::same::same;
-use crate::worked::loaded;
-use fast_canon::{CanonFault, Summary};
-use fast_command::{Command, Form, run};
-use fast_io::{Counted, ScriptInput};
-use fast_template::TemplateSet;
-use std::alloc::{AllocError, Global};
+use crate::streams::play;
 use std::io::{self, Write};
-use std::process::Abort;
-use stream_rows::long::stream_of;
-use stream_rows::modes::PLAIN;
-use test_rows::{Tried, rows};
 
 // How many bytes each write had, of which all are taken.
 #[derive(Drop)]
@@ -32,10 +23,9 @@ impl Write for Pushes<'_> {
 }
 
 // A string that may be given by bit 0, and elements of such strings.
-const COPIES: &str = r#"{"templates":[
-    {"name":"T","id":1,"instructions":[{"kind":"string","name":"S","operator":"copy"}]},
-    {"name":"Ten","id":2,"instructions":[{"kind":"sequence","name":"L","instructions":[
-     {"kind":"string","name":"S","operator":"copy"}]}]}]}"#;
+const COPIES: &str = r#"{"templates":[{"name":"T","id":1,"instructions":[
+ {"kind":"string","name":"S","operator":"copy"}]},{"name":"Ten","id":2,"instructions":[
+ {"kind":"sequence","name":"L","instructions":[{"kind":"string","name":"S","operator":"copy"}]}]}]}"#;
 
 // A command, a stream of pieces, and the sizes of the writes.
 struct Row {
@@ -44,32 +34,12 @@ struct Row {
     sizes: &'static [usize],
 }
 
-// What a command answers that writes so, in reads of 4,096 bytes.
-fn run_over(
-    alloc: Global,
-    set: &TemplateSet,
-    command: Command,
-    stream: &[u8],
-    sizes: &mut Vec<usize>,
-) -> Result<Summary, CanonFault> {
-    let mut reader = Counted::new(ScriptInput::new(stream, 4096, 0));
-    let mut writer = Counted::new(Pushes { sizes });
-    run(
-        alloc,
-        command,
-        set,
-        PLAIN,
-        Form::Text,
-        &mut reader,
-        &mut writer,
-        1000,
-    )
-}
-
-fn is_handed_on(rt: &impl Abort, alloc: Global, set: &TemplateSet, row: &Row) -> Tried {
-    let stream = stream_of(alloc, row.pieces)?;
-    let mut sizes = Vec::with_capacity(alloc, 16)?;
-    match run_over(alloc, set, row.command, &stream, &mut sizes) {
+fn is_handed_on(rt: &impl Abort, on: &Loaded, row: &Row) -> Tried {
+    let stream = stream_of(on.alloc, row.pieces)?;
+    let mut sizes = Vec::with_capacity(on.alloc, 16)?;
+    let given = plainly(&stream, 4096).turns(1000).to(row.command);
+    let writer = Pushes { sizes: &mut sizes };
+    match play(on, given, &mut Counted::new(writer)) {
         Ok(_) => {
             same(rt, sizes.as_slice(), row.sizes);
             Ok(())
@@ -102,9 +72,9 @@ fn long_streams_are_handed_on(rt: HostRuntime) -> Tried {
         // nothing is written of no message
         Command::Canon, &[], &[];
     };
-    let set = loaded(&rt, rt.alloc(), COPIES)?;
+    let on = loaded(&rt, rt.alloc(), COPIES)?;
     for row in ROWS {
-        is_handed_on(&rt, rt.alloc(), &set, row)?;
+        is_handed_on(&rt, &on, row)?;
     }
     Ok(())
 }

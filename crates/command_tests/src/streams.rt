@@ -1,24 +1,16 @@
 //! Worked streams through each command: what is written and answered, whatever a read gives.
 
-ghost use Rattle.std.specs.Prelude.{◌≤◌, ◌^◌};
-
+use crate::base::*;
+use crate::given::moded;
 use crate::granted::answers;
-use crate::same::same;
-use crate::strict::told;
-use crate::worked::worked;
-use fast_canon::{CanonFault, Summary};
-use fast_command::{Command, Form, run};
-use fast_decoder::Mode;
-use fast_io::{Counted, ScriptInput, ScriptOutput};
-use fast_stream::{Cause, Fault, Place};
-use fast_template::TemplateSet;
-use std::alloc::Global;
-use std::process::Abort;
-use stream_rows::cuts::{CUTS, Cut, Front};
-use stream_rows::long::{MANY, stream_of};
-use stream_rows::modes::{BLOCKS, InMode, PLAIN, in_each_mode};
-use stream_rows::quotes::{QUOTE, TWO, TWO_SHORT};
-use test_rows::{Tried, rows};
+use fast_canon::Summary;
+use fast_command::run;
+use fast_io::ByteOutput;
+use fast_stream::Fault;
+use stream_rows::cuts::{CUTS, Cut};
+use stream_rows::ends::End;
+use stream_rows::modes::{BLOCKS, in_each_mode};
+use stream_rows::quotes::TWO;
 
 /// A stream, how many messages it has, and what each command writes of it.
 #[derive(Clone, Copy)]
@@ -115,7 +107,7 @@ pub(crate) const REFUSALS: &[Refusal] =
     b"\xf0\x81\0\0\0\0\0\0\0\0\0", 0, "", b"", Cause::Truncated, At(2, 1, 1);
 };
 
-pub(crate) fn counted(messages: u64, read: usize, written: usize) -> Result<Summary, CanonFault> {
+pub(crate) fn counted(messages: u64, read: usize, written: usize) -> Answer {
     Ok(Summary {
         messages,
         read: read as u64,
@@ -123,81 +115,42 @@ pub(crate) fn counted(messages: u64, read: usize, written: usize) -> Result<Summ
     })
 }
 
-pub(crate) fn refused(cause: Cause, message: u64, at: At) -> Result<Summary, CanonFault> {
-    let place = Place {
-        message,
-        offset: at.0,
-        template: at.1,
-        instruction: at.2,
-    };
-    Err(CanonFault::Stream(Fault { cause, place }))
+pub(crate) fn refused(cause: Cause, message: u64, at: At) -> Answer {
+    stopped(End::At(cause, message, at.0, at.1, at.2).fault())
 }
 
-/// Runs a command over a reader and a writer, with at most so many reads.
-pub(crate) fn play(
-    alloc: Global,
-    set: &TemplateSet,
-    mode: Mode,
-    form: Form,
-    command: Command,
-    reader: ScriptInput<'_>,
-    out: &mut ScriptOutput,
-    turns: u64,
-) -> Result<Summary, CanonFault>
-    requires { turns ≤ 2 ^ 40 }
-{
-    let mut reader = Counted::new(reader);
-    let mut writer = Counted::new(out);
-    run(
-        alloc,
-        command,
-        set,
-        mode,
-        form,
-        &mut reader,
-        &mut writer,
-        turns,
-    )
+/// What a command answers over a writer.
+pub(crate) fn play(on: &Loaded, given: Given, writer: &mut impl ByteOutput) -> Answer {
+    let (alloc, set, command) = (on.alloc, &on.set, given.command);
+    let (mode, form) = (given.mode, given.form);
+    let turns = given.turns.min(1_000_000);
+    let reader = &mut Counted::new(given.reader());
+    run(alloc, command, set, mode, form, reader, writer, turns)
 }
 
 /// A command writes this of a stream into a writer, and answers this.
 fn gives_into(
     rt: &impl Abort,
-    alloc: Global,
-    set: &TemplateSet,
-    mode: Mode,
-    command: Command,
-    reader: ScriptInput<'_>,
+    on: &Loaded,
+    given: Given,
     mut out: ScriptOutput,
     written: &[u8],
-    answer: Result<Summary, CanonFault>,
+    answer: Answer,
 ) -> Tried {
-    let got = play(
-        alloc,
-        set,
-        mode,
-        Form::Text,
-        command,
-        reader,
-        &mut out,
-        100_000,
-    );
+    let got = play(on, given, &mut Counted::new(&mut out));
     answers(rt, got, answer, out.bytes(), written)
 }
 
 /// A command writes this of a stream, and answers this.
 pub(crate) fn gives(
     rt: &impl Abort,
-    alloc: Global,
-    set: &TemplateSet,
-    mode: Mode,
-    command: Command,
-    reader: ScriptInput<'_>,
-    written: &[u8],
-    answer: Result<Summary, CanonFault>,
+    on: &Loaded,
+    given: Given,
+    out: &[u8],
+    answer: Answer,
 ) -> Tried {
-    let out = ScriptOutput::new(alloc, 1_000_000, false, false);
-    gives_into(rt, alloc, set, mode, command, reader, out, written, answer)
+    let writer = ScriptOutput::new(on.alloc, 1_000_000, false, false);
+    gives_into(rt, on, given, writer, out, answer)
 }
 
 /// What the commands write of a stream and answer: its lines, what is told, and its canonical bytes.
@@ -206,98 +159,47 @@ pub(crate) struct Made<'a> {
     pub(crate) lines: &'a [u8],
     pub(crate) told: &'a [u8],
     pub(crate) canonical: &'a [u8],
-    pub(crate) shown: Result<Summary, CanonFault>,
+    pub(crate) shown: Answer,
     // by `check`, and by `canon`
-    pub(crate) counted: Result<Summary, CanonFault>,
+    pub(crate) counted: Answer,
 }
 
-/// What each command makes of a stream in steps of one size, whose reader fails at the call with this number.
-pub(crate) fn makes(
-    rt: &impl Abort,
-    alloc: Global,
-    set: &TemplateSet,
-    mode: Mode,
-    stream: &[u8],
-    step: usize,
-    failing: u64,
-    made: Made<'_>,
-) -> Tried
-    requires { 1 ≤ step }
-{
-    let show = ScriptInput::new(stream, step, failing);
-    gives(
-        rt,
-        alloc,
-        set,
-        mode,
-        Command::Show,
-        show,
-        made.lines,
-        made.shown,
-    )?;
-    let check = ScriptInput::new(stream, step, failing);
-    gives(
-        rt,
-        alloc,
-        set,
-        mode,
-        Command::Check,
-        check,
-        made.told,
-        made.counted,
-    )?;
-    let canon = ScriptInput::new(stream, step, failing);
-    gives(
-        rt,
-        alloc,
-        set,
-        mode,
-        Command::Canon,
-        canon,
-        made.canonical,
-        made.counted,
-    )
+/// What each command makes of a stream.
+pub(crate) fn makes(rt: &impl Abort, on: &Loaded, given: Given, made: Made) -> Tried {
+    gives(rt, on, given.to(Command::Show), made.lines, made.shown)?;
+    gives(rt, on, given.to(Command::Check), made.told, made.counted)?;
+    let canon = given.to(Command::Canon);
+    gives(rt, on, canon, made.canonical, made.counted)
 }
 
-// What is made of a stream that ends.
-fn made_of(row: &Row) -> Made<'_> {
-    let lines = row.lines.as_bytes();
+/// What is made of a stream of so many messages and bytes that ends: lines, what is told, and canonical bytes.
+pub(crate) fn made_of(messages: u64, read: usize, texts: [&[u8]; 3]) -> Made<'_> {
+    let [lines, told, canonical] = texts;
     Made {
         lines,
-        told: row.told.as_bytes(),
-        canonical: row.canonical,
-        shown: counted(row.messages, row.stream.len(), lines.len()),
-        counted: counted(row.messages, row.stream.len(), row.canonical.len()),
+        told,
+        canonical,
+        shown: counted(messages, read, lines.len()),
+        counted: counted(messages, read, canonical.len()),
     }
 }
 
 /// What each command makes of a stream that ends, in steps of one size.
-pub(crate) fn ends(
-    rt: &impl Abort,
-    alloc: Global,
-    set: &TemplateSet,
-    mode: Mode,
-    row: &Row,
-    step: usize,
-) -> Tried
-    requires { 1 ≤ step }
-{
-    makes(rt, alloc, set, mode, row.stream, step, 0, made_of(row))
-}
-
-fn each_ends(rt: &impl Abort, alloc: Global, set: &TemplateSet, mode: Mode, rows: &[Row]) -> Tried {
-    for row in rows {
-        ends(rt, alloc, set, mode, row, 1)?;
-        ends(rt, alloc, set, mode, row, 2)?;
-        ends(rt, alloc, set, mode, row, 4096)?;
-    }
-    Ok(())
+pub(crate) fn ends(rt: &impl Abort, on: &Loaded, mode: Mode, row: &Row, step: usize) -> Tried {
+    let texts = [row.lines.as_bytes(), row.told.as_bytes(), row.canonical];
+    let made = made_of(row.messages, row.stream.len(), texts);
+    makes(rt, on, in_mode(mode, row.stream, step), made)
 }
 
 /// What each command makes of streams of the worked templates that end, in steps of several sizes.
 pub(crate) fn all_end(rt: &impl Abort, alloc: Global, mode: Mode, rows: &[Row]) -> Tried {
-    let set = worked(rt, alloc)?;
-    each_ends(rt, alloc, &set, mode, rows)
+    let on = worked(rt, alloc)?;
+    for row in rows {
+        ends(rt, &on, mode, row, 1)?;
+        ends(rt, &on, mode, row, 2)?;
+        ends(rt, &on, mode, row, 4096)?;
+    }
+    Ok(())
 }
 
 #[test]
@@ -306,11 +208,7 @@ fn worked_streams_end(rt: HostRuntime) -> Tried {
 }
 
 /// What is made of a stream that is refused.
-pub(crate) fn made_before<'a>(
-    lines: &'a [u8],
-    canonical: &'a [u8],
-    answer: Result<Summary, CanonFault>,
-) -> Made<'a> {
+pub(crate) fn made_before<'a>(lines: &'a [u8], canonical: &'a [u8], answer: Answer) -> Made<'a> {
     Made {
         lines,
         told: b"",
@@ -321,40 +219,21 @@ pub(crate) fn made_before<'a>(
 }
 
 /// What each command makes of a stream that is refused, in steps of one size.
-pub(crate) fn stops(
-    rt: &impl Abort,
-    alloc: Global,
-    set: &TemplateSet,
-    mode: Mode,
-    row: &Refusal,
-    step: usize,
-) -> Tried
-    requires { 1 ≤ step }
-{
+pub(crate) fn stops(rt: &impl Abort, on: &Loaded, mode: Mode, row: &Refusal, step: usize) -> Tried {
     let answer = refused(row.cause, row.messages.saturating_add(1), row.at);
     let made = made_before(row.lines.as_bytes(), row.canonical, answer);
-    makes(rt, alloc, set, mode, row.stream, step, 0, made)
-}
-
-fn each_stops(
-    rt: &impl Abort,
-    alloc: Global,
-    set: &TemplateSet,
-    mode: Mode,
-    rows: &[Refusal],
-) -> Tried {
-    for row in rows {
-        stops(rt, alloc, set, mode, row, 1)?;
-        stops(rt, alloc, set, mode, row, 2)?;
-        stops(rt, alloc, set, mode, row, 4096)?;
-    }
-    Ok(())
+    makes(rt, on, in_mode(mode, row.stream, step), made)
 }
 
 /// What each command makes of streams of the worked templates that are refused, in steps of several sizes.
 pub(crate) fn all_stop(rt: &impl Abort, alloc: Global, mode: Mode, rows: &[Refusal]) -> Tried {
-    let set = worked(rt, alloc)?;
-    each_stops(rt, alloc, &set, mode, rows)
+    let on = worked(rt, alloc)?;
+    for row in rows {
+        stops(rt, &on, mode, row, 1)?;
+        stops(rt, &on, mode, row, 2)?;
+        stops(rt, &on, mode, row, 4096)?;
+    }
+    Ok(())
 }
 
 #[test]
@@ -363,7 +242,7 @@ fn worked_streams_are_refused(rt: HostRuntime) -> Tried {
 }
 
 /// The answer to a stream that is refused.
-pub(crate) fn stopped(fault: Option<Fault>) -> Result<Summary, CanonFault> {
+pub(crate) fn stopped(fault: Option<Fault>) -> Answer {
     match fault {
         Some(fault) => Err(CanonFault::Stream(fault)),
         None => counted(0, 0, 0),
@@ -371,191 +250,111 @@ pub(crate) fn stopped(fault: Option<Fault>) -> Result<Summary, CanonFault> {
 }
 
 /// What each command makes of a reader that fails where it is to give the byte behind so many of a stream.
-fn fails_behind(
-    rt: &impl Abort,
-    alloc: Global,
-    set: &TemplateSet,
-    row: &Cut,
-    given: &InMode,
-    count: usize,
-) -> Tried {
+fn fails_behind(rt: &impl Abort, on: &Loaded, row: &Cut, stream: &InMode, count: usize) -> Tried {
     let front = row.front(count);
     let lines = &row.lines.as_bytes()[..front.line_bytes.min(row.lines.len())];
     let canonical = &row.stream[..front.bytes.min(row.stream.len())];
-    let answer = stopped(given.moved(front.unread()));
-    let call = given.front.saturating_add(count).saturating_add(1);
+    let answer = stopped(stream.moved(front.unread()));
+    let call = stream.front.saturating_add(count).saturating_add(1) as u64;
     let made = made_before(lines, canonical, answer);
-    makes(
-        rt,
-        alloc,
-        set,
-        given.mode,
-        &given.stream,
-        1,
-        call as u64,
-        made,
-    )
-}
-
-/// The same behind each number of bytes, in each mode.
-fn fails_everywhere(rt: &impl Abort, alloc: Global, set: &TemplateSet, row: &Cut) -> Tried {
-    let is_refused = row.front(row.missing.len()).truncated().is_some();
-    for given in &in_each_mode(alloc, row.stream, is_refused)? {
-        for count in 0..=row.missing.len() {
-            fails_behind(rt, alloc, set, row, given, count)?;
-        }
-    }
-    Ok(())
+    makes(rt, on, moded(stream, 1).failing(call), made)
 }
 
 #[test]
 fn a_read_fails(rt: HostRuntime) -> Tried {
-    let alloc = rt.alloc();
-    let set = worked(&rt, alloc)?;
+    let on = worked(&rt, rt.alloc())?;
     for row in CUTS {
-        fails_everywhere(&rt, alloc, &set, row)?;
+        // behind each number of bytes, in each mode
+        let is_refused = row.front(row.missing.len()).truncated().is_some();
+        for stream in &in_each_mode(rt.alloc(), row.stream, is_refused)? {
+            for count in 0..=row.missing.len() {
+                fails_behind(&rt, &on, row, stream, count)?;
+            }
+        }
     }
     // before the size of a block
     let made = made_before(b"", b"", refused(Cause::Read, 1, At(0, 0, 0)));
-    makes(&rt, alloc, &set, BLOCKS, b"\x88", 1, 1, made)
+    makes(&rt, &on, in_mode(BLOCKS, b"\x88", 1).failing(1), made)
 }
 
-/// What each command makes of a stream that is cut behind so many of its bytes, whole and byte by byte.
-fn cut_behind(
-    rt: &impl Abort,
-    alloc: Global,
-    set: &TemplateSet,
-    row: &Cut,
-    given: &InMode,
-    front: Front,
-) -> Tried {
-    let read = given.stream.len();
+/// What each command makes of a stream that is cut behind so many of its bytes, in each mode, whole and byte by byte.
+fn is_cut(rt: &impl Abort, on: &Loaded, row: &Cut, count: usize) -> Tried {
+    let front = row.front(count);
     let lines = &row.lines.as_bytes()[..front.line_bytes.min(row.lines.len())];
     let canonical = &row.stream[..front.bytes.min(row.stream.len())];
-    let told = told(alloc, front.messages, read, canonical.len())?;
-    let made = match given.moved(front.truncated()) {
-        Some(fault) => made_before(lines, canonical, Err(CanonFault::Stream(fault))),
-        None => Made {
-            lines,
-            told: told.as_bytes(),
-            canonical,
-            shown: counted(front.messages, read, lines.len()),
-            counted: counted(front.messages, read, canonical.len()),
-        },
-    };
-    makes(rt, alloc, set, given.mode, &given.stream, 1, 0, made)?;
-    makes(rt, alloc, set, given.mode, &given.stream, 4096, 0, made)
-}
-
-/// The same in each mode.
-fn is_cut(rt: &impl Abort, alloc: Global, set: &TemplateSet, row: &Cut, count: usize) -> Tried {
-    let front = row.front(count);
     let stream = &row.stream[..count.min(row.stream.len())];
-    for given in &in_each_mode(alloc, stream, front.truncated().is_some())? {
-        cut_behind(rt, alloc, set, row, given, front)?;
+    for given in &in_each_mode(on.alloc, stream, front.truncated().is_some())? {
+        let read = given.stream.len();
+        let told = told(on.alloc, front.messages, read, canonical.len())?;
+        let made = match given.moved(front.truncated()) {
+            Some(fault) => made_before(lines, canonical, Err(CanonFault::Stream(fault))),
+            None => made_of(front.messages, read, [lines, told.as_bytes(), canonical]),
+        };
+        makes(rt, on, moded(given, 1), made)?;
+        makes(rt, on, moded(given, 4096), made)?;
     }
     Ok(())
 }
 
 #[test]
 fn a_stream_is_cut(rt: HostRuntime) -> Tried {
-    let alloc = rt.alloc();
-    let set = worked(&rt, alloc)?;
+    let on = worked(&rt, rt.alloc())?;
     for row in CUTS {
         for count in 1..=row.missing.len() {
-            is_cut(&rt, alloc, &set, row, count)?;
+            is_cut(&rt, &on, row, count)?;
         }
     }
     Ok(())
 }
 
-/// What a command writes of two quotes, and its answer.
-#[derive(Clone, Copy)]
-struct Whole<'a> {
-    command: Command,
-    written: &'a [u8],
-    answer: Result<Summary, CanonFault>,
-}
-
-/// A writer for the two quotes fails behind these bytes, or takes them all.
+/// A writer for the two quotes fails behind these bytes, or takes all that a command writes.
 fn breaks_at(
     rt: &impl Abort,
-    alloc: Global,
-    set: &TemplateSet,
-    given: &InMode,
-    whole: Whole<'_>,
+    on: &Loaded,
+    given: Given,
+    (whole, answer): (&[u8], Answer),
     out: ScriptOutput,
     room: usize,
 ) -> Tried {
-    let reader = ScriptInput::new(&given.stream, 4096, 0);
-    let written = &whole.written[..room.min(whole.written.len())];
-    let answer = if room > whole.written.len() {
-        whole.answer
-    } else {
-        Err(CanonFault::Write)
-    };
-    gives_into(
-        rt,
-        alloc,
-        set,
-        given.mode,
-        whole.command,
-        reader,
-        out,
-        written,
-        answer,
-    )
+    let written = &whole[..room.min(whole.len())];
+    let fault = Err(CanonFault::Write);
+    let answer = if room > whole.len() { answer } else { fault };
+    gives_into(rt, on, given, out, written, answer)
 }
 
 /// A writer that fails behind each number of bytes, one with room for all of them, one that takes none, and one that
 /// fails at the flush.
-fn breaks(
-    rt: &impl Abort,
-    alloc: Global,
-    set: &TemplateSet,
-    given: &InMode,
-    whole: Whole<'_>,
-) -> Tried {
-    let size = whole.written.len();
+fn breaks(rt: &impl Abort, on: &Loaded, given: Given, whole: (&[u8], Answer)) -> Tried {
+    let size = whole.0.len();
     for room in 0..size {
-        let out = ScriptOutput::new(alloc, room as u64, false, false);
-        breaks_at(rt, alloc, set, given, whole, out, room)?;
+        let out = ScriptOutput::new(on.alloc, room as u64, false, false);
+        breaks_at(rt, on, given, whole, out, room)?;
     }
-    let full = ScriptOutput::new(alloc, size as u64, false, false);
-    breaks_at(rt, alloc, set, given, whole, full, usize::MAX)?;
-    let none = ScriptOutput::new(alloc, 0, true, false);
-    breaks_at(rt, alloc, set, given, whole, none, 0)?;
-    let unflushed = ScriptOutput::new(alloc, size as u64, false, true);
-    breaks_at(rt, alloc, set, given, whole, unflushed, size)
+    let full = ScriptOutput::new(on.alloc, size as u64, false, false);
+    breaks_at(rt, on, given, whole, full, usize::MAX)?;
+    let none = ScriptOutput::new(on.alloc, 0, true, false);
+    breaks_at(rt, on, given, whole, none, 0)?;
+    let unflushed = ScriptOutput::new(on.alloc, size as u64, false, true);
+    breaks_at(rt, on, given, whole, unflushed, size)
 }
 
 /// Each command of the two quotes, in one mode.
-fn each_breaks(rt: &impl Abort, alloc: Global, set: &TemplateSet, given: &InMode) -> Tried {
-    let read = given.stream.len();
-    let told = told(alloc, 2, read, 11)?;
-    let commands = [
-        (Command::Show, TWO_LINES.as_bytes(), TWO_LINES.len()),
-        (Command::Check, told.as_bytes(), 11),
-        (Command::Canon, TWO_SHORT, 11),
-    ];
-    for (command, written, count) in commands {
-        let answer = counted(2, read, count);
-        let whole = Whole {
-            command,
-            written,
-            answer,
-        };
-        breaks(rt, alloc, set, given, whole)?;
-    }
-    Ok(())
+fn each_breaks(rt: &impl Abort, on: &Loaded, stream: &InMode) -> Tried {
+    let (given, read) = (moded(stream, 4096), stream.stream.len());
+    let told = told(on.alloc, 2, read, 11)?;
+    let shown = counted(2, read, TWO_LINES.len());
+    breaks(rt, on, given, (TWO_LINES.as_bytes(), shown))?;
+    let check = given.to(Command::Check);
+    breaks(rt, on, check, (told.as_bytes(), counted(2, read, 11)))?;
+    let canon = given.to(Command::Canon);
+    breaks(rt, on, canon, (TWO_SHORT, counted(2, read, 11)))
 }
 
 #[test]
 fn a_write_fails(rt: HostRuntime) -> Tried {
-    let alloc = rt.alloc();
-    let set = worked(&rt, alloc)?;
-    for given in &in_each_mode(alloc, TWO, false)? {
-        each_breaks(&rt, alloc, &set, given)?;
+    let on = worked(&rt, rt.alloc())?;
+    for given in &in_each_mode(rt.alloc(), TWO, false)? {
+        each_breaks(&rt, &on, given)?;
     }
     Ok(())
 }
@@ -573,156 +372,73 @@ fn a_flush_fails(rt: HostRuntime) -> Tried {
         Command::Check, b"\x80";
         Command::Canon, b"\x80";
     };
-    let alloc = rt.alloc();
-    let set = worked(&rt, alloc)?;
+    let on = worked(&rt, rt.alloc())?;
     for Unflushed(command, stream) in ROWS {
-        let reader = ScriptInput::new(stream, 1, 0);
-        let out = ScriptOutput::new(alloc, 9, false, true);
-        let answer = Err(CanonFault::Write);
-        gives_into(&rt, alloc, &set, PLAIN, *command, reader, out, b"", answer)?;
+        let out = ScriptOutput::new(rt.alloc(), 9, false, true);
+        let (given, answer) = (plainly(stream, 1).to(*command), Err(CanonFault::Write));
+        gives_into(&rt, &on, given, out, b"", answer)?;
     }
     Ok(())
 }
 
 /// A command of the first quote, one byte a read, and at most so many reads.
-fn turned(
-    rt: &impl Abort,
-    alloc: Global,
-    set: &TemplateSet,
-    command: Command,
-    turns: u64,
-    written: &[u8],
-    answer: Result<Summary, CanonFault>,
-) -> Tried
-    requires { turns ≤ 2 ^ 40 }
-{
-    let mut out = ScriptOutput::new(alloc, 1_000, false, false);
-    let got = play(
-        alloc,
-        set,
-        PLAIN,
-        Form::Text,
-        command,
-        ScriptInput::new(QUOTE, 1, 0),
-        &mut out,
-        turns,
-    );
-    answers(rt, got, answer, out.bytes(), written)
-}
-
-fn each_is_turned(rt: &impl Abort, alloc: Global, set: &TemplateSet) -> Tried {
-    let two = refused(Cause::Turns, 1, At(2, 1, 1));
-    turned(rt, alloc, set, Command::Show, 2, b"", two)?;
-    turned(rt, alloc, set, Command::Check, 2, b"", two)?;
-    turned(rt, alloc, set, Command::Canon, 2, b"", two)?;
-    let line = QUOTE_LINE.as_bytes();
-    let shown = counted(1, 8, line.len());
-    turned(rt, alloc, set, Command::Show, 9, line, shown)?;
-    let told = b"ok messages=1 bytes=8 canonical=8\n";
-    turned(rt, alloc, set, Command::Check, 9, told, counted(1, 8, 8))?;
-    turned(rt, alloc, set, Command::Canon, 9, QUOTE, counted(1, 8, 8))
-}
-
 #[test]
 fn reads_are_used_up(rt: HostRuntime) -> Tried {
-    let set = worked(&rt, rt.alloc())?;
-    each_is_turned(&rt, rt.alloc(), &set)
-}
-
-/// A command answered this, and what it wrote begins and ends so.
-fn stands_between(
-    rt: &impl Abort,
-    given: Result<Summary, CanonFault>,
-    wanted: Result<Summary, CanonFault>,
-    out: &[u8],
-    first: &[u8],
-    last: &[u8],
-) -> Tried {
-    answers(rt, given, wanted, b"", b"")?;
-    same(rt, out.starts_with(first), true);
-    same(rt, out.ends_with(last), true);
-    Ok(())
+    const TOLD: &[u8] = b"ok messages=1 bytes=8 canonical=8\n";
+    let on = worked(&rt, rt.alloc())?;
+    let two = plainly(QUOTE, 1).turns(2);
+    let turns = refused(Cause::Turns, 1, At(2, 1, 1));
+    gives(&rt, &on, two.to(Command::Show), b"", turns)?;
+    gives(&rt, &on, two.to(Command::Check), b"", turns)?;
+    gives(&rt, &on, two.to(Command::Canon), b"", turns)?;
+    let nine = plainly(QUOTE, 1).turns(9);
+    let (line, whole) = (QUOTE_LINE.as_bytes(), counted(1, 8, 8));
+    let shown = counted(1, 8, line.len());
+    gives(&rt, &on, nine.to(Command::Show), line, shown)?;
+    gives(&rt, &on, nine.to(Command::Check), TOLD, whole)?;
+    gives(&rt, &on, nine.to(Command::Canon), QUOTE, whole)
 }
 
 /// What `show` answers of a stream, and how what it writes begins and ends.
 fn shows_between(
     rt: &impl Abort,
-    alloc: Global,
-    set: &TemplateSet,
+    on: &Loaded,
     stream: &[u8],
-    answer: Result<Summary, CanonFault>,
-    first: &[u8],
-    last: &[u8],
+    answer: Answer,
+    (first, last): (&[u8], &[u8]),
 ) -> Tried {
-    let mut out = ScriptOutput::new(alloc, 1_000_000, false, false);
-    let got = play(
-        alloc,
-        set,
-        PLAIN,
-        Form::Text,
-        Command::Show,
-        ScriptInput::new(stream, 4096, 0),
-        &mut out,
-        100,
-    );
-    stands_between(rt, got, answer, out.bytes(), first, last)
-}
-
-/// What `check` and `canon` make of a stream that is canonical itself, in steps of one size each.
-fn is_canonical(
-    rt: &impl Abort,
-    alloc: Global,
-    set: &TemplateSet,
-    stream: &[u8],
-    steps: (usize, usize),
-    told: &[u8],
-    answer: Result<Summary, CanonFault>,
-) -> Tried {
-    let reader = ScriptInput::new(stream, steps.0.max(1), 0);
-    gives(rt, alloc, set, PLAIN, Command::Check, reader, told, answer)?;
-    let reader = ScriptInput::new(stream, steps.1.max(1), 0);
-    gives(
-        rt,
-        alloc,
-        set,
-        PLAIN,
-        Command::Canon,
-        reader,
-        stream,
-        answer,
-    )
-}
-
-fn is_long(rt: &impl Abort, alloc: Global, set: &TemplateSet, stream: &[u8]) -> Tried {
-    let first = QUOTE_LINE.as_bytes();
-    let last = b"\n1 Quote Seq=10001 Sym=\"AB\" Px=10100e-2 Qty=-\n";
-    let shown = counted(10_001, 30_008, 428_139);
-    shows_between(rt, alloc, set, stream, shown, first, last)?;
-    let told = b"ok messages=10001 bytes=30008 canonical=30008\n";
-    let answer = counted(10_001, 30_008, 30_008);
-    is_canonical(rt, alloc, set, stream, (4096, 4096), told, answer)
+    let mut out = ScriptOutput::new(on.alloc, 1_000_000, false, false);
+    let given = plainly(stream, 4096).turns(100);
+    let got = play(on, given, &mut Counted::new(&mut out));
+    answers(rt, got, answer, b"", b"")?;
+    same(rt, out.bytes().starts_with(first), true);
+    same(rt, out.bytes().ends_with(last), true);
+    Ok(())
 }
 
 #[test]
 fn a_long_stream(rt: HostRuntime) -> Tried {
     let stream = stream_of(rt.alloc(), MANY)?;
-    let set = worked(&rt, rt.alloc())?;
-    is_long(&rt, rt.alloc(), &set, &stream)
+    let on = worked(&rt, rt.alloc())?;
+    let last = b"\n1 Quote Seq=10001 Sym=\"AB\" Px=10100e-2 Qty=-\n";
+    let shown = counted(10_001, 30_008, 428_139);
+    shows_between(&rt, &on, &stream, shown, (QUOTE_LINE.as_bytes(), last))?;
+    let told = b"ok messages=10001 bytes=30008 canonical=30008\n";
+    let (given, answer) = (plainly(&stream, 4096), counted(10_001, 30_008, 30_008));
+    gives(&rt, &on, given.to(Command::Check), told, answer)?;
+    gives(&rt, &on, given.to(Command::Canon), &stream, answer)
 }
 
 // As many elements as there may be, each empty: the line has three bytes for each but the first.
-fn has_a_long_line(rt: &impl Abort, alloc: Global, set: &TemplateSet) -> Tried {
-    let stream = b"\xc0\x86\x03\x7f\xff";
-    let first = b"6 Bare L=[{} {} {} ";
-    let last = b" {} {}]\n";
-    let shown = counted(1, 5, 196_616);
-    shows_between(rt, alloc, set, stream, shown, first, last)?;
-    let told = b"ok messages=1 bytes=5 canonical=5\n";
-    is_canonical(rt, alloc, set, stream, (1, 2), told, counted(1, 5, 5))
-}
-
 #[test]
 fn a_long_line(rt: HostRuntime) -> Tried {
-    let set = worked(&rt, rt.alloc())?;
-    has_a_long_line(&rt, rt.alloc(), &set)
+    let on = worked(&rt, rt.alloc())?;
+    let stream = b"\xc0\x86\x03\x7f\xff";
+    let ends: (&[u8], &[u8]) = (b"6 Bare L=[{} {} {} ", b" {} {}]\n");
+    shows_between(&rt, &on, stream, counted(1, 5, 196_616), ends)?;
+    let (told, answer) = (b"ok messages=1 bytes=5 canonical=5\n", counted(1, 5, 5));
+    let check = plainly(stream, 1).to(Command::Check);
+    gives(&rt, &on, check, told, answer)?;
+    let canon = plainly(stream, 2).to(Command::Canon);
+    gives(&rt, &on, canon, stream, answer)
 }

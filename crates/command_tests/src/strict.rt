@@ -1,20 +1,9 @@
 //! Worked streams at the strict level through each command.
 
-ghost use Rattle.std.specs.Prelude.{◌≤◌};
-
-use crate::streams::{
-    At, Made, QUOTE_LINE, REFUSALS, ROWS, Refusal, Row, all_end, all_stop, counted, ends, makes,
-    stops,
-};
-use crate::worked::{loaded, worked};
-use fast_stream::Cause;
-use fast_template::TemplateSet;
-use std::alloc::Global;
-use std::process::Abort;
-use stream_rows::modes::{PLAIN, STRICT};
-use stream_rows::quotes::QUOTE;
+use crate::base::*;
+use crate::streams::{QUOTE_LINE, REFUSALS, ROWS, Refusal, Row, all_end, all_stop, ends, stops};
+use stream_rows::modes::STRICT;
 use template_tests::texts::KINDS;
-use test_rows::{Tried, rows};
 
 /// A stream that is longer than it must be, what each command makes of it at the usual level, and why its first
 /// message is refused at the strict one.
@@ -71,81 +60,55 @@ pub(crate) fn told(alloc: Global, messages: u64, read: usize, written: usize) ->
 }
 
 /// What each command makes of canonical bytes, one byte a read: the lines of their messages, and the same bytes.
-fn stays(
-    rt: &impl Abort,
-    alloc: Global,
-    set: &TemplateSet,
-    messages: u64,
-    lines: &str,
-    canonical: &[u8],
-) -> Tried {
+fn stays(rt: &impl Abort, on: &Loaded, messages: u64, lines: &str, canonical: &[u8]) -> Tried {
     let count = canonical.len();
-    let told = told(alloc, messages, count, count)?;
-    let made = Made {
-        lines: lines.as_bytes(),
-        told: told.as_bytes(),
-        canonical,
-        shown: counted(messages, count, lines.len()),
-        counted: counted(messages, count, count),
-    };
-    makes(rt, alloc, set, STRICT, canonical, 1, 0, made)
-}
-
-fn each_stays(rt: &impl Abort, alloc: Global, set: &TemplateSet) -> Tried {
-    for row in ROWS {
-        stays(rt, alloc, set, row.messages, row.lines, row.canonical)?;
-    }
-    for row in REFUSALS {
-        stays(rt, alloc, set, row.messages, row.lines, row.canonical)?;
-    }
-    for row in OVERLONG {
-        let Row {
-            messages,
-            lines,
-            canonical,
-            ..
-        } = row.usual;
-        stays(rt, alloc, set, messages, lines, canonical)?;
-    }
-    Ok(())
+    let told = told(on.alloc, messages, count, count)?;
+    let texts = [lines.as_bytes(), told.as_bytes(), canonical];
+    let made = made_of(messages, count, texts);
+    makes(rt, on, in_mode(STRICT, canonical, 1), made)
 }
 
 #[test]
 fn canonical_streams_are_taken(rt: HostRuntime) -> Tried {
-    let set = worked(&rt, rt.alloc())?;
-    each_stays(&rt, rt.alloc(), &set)
+    let on = worked(&rt, rt.alloc())?;
+    for row in ROWS {
+        stays(&rt, &on, row.messages, row.lines, row.canonical)?;
+    }
+    for row in REFUSALS {
+        stays(&rt, &on, row.messages, row.lines, row.canonical)?;
+    }
+    for Overlong { usual, .. } in OVERLONG {
+        stays(&rt, &on, usual.messages, usual.lines, usual.canonical)?;
+    }
+    Ok(())
 }
 
-/// What is made of an overlong stream at both levels, in steps of one size.
-fn is_overlong(
-    rt: &impl Abort,
-    alloc: Global,
-    set: &TemplateSet,
-    row: &Overlong,
-    step: usize,
-) -> Tried
-    requires { 1 ≤ step }
-{
-    ends(rt, alloc, set, PLAIN, &row.usual, step)?;
-    let refusal = Refusal {
-        stream: row.usual.stream,
+/// A stream whose first message is refused.
+fn first_refused(stream: &'static [u8], cause: Cause, at: At) -> Refusal {
+    Refusal {
+        stream,
         messages: 0,
         lines: "",
         canonical: b"",
-        cause: row.cause,
-        at: row.at,
-    };
-    stops(rt, alloc, set, STRICT, &refusal, step)
+        cause,
+        at,
+    }
+}
+
+/// What is made of an overlong stream at both levels, in steps of one size.
+fn is_overlong(rt: &impl Abort, on: &Loaded, row: &Overlong, step: usize) -> Tried {
+    ends(rt, on, PLAIN, &row.usual, step)?;
+    let refusal = first_refused(row.usual.stream, row.cause, row.at);
+    stops(rt, on, STRICT, &refusal, step)
 }
 
 #[test]
 fn overlong_streams(rt: HostRuntime) -> Tried {
-    let alloc = rt.alloc();
-    let set = worked(&rt, alloc)?;
+    let on = worked(&rt, rt.alloc())?;
     for row in OVERLONG {
-        is_overlong(&rt, alloc, &set, row, 1)?;
-        is_overlong(&rt, alloc, &set, row, 2)?;
-        is_overlong(&rt, alloc, &set, row, 4096)?;
+        is_overlong(&rt, &on, row, 1)?;
+        is_overlong(&rt, &on, row, 2)?;
+        is_overlong(&rt, &on, row, 4096)?;
     }
     Ok(())
 }
@@ -207,19 +170,11 @@ fn overlong_entities_of_each_kind(rt: HostRuntime) -> Tried {
         b"\xc0\x8d\x7f\xc0", Cause::R6, At(2, 13, 1);
         b"\xc0\x8d\x00\x80", Cause::R6, At(2, 13, 1);
     };
-    let alloc = rt.alloc();
-    let set = loaded(&rt, alloc, KINDS)?;
+    let on = loaded(&rt, rt.alloc(), KINDS)?;
     for Refused(stream, cause, at) in STREAMS {
-        let refusal = Refusal {
-            stream,
-            messages: 0,
-            lines: "",
-            canonical: b"",
-            cause: *cause,
-            at: *at,
-        };
-        stops(&rt, alloc, &set, STRICT, &refusal, 1)?;
-        stops(&rt, alloc, &set, STRICT, &refusal, 4096)?;
+        let refusal = first_refused(stream, *cause, *at);
+        stops(&rt, &on, STRICT, &refusal, 1)?;
+        stops(&rt, &on, STRICT, &refusal, 4096)?;
     }
     Ok(())
 }

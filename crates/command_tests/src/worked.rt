@@ -1,21 +1,13 @@
 //! The worked templates.
 
-use crate::same::same;
-use fast_build::{Load, LoadCause};
-use fast_template::TemplateSet;
-use std::alloc::{AllocError, Global};
-use std::process::Abort;
-use template_tests::growths::{refuse_growths, spare_growths};
-use template_tests::texts::WORKED;
-use test_rows::Tried;
+use crate::base::*;
+use fast_build::LoadCause;
+use template_tests::loaded::{Loaded, load};
 
-// The set of these templates. What its load asks for is not refused: the tests of loads do that.
-pub(crate) fn loaded(rt: &impl Abort, alloc: Global, text: &str) -> Tried<TemplateSet> {
-    spare_growths(alloc)?;
-    let loaded = TemplateSet::from_json(alloc, text.as_bytes());
-    refuse_growths(alloc)?;
-    match loaded {
-        Ok(set) => Ok(set),
+// The templates of a text.
+pub(crate) fn loaded(rt: &impl Abort, alloc: Global, text: &str) -> Tried<Loaded> {
+    match load(alloc, text)? {
+        Ok(on) => Ok(on),
         Err(fault) => {
             same(rt, fault.cause, LoadCause::Memory);
             Err(AllocError)
@@ -23,7 +15,7 @@ pub(crate) fn loaded(rt: &impl Abort, alloc: Global, text: &str) -> Tried<Templa
     }
 }
 
-// The set of the worked templates.
-pub(crate) fn worked(rt: &impl Abort, alloc: Global) -> Tried<TemplateSet> {
+// The worked templates.
+pub(crate) fn worked(rt: &impl Abort, alloc: Global) -> Tried<Loaded> {
     loaded(rt, alloc, WORKED)
 }
