@@ -1,7 +1,7 @@
 //! What tests compare.
 
+use crate::base::*;
 use std::fmt::Debug;
-use std::process::Abort;
 
 /// Ends the test where two values of a command line differ. A call of it is proved much faster than the text of
 /// `assert_eq` in its place.

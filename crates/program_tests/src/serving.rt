@@ -2,14 +2,14 @@
 
 mod back;
 mod blocks;
-mod devices;
+pub(crate) mod devices;
 mod examples;
 mod explaining;
 mod generated;
 mod granted;
 mod lines;
 mod packets;
-mod programs;
+pub(crate) mod programs;
 mod strict;
 mod worked;
 mod writing;

@@ -1,42 +1,33 @@
 //! The order book and the trade feed of examples/: their lines and canonical bytes, and those of these bytes.
 
-use crate::serving::devices::{STREAM, TEMPLATES};
-use crate::serving::programs::{CASE, Case, Templates, served};
-use std::alloc::Global;
-use std::process::Abort;
-use test_rows::{Tried, words};
+use crate::base::*;
+use crate::serving::programs::served;
 
 // The text of book.json.
-pub const BOOK: &str = r#"{"templates":[
-{"name":"Book","id":1,"instructions":[
- {"kind":"uInt32","name":"Seq","operator":"increment"},
- {"kind":"string","name":"Symbol","operator":"copy"},
- {"kind":"sequence","name":"Entries","instructions":[
-  {"kind":"uInt32","name":"Side","operator":"copy"},
-  {"kind":"decimal","name":"Price",
-   "exponent":{"operator":"default","value":"-2"},"mantissa":{"operator":"delta"}},
-  {"kind":"uInt32","name":"Size","operator":"copy"}]}]}]}"#;
+pub const BOOK: &str = r#"{"templates":[{"name":"Book","id":1,"instructions":[
+ {"kind":"uInt32","name":"Seq","operator":"increment"},{"kind":"string","name":"Symbol","operator":"copy"},
+ {"kind":"sequence","name":"Entries","instructions":[{"kind":"uInt32","name":"Side","operator":"copy"},
+ {"kind":"decimal","name":"Price","exponent":{"operator":"default","value":"-2"},"mantissa":{"operator":"delta"}},
+ {"kind":"uInt32","name":"Size","operator":"copy"}]}]}]}"#;
 
 // The text of trade.json.
 pub const TRADE: &str = r#"{"templates":[
-{"name":"Trade","id":2,"instructions":[
- {"kind":"uInt64","name":"Time","operator":"delta"},
- {"kind":"string","name":"Symbol","operator":"delta"},
- {"kind":"decimal","name":"Price","operator":"delta"},
+{"name":"Trade","id":2,"instructions":[{"kind":"uInt64","name":"Time","operator":"delta"},
+ {"kind":"string","name":"Symbol","operator":"delta"},{"kind":"decimal","name":"Price","operator":"delta"},
  {"kind":"uInt32","name":"Size","operator":"default","value":"100"},
  {"kind":"byteVector","name":"Buyer","presence":"optional","operator":"copy"}]}]}"#;
 
 const SHOW: &[&str] = &["fastcat", "show", "--hex", "--templates", TEMPLATES, STREAM];
 
-const CHECK: &[&str] = words! { "fastcat", "check", "--hex", "--templates", TEMPLATES, STREAM };
+const CHECK: &[&str] = list! { "fastcat", "check", "--hex", "--templates", TEMPLATES, STREAM };
 
-const CANON: &[&str] = words! { "fastcat", "canon", "--hex", "--templates", TEMPLATES, STREAM };
+const CANON: &[&str] = list! { "fastcat", "canon", "--hex", "--templates", TEMPLATES, STREAM };
 
 const SHOW_STRICTLY: &[&str] =
-    words! { "fastcat", "show", "--strict", "--hex", "--templates", TEMPLATES, STREAM };
+    list! { "fastcat", "show", "--strict", "--hex", "--templates", TEMPLATES, STREAM };
 
 const CANON_STRICTLY: &[&str] =
-    words! { "fastcat", "canon", "--strict", "--hex", "--templates", TEMPLATES, STREAM };
+    list! { "fastcat", "canon", "--strict", "--hex", "--templates", TEMPLATES, STREAM };
 
 // Serves a line over templates and a stream in hex text.
 fn is_served<'a>(
@@ -48,11 +39,10 @@ fn is_served<'a>(
     want: &'a str,
 ) -> Tried {
     let case = Case {
-        words,
-        templates,
         stream: stream.as_bytes(),
-        out: want.as_bytes(),
-        ..CASE
+        ..over(templates)
+            .of(words, b"")
+            .answered(0, want.as_bytes(), "")
     };
     served(rt, alloc, &case)
 }
@@ -61,21 +51,17 @@ fn is_served<'a>(
 fn example(
     rt: &impl Abort,
     alloc: Global,
-    templates: Templates<'_>,
+    templates: Templates,
     stream: &str,
-    lines: &str,
-    canon: &str,
-    told: &str,
+    (lines, canon, told): (&str, &str, &str),
 ) -> Tried {
-    let rows: [(&[&str], &str); 4] = [
-        (SHOW, lines),
-        (SHOW_STRICTLY, lines),
-        (CANON, canon),
-        (CANON_STRICTLY, canon),
-    ];
-    for (words, want) in rows {
-        is_served(rt, alloc, words, templates, stream, want)?;
-        is_served(rt, alloc, words, templates, canon, want)?;
+    for words in [SHOW, SHOW_STRICTLY] {
+        is_served(rt, alloc, words, templates, stream, lines)?;
+        is_served(rt, alloc, words, templates, canon, lines)?;
+    }
+    for words in [CANON, CANON_STRICTLY] {
+        is_served(rt, alloc, words, templates, stream, canon)?;
+        is_served(rt, alloc, words, templates, canon, canon)?;
     }
     is_served(rt, alloc, CHECK, templates, stream, told)
 }
@@ -90,7 +76,8 @@ fn an_order_book(rt: HostRuntime) -> Tried {
     );
     let canon = "f0818145d382d0801b3be98ac081998081909984\n";
     let told = "ok messages=2 bytes=25 canonical=20\n";
-    example(&rt, rt.alloc(), Templates::Book, stream, lines, canon, told)
+    let wanted = (lines, canon, told);
+    example(&rt, rt.alloc(), Templates::Book, stream, wanted)
 }
 
 #[test]
@@ -107,13 +94,6 @@ fn a_trade_feed(rt: HostRuntime) -> Tried {
     );
     let canon = "c082102733c08045535ab6fe1b3be9b08f8080809901fa830aff80808248b78080\n";
     let told = "ok messages=3 bytes=36 canonical=33\n";
-    example(
-        &rt,
-        rt.alloc(),
-        Templates::Trade,
-        stream,
-        lines,
-        canon,
-        told,
-    )
+    let wanted = (lines, canon, told);
+    example(&rt, rt.alloc(), Templates::Trade, stream, wanted)
 }

@@ -1,52 +1,27 @@
 //! What refusals mean: the lines behind a refusal's own, with `--explain`.
 
-use crate::serving::devices::{After, FOLDER, FORBIDDEN, Full, STREAM, TEMPLATES};
-use crate::serving::programs::{CASE, Case, Templates, cases_are_served, rows_are_served};
-use test_rows::{Tried, rows, words};
+use crate::base::*;
+use crate::serving::devices::{FOLDER, FORBIDDEN, Full};
+use crate::serving::programs::{EXPLAINED_HEX, cases_are_served, each_is_served};
+use template_tests::texts::DOUBLED;
 
 const SHOW: &[&str] = &["fastcat", "show", "--templates", TEMPLATES, "--explain"];
 
-const CANON_HEX: &[&str] =
-    words! { "fastcat", "canon", "--hex", "--explain", "--templates", TEMPLATES };
-
 const STRICT: &[&str] =
-    words! { "fastcat", "show", "--strict", "--templates", TEMPLATES, "--explain" };
+    list! { "fastcat", "show", "--strict", "--templates", TEMPLATES, "--explain" };
 
 const BLOCKS: &[&str] =
-    words! { "fastcat", "show", "--blocks", "--templates", TEMPLATES, "--explain" };
+    list! { "fastcat", "show", "--blocks", "--templates", TEMPLATES, "--explain" };
 
-pub const MANY: &str = r#"{"templates":[
-{"name":"Mixed","id":1,"instructions":[
- {"kind":"uInt32","name":"N","operator":"copy","key":"K"},
- {"kind":"string","name":"S","operator":"copy","key":"K"}]},
-{"name":"Gone","id":2,"instructions":[
- {"kind":"uInt32","name":"O","presence":"optional","operator":"copy","key":"P"},
- {"kind":"uInt32","name":"M","operator":"copy","key":"P"}]},
-{"name":"Cut","id":3,"instructions":[{"kind":"string","name":"D","operator":"delta"}]},
-{"name":"Price","id":4,"instructions":[{"kind":"decimal","name":"X"}]},
-{"name":"Words","id":5,"instructions":[{"kind":"string","charset":"unicode","name":"U"}]},
-{"name":"Nest","id":6,"instructions":[{"kind":"group","name":"G","instructions":[
- {"kind":"sequence","name":"L","instructions":[{"kind":"uInt32","name":"E"}]}]}]}]}"#;
-
-// Each template has the next one twice, so that the first has 65,536 instructions.
-const DOUBLED: &str =
-    r#"{"templates":[{"name":"N1","instructions":[{"kind":"templateRef","name":"N2"},{"kind":"templateRef","name":"N2"}]},
-{"name":"N2","instructions":[{"kind":"templateRef","name":"N3"},{"kind":"templateRef","name":"N3"}]},
-{"name":"N3","instructions":[{"kind":"templateRef","name":"N4"},{"kind":"templateRef","name":"N4"}]},
-{"name":"N4","instructions":[{"kind":"templateRef","name":"N5"},{"kind":"templateRef","name":"N5"}]},
-{"name":"N5","instructions":[{"kind":"templateRef","name":"N6"},{"kind":"templateRef","name":"N6"}]},
-{"name":"N6","instructions":[{"kind":"templateRef","name":"N7"},{"kind":"templateRef","name":"N7"}]},
-{"name":"N7","instructions":[{"kind":"templateRef","name":"N8"},{"kind":"templateRef","name":"N8"}]},
-{"name":"N8","instructions":[{"kind":"templateRef","name":"N9"},{"kind":"templateRef","name":"N9"}]},
-{"name":"N9","instructions":[{"kind":"templateRef","name":"N10"},{"kind":"templateRef","name":"N10"}]},
-{"name":"N10","instructions":[{"kind":"templateRef","name":"N11"},{"kind":"templateRef","name":"N11"}]},
-{"name":"N11","instructions":[{"kind":"templateRef","name":"N12"},{"kind":"templateRef","name":"N12"}]},
-{"name":"N12","instructions":[{"kind":"templateRef","name":"N13"},{"kind":"templateRef","name":"N13"}]},
-{"name":"N13","instructions":[{"kind":"templateRef","name":"N14"},{"kind":"templateRef","name":"N14"}]},
-{"name":"N14","instructions":[{"kind":"templateRef","name":"N15"},{"kind":"templateRef","name":"N15"}]},
-{"name":"N15","instructions":[{"kind":"templateRef","name":"N16"},{"kind":"templateRef","name":"N16"}]},
-{"name":"N16","instructions":[{"kind":"templateRef","name":"N17"},{"kind":"templateRef","name":"N17"}]},
-{"name":"N17","instructions":[{"kind":"uInt32","name":"A"}]}]}"#;
+pub const MANY: &str = r#"{"templates":[{"name":"Mixed","id":1,"instructions":[
+ {"kind":"uInt32","name":"N","operator":"copy","key":"K"},{"kind":"string","name":"S","operator":"copy","key":"K"}]},
+ {"name":"Gone","id":2,"instructions":[{"kind":"uInt32","name":"O","presence":"optional","operator":"copy","key":"P"},
+ {"kind":"uInt32","name":"M","operator":"copy","key":"P"}]},{"name":"Cut","id":3,"instructions":[
+ {"kind":"string","name":"D","operator":"delta"}]},{"name":"Price","id":4,"instructions":[
+ {"kind":"decimal","name":"X"}]},{"name":"Words","id":5,"instructions":[
+ {"kind":"string","charset":"unicode","name":"U"}]},{"name":"Nest","id":6,"instructions":[
+ {"kind":"group","name":"G","instructions":[{"kind":"sequence","name":"L","instructions":[
+ {"kind":"uInt32","name":"E"}]}]}]}]}"#;
 
 const EXPLAINED: Case = Case {
     words: SHOW,
@@ -86,7 +61,7 @@ fn refused_streams(rt: HostRuntime) -> Tried {
         EXPLAINED, input: b"e0 90 85 86", err: "refused Truncated message=1 offset=0 template=0 instruction=0\n\
                 explain: message 1, offset 0: the stream ends inside a message or a block; see that it was copied whole\n\
                 explain: the standard input begins with hex digits alone; for hex text give --hex\n";
-        EXPLAINED, words: CANON_HEX, input: b"c0 e4", out: b"\n",
+        EXPLAINED, words: EXPLAINED_HEX, input: b"c0 e4", out: b"\n",
             err: "refused D9 message=1 offset=1 template=0 instruction=0\n\
                 explain: message 1, offset 1: no template has the identifier 100; add the template, or see that the stream begins where a message does\n\
                 explain: if the stream is in blocks, each behind its size, give --blocks, or --packets where each begins with undefined entries; if other bytes stand before each message, take them out\n";
@@ -127,20 +102,19 @@ fn refused_streams(rt: HostRuntime) -> Tried {
                 explain: message 1, offset 2: no template has the identifier 100; add the template, or see that the stream begins where a message does\n\
                 explain: if the stream has no blocks, leave out --blocks; if other bytes stand before each block, take them out\n";
     };
-    rows_are_served(&rt, rt.alloc(), ROWS)
+    each_is_served(&rt, rt.alloc(), ROWS)
 }
 
 #[test]
 fn files_of_other_kinds(rt: HostRuntime) -> Tried {
-    const ROWS: &[Case] = rows! { Case { .. }:
-        EXPLAINED, input: b"\xd4\xc3\xb2\xa1\x02\x00\x04\x00",
-            err: "refused D9 message=1 offset=1 template=0 instruction=0\n\
+    const ROWS: &[Case] = rows! { Case { ..EXPLAINED }:
+        input: b"\xd4\xc3\xb2\xa1\x02\x00\x04\x00", err: "refused D9 message=1 offset=1 template=0 instruction=0\n\
                 explain: message 1, offset 1: no template has the identifier 67; add the template, or see that the stream begins where a message does\n\
                 explain: the standard input is a capture file (pcap); take its packets out by tools/pcap-packets, and read them with --packets\n";
-        EXPLAINED, input: b"\x0a\x0d\x0d\x0a", err: "refused Truncated message=1 offset=0 template=0 instruction=0\n\
+        input: b"\x0a\x0d\x0d\x0a", err: "refused Truncated message=1 offset=0 template=0 instruction=0\n\
                 explain: message 1, offset 0: the stream ends inside a message or a block; see that it was copied whole\n\
                 explain: the standard input is a capture file (pcapng); take its packets out by tools/pcap-packets, and read them with --packets\n";
-        EXPLAINED, input: b"\x1f\x8b\x08\x00", err: "refused D5 message=1 offset=2 template=0 instruction=0\n\
+        input: b"\x1f\x8b\x08\x00", err: "refused D5 message=1 offset=2 template=0 instruction=0\n\
                 explain: message 1, offset 2: the message has no template identifier, and none came before; read the stream from its start\n\
                 explain: the standard input is compressed (gzip); give what gzip -dc writes of it\n";
     };
@@ -155,118 +129,95 @@ fn refused_templates(rt: HostRuntime) -> Tried {
         status: 2,
         ..CASE
     };
-    const ROWS: &[Case] = rows! { Case { .. }:
-        REFUSED, templates: Templates::Text(""), err: "templates refused S1 template=0 instruction=0\n\
+    const ROWS: &[Case] = rows! { Case { ..REFUSED }:
+        templates: Templates::Text(""), err: "templates refused S1 template=0 instruction=0\n\
             explain: the templates' file \"templates.json\" is no JSON text from line 1 column 0 on\n\
             explain: it ends before its last bracket; see that it was copied whole\n";
-        REFUSED, templates: Templates::Text(r#"{"templates":["#), err: "templates refused S1 template=0 instruction=0\n\
+        templates: Templates::Text(r#"{"templates":["#), err: "templates refused S1 template=0 instruction=0\n\
             explain: the templates' file \"templates.json\" is no JSON text from line 1 column 14 on\n\
             explain: it ends before its last bracket; see that it was copied whole\n";
-        REFUSED, templates: Templates::Text("\n <templates/>"), err: "templates refused S1 template=0 instruction=0\n\
+        templates: Templates::Text("\n <templates/>"), err: "templates refused S1 template=0 instruction=0\n\
             explain: the templates' file \"templates.json\" is no JSON text from line 2 column 2 on\n\
             explain: it begins with <; if it is XML, convert it by tools/xml-templates FILE.xml\n";
-        REFUSED, templates: Templates::Text("\u{feff}{\"templates\":[]}"),
-            err: "templates refused S1 template=0 instruction=0\n\
+        templates: Templates::Text("\u{feff}{\"templates\":[]}"), err: "templates refused S1 template=0 instruction=0\n\
             explain: the templates' file \"templates.json\" is no JSON text from line 1 column 1 on\n\
             explain: it begins with a byte order mark; save it as UTF-8 without one\n";
-        REFUSED, templates: Templates::Text("{\"templates\":[{},\n ]}"),
-            err: "templates refused S1 template=0 instruction=0\n\
+        templates: Templates::Text("{\"templates\":[{},\n ]}"), err: "templates refused S1 template=0 instruction=0\n\
             explain: the templates' file \"templates.json\" is no JSON text from line 2 column 2 on\n\
             explain: a comma stands before the bracket there; take it out\n";
-        REFUSED, templates: Templates::Text(r#"{"templates":[],}"#),
-            err: "templates refused S1 template=0 instruction=0\n\
+        templates: Templates::Text(r#"{"templates":[],}"#), err: "templates refused S1 template=0 instruction=0\n\
             explain: the templates' file \"templates.json\" is no JSON text from line 1 column 17 on\n\
             explain: a comma stands before the bracket there; take it out\n";
-        REFUSED, templates: Templates::Text(r#"{"templates":x}"#),
-            err: "templates refused S1 template=0 instruction=0\n\
+        templates: Templates::Text(r#"{"templates":x}"#), err: "templates refused S1 template=0 instruction=0\n\
             explain: the templates' file \"templates.json\" is no JSON text from line 1 column 14 on\n";
-        REFUSED, templates: Templates::Text(r#"{"templates":{}}"#),
-            err: "templates refused S1 template=0 instruction=0\n\
+        templates: Templates::Text(r#"{"templates":{}}"#), err: "templates refused S1 template=0 instruction=0\n\
             explain: the templates' file \"templates.json\": \"templates\" is to be an array\n";
-        REFUSED, templates: Templates::Text(r#"{"templates":[{"name":"T"}]}"#),
+        templates: Templates::Text(r#"{"templates":[{"name":"T"}]}"#),
             err: "templates refused S1 template=1 instruction=0\n\
             explain: template 1 \"T\", line 1 column 15: the key \"instructions\" is missing\n";
-        REFUSED, templates: Templates::Text(r#"{"templates":[{"name":"T","instructions":[]},7]}"#),
+        templates: Templates::Text(r#"{"templates":[{"name":"T","instructions":[]},7]}"#),
             err: "templates refused S1 template=2 instruction=0\n\
             explain: template 2, line 1 column 46: it is no object\n";
-        REFUSED,
-            templates: Templates::Text(r#"{"templates":[{"name":"T","id":1,"instructions":[{"kind":"group","name":"G","instructions":[{"kind":"uInt32","name":"A"},{"kind":"uint32","name":"B"}]}]}]}"#),
+        templates: Templates::Text(r#"{"templates":[{"name":"T","id":1,"instructions":[{"kind":"group","name":"G","instructions":[{"kind":"uInt32","name":"A"},{"kind":"uint32","name":"B"}]}]}]}"#),
             err: "templates refused S1 template=1 instruction=3\n\
             explain: template 1 \"T\", instruction 3 \"B\", line 1 column 122: \"uint32\" is no kind; the nearest is \"uInt32\"\n";
-        REFUSED,
-            templates: Templates::Text(r#"{"templates":[{"name":"T","id":1,"instructions":[{"kind":"uInt32","name":"A"},{"kind":"uInt32"}]}]}"#),
+        templates: Templates::Text(r#"{"templates":[{"name":"T","id":1,"instructions":[{"kind":"uInt32","name":"A"},{"kind":"uInt32"}]}]}"#),
             err: "templates refused S1 template=1 instruction=2\n\
             explain: template 1 \"T\", instruction 2, line 1 column 79: the key \"name\" is missing\n";
-        REFUSED,
-            templates: Templates::Text(r#"{"templates":[{"name":"T","id":1,"instructions":[{"kind":"string","name":"A","operator":"increment"}]}]}"#),
+        templates: Templates::Text(r#"{"templates":[{"name":"T","id":1,"instructions":[{"kind":"string","name":"A","operator":"increment"}]}]}"#),
             err: "templates refused S2 template=1 instruction=1\n\
             explain: template 1 \"T\", instruction 1 \"A\", line 1 column 50: increment is for integers, tail for strings and byte vectors; take another operator or kind\n";
-        REFUSED,
-            templates: Templates::Text(r#"{"templates":[{"name":"T","id":1,"instructions":[{"kind":"int32","name":"A","operator":"copy","value":"x"}]}]}"#),
+        templates: Templates::Text(r#"{"templates":[{"name":"T","id":1,"instructions":[{"kind":"int32","name":"A","operator":"copy","value":"x"}]}]}"#),
             err: "templates refused S3 template=1 instruction=1\n\
             explain: template 1 \"T\", instruction 1 \"A\", line 1 column 50: \"value\" spells no value of the kind; an integer is as -5, a decimal as 100e-2, a byte vector as 0a0b\n";
-        REFUSED,
-            templates: Templates::Text(r#"{"templates":[{"name":"T","id":1,"instructions":[{"kind":"int32","name":"A","operator":"constant"}]}]}"#),
+        templates: Templates::Text(r#"{"templates":[{"name":"T","id":1,"instructions":[{"kind":"int32","name":"A","operator":"constant"}]}]}"#),
             err: "templates refused S4 template=1 instruction=1\n\
             explain: template 1 \"T\", instruction 1 \"A\", line 1 column 50: a constant needs a \"value\"\n";
-        REFUSED,
-            templates: Templates::Text(r#"{"templates":[{"name":"T","id":1,"instructions":[{"kind":"uInt32","name":"A"},{"kind":"int32","name":"B","operator":"default"}]}]}"#),
+        templates: Templates::Text(r#"{"templates":[{"name":"T","id":1,"instructions":[{"kind":"uInt32","name":"A"},{"kind":"int32","name":"B","operator":"default"}]}]}"#),
             err: "templates refused S5 template=1 instruction=2\n\
             explain: template 1 \"T\", instruction 2 \"B\", line 1 column 79: a mandatory default needs a \"value\"; give it one, or make the field optional\n";
-        REFUSED,
-            templates: Templates::Text(r#"{"templates":[{"name":"T","id":1,"instructions":[{"kind":"templateRef","name":"Other"}]}]}"#),
+        templates: Templates::Text(r#"{"templates":[{"name":"T","id":1,"instructions":[{"kind":"templateRef","name":"Other"}]}]}"#),
             err: "templates refused D8 template=1 instruction=1\n\
             explain: template 1 \"T\", instruction 1 \"Other\", line 1 column 50: no template has the name of the reference; add the template, or mend the name\n";
-        REFUSED,
-            templates: Templates::Text(r#"{"templates":[{"name":"T","instructions":[]},{"name":"T","instructions":[]}]}"#),
+        templates: Templates::Text(r#"{"templates":[{"name":"T","instructions":[]},{"name":"T","instructions":[]}]}"#),
             err: "templates refused DuplicateName template=2 instruction=0\n\
             explain: template 2 \"T\", line 1 column 46: an earlier template has the same name; give one of them another\n";
-        REFUSED,
-            templates: Templates::Text(r#"{"templates":[{"name":"T","id":1,"instructions":[]},{"name":"U","id":1,"instructions":[]}]}"#),
+        templates: Templates::Text(r#"{"templates":[{"name":"T","id":1,"instructions":[]},{"name":"U","id":1,"instructions":[]}]}"#),
             err: "templates refused DuplicateId template=2 instruction=0\n\
             explain: template 2 \"U\", line 1 column 53: an earlier template has the same \"id\"; give one of them another\n";
-        REFUSED,
-            templates: Templates::Text(r#"{"templates":[{"name":"T","id":1,"instructions":[{"kind":"templateRef","name":"T"}]}]}"#),
+        templates: Templates::Text(r#"{"templates":[{"name":"T","id":1,"instructions":[{"kind":"templateRef","name":"T"}]}]}"#),
             err: "templates refused Cycle template=1 instruction=0\n\
             explain: template 1 \"T\", line 1 column 15: its references lead back to itself; take one of them out\n";
-        REFUSED,
-            templates: Templates::Text(r#"{"templates":[{"name":"T","id":1,"instructions":[{"kind":"group","name":"G","instructions":[{"kind":"group","name":"G","instructions":[{"kind":"group","name":"G","instructions":[{"kind":"group","name":"G","instructions":[{"kind":"group","name":"G","instructions":[{"kind":"group","name":"G","instructions":[{"kind":"group","name":"G","instructions":[{"kind":"group","name":"G","instructions":[{"kind":"group","name":"G","instructions":[{"kind":"uInt32","name":"A"}]}]}]}]}]}]}]}]}]}]}]}"#),
+        templates: Templates::Text(r#"{"templates":[{"name":"T","id":1,"instructions":[{"kind":"group","name":"G","instructions":[{"kind":"group","name":"G","instructions":[{"kind":"group","name":"G","instructions":[{"kind":"group","name":"G","instructions":[{"kind":"group","name":"G","instructions":[{"kind":"group","name":"G","instructions":[{"kind":"group","name":"G","instructions":[{"kind":"group","name":"G","instructions":[{"kind":"group","name":"G","instructions":[{"kind":"uInt32","name":"A"}]}]}]}]}]}]}]}]}]}]}]}"#),
             err: "templates refused TooDeep template=1 instruction=0\n\
             explain: template 1 \"T\", line 1 column 15: groups and sequences nest in more than 8 levels; take some out\n";
-        REFUSED, templates: Templates::Text(DOUBLED), err: "templates refused TooMany template=1 instruction=0\n\
+        templates: Templates::Text(DOUBLED), err: "templates refused TooMany template=1 instruction=0\n\
             explain: template 1 \"N1\", line 1 column 15: up to here there are more than 65535 instructions, those behind references included; leave out templates that the stream does not need\n";
-        REFUSED, templates: Templates::Text("{\"templates\":[\n {\"name\":\"T\",\"id\":\"1\",\"instructions\":[]}]}"),
+        templates: Templates::Text("{\"templates\":[\n {\"name\":\"T\",\"id\":\"1\",\"instructions\":[]}]}"),
             err: "templates refused S1 template=1 instruction=0\n\
             explain: template 1 \"T\", line 2 column 2: \"id\" is to be a whole number from 0 to 4294967295, in digits alone\n";
-        REFUSED,
-            templates: Templates::Text(r#"{"templates":[{"name":"T","instructions":[{"kind":"uInt32","nmae":"A"}]}]}"#),
+        templates: Templates::Text(r#"{"templates":[{"name":"T","instructions":[{"kind":"uInt32","nmae":"A"}]}]}"#),
             err: "templates refused S1 template=1 instruction=1\n\
             explain: template 1 \"T\", instruction 1, line 1 column 43: the key \"nmae\" is unknown there; the nearest is \"name\"\n";
-        REFUSED,
-            templates: Templates::Text(r#"{"templates":[{"name":"T","instructions":[{"kind":"string","name":"A","operator":"Copy"}]}]}"#),
+        templates: Templates::Text(r#"{"templates":[{"name":"T","instructions":[{"kind":"string","name":"A","operator":"Copy"}]}]}"#),
             err: "templates refused S1 template=1 instruction=1\n\
             explain: template 1 \"T\", instruction 1 \"A\", line 1 column 43: \"Copy\" is no operator; the nearest is \"copy\"\n";
-        REFUSED,
-            templates: Templates::Text(r#"{"templates":[{"name":"T","instructions":[{"kind":"string","name":"A","value":"x"}]}]}"#),
+        templates: Templates::Text(r#"{"templates":[{"name":"T","instructions":[{"kind":"string","name":"A","value":"x"}]}]}"#),
             err: "templates refused S1 template=1 instruction=1\n\
             explain: template 1 \"T\", instruction 1 \"A\", line 1 column 43: \"value\" stands without \"operator\"\n";
-        REFUSED,
-            templates: Templates::Text(r#"{"templates":[{"name":"T","instructions":[{"kind":"string","name":"A B","presence":"must"}]}]}"#),
+        templates: Templates::Text(r#"{"templates":[{"name":"T","instructions":[{"kind":"string","name":"A B","presence":"must"}]}]}"#),
             err: "templates refused S1 template=1 instruction=1\n\
             explain: template 1 \"T\", instruction 1 \"A B\", line 1 column 43: \"must\" is no presence\n";
-        REFUSED,
-            templates: Templates::Text(r#"{"templates":[{"name":"T","instructions":[{"kind":"string","name":"A B"}]}]}"#),
+        templates: Templates::Text(r#"{"templates":[{"name":"T","instructions":[{"kind":"string","name":"A B"}]}]}"#),
             err: "templates refused S1 template=1 instruction=1\n\
             explain: template 1 \"T\", instruction 1 \"A B\", line 1 column 43: \"name\" is no name, which is 1 to 255 characters from ! to ~\n";
-        REFUSED,
-            templates: Templates::Text(r#"{"templates":[{"name":"T","instructions":[{"kind":"decimal","name":"A","operator":"copy","exponent":{}}]}]}"#),
+        templates: Templates::Text(r#"{"templates":[{"name":"T","instructions":[{"kind":"decimal","name":"A","operator":"copy","exponent":{}}]}]}"#),
             err: "templates refused S1 template=1 instruction=1\n\
             explain: template 1 \"T\", instruction 1 \"A\", line 1 column 43: \"operator\" stands beside \"exponent\" or \"mantissa\", which have their own\n";
-        REFUSED,
-            templates: Templates::Text(r#"{"templates":[{"name":"T","instructions":[{"kind":"sequence","name":"A","instructions":[],"length":{"operator":"cpoy"}}]}]}"#),
+        templates: Templates::Text(r#"{"templates":[{"name":"T","instructions":[{"kind":"sequence","name":"A","instructions":[],"length":{"operator":"cpoy"}}]}]}"#),
             err: "templates refused S1 template=1 instruction=1\n\
             explain: template 1 \"T\", instruction 1 \"A\", line 1 column 43: in \"length\", \"cpoy\" is no operator; the nearest is \"copy\"\n";
-        REFUSED, templates: Templates::Text(r#"{"templates":[],"dictionary":" "}"#),
+        templates: Templates::Text(r#"{"templates":[],"dictionary":" "}"#),
             err: "templates refused S1 template=0 instruction=0\n\
             explain: the templates' file \"templates.json\": \"dictionary\" is no name, which is 1 to 255 characters from ! to ~\n";
     };
@@ -277,9 +228,9 @@ fn refused_templates(rt: HostRuntime) -> Tried {
 fn refused_machines(rt: HostRuntime) -> Tried {
     const NO_TEMPLATES: &[&str] = &["fastcat", "show", "--templates", "none", "--explain"];
     const NO_STREAM: &[&str] =
-        words! { "fastcat", "show", "none", "--templates", TEMPLATES, "--explain" };
+        list! { "fastcat", "show", "none", "--templates", TEMPLATES, "--explain" };
     const FILE: &[&str] =
-        words! { "fastcat", "check", STREAM, "--templates", TEMPLATES, "--explain", "--hex" };
+        list! { "fastcat", "check", STREAM, "--templates", TEMPLATES, "--explain", "--hex" };
     const FAILED: Case = Case {
         words: SHOW,
         stream: b"\x80",
@@ -288,36 +239,36 @@ fn refused_machines(rt: HostRuntime) -> Tried {
         status: 3,
         ..CASE
     };
-    const ROWS: &[Case] = rows! { Case { .. }:
-        FAILED, words: NO_TEMPLATES, err: "fault open\n\
+    const ROWS: &[Case] = rows! { Case { ..FAILED }:
+        words: NO_TEMPLATES, err: "fault open\n\
                 explain: the templates' file \"none\" cannot be opened; no file has this name\n";
-        FAILED, words: NO_STREAM, err: "fault open\n\
+        words: NO_STREAM, err: "fault open\n\
                 explain: the stream's file \"none\" cannot be opened; no file has this name\n";
-        FAILED, words: words! { "fastcat", "show", FOLDER, "--templates", TEMPLATES, "--explain" }, err: "fault open\n\
+        words: list! { "fastcat", "show", FOLDER, "--templates", TEMPLATES, "--explain" }, err: "fault open\n\
                 explain: the stream's file \"folder\" cannot be opened; it is a folder\n";
-        FAILED, words: &["fastcat", "show", "--templates", FORBIDDEN, "--explain"], err: "fault open\n\
+        words: &["fastcat", "show", "--templates", FORBIDDEN, "--explain"], err: "fault open\n\
                 explain: the templates' file \"forbidden\" cannot be opened; it may not be read by this user\n";
-        FAILED, templates_end: After::Error, err: "fault read\n\
+        templates_end: After::Error, err: "fault read\n\
                 explain: the templates' file \"templates.json\" cannot be read to its end: a read failed; see that its disk or device is well\n";
-        FAILED, input: b"\xe0", input_end: After::Error, err: "fault read\n\
+        input: b"\xe0", input_end: After::Error, err: "fault read\n\
                 explain: the standard input cannot be read to its end: a read failed in message 1; see that its disk or device is well\n";
-        FAILED, words: CANON_HEX, input: b"e0", input_end: After::Error, err: "fault read\n\
+        words: EXPLAINED_HEX, input: b"e0", input_end: After::Error, err: "fault read\n\
                 explain: the standard input cannot be read to its end: a read failed; see that its disk or device is well\n";
-        FAILED, turns: 1, err: "fault turns\n\
+        turns: 1, err: "fault turns\n\
                 explain: the templates' file \"templates.json\" has no end within the reads that are made; cut it into shorter ones\n";
-        FAILED, input: b"\xe0\x90\x85", turns: 2, err: "fault turns\n\
+        input: b"\xe0\x90\x85", turns: 2, err: "fault turns\n\
                 explain: the standard input has no end within the reads that are made in message 1; cut it into shorter ones\n";
-        FAILED, words: CANON_HEX, input: b"e0", turns: 2, err: "fault turns\n\
+        words: EXPLAINED_HEX, input: b"e0", turns: 2, err: "fault turns\n\
                 explain: the standard input has no end within the reads that are made; cut it into shorter ones\n";
-        FAILED, words: CANON_HEX, input: b"\xe0\x90", status: 2, err: "input is not hex\n\
+        words: EXPLAINED_HEX, input: b"\xe0\x90", status: 2, err: "input is not hex\n\
                 explain: the standard input has bytes that are not ASCII; if they are the stream's own, leave out --hex\n";
-        FAILED, words: FILE, status: 2, err: "input is not hex\n\
+        words: FILE, status: 2, err: "input is not hex\n\
                 explain: the stream's file \"stream.fast\" has bytes that are not ASCII; if they are the stream's own, leave out --hex\n";
-        FAILED, words: CANON_HEX, input: b"e0\n9z", status: 2, err: "input is not hex\n\
+        words: EXPLAINED_HEX, input: b"e0\n9z", status: 2, err: "input is not hex\n\
                 explain: the standard input has a character that is no hex digit and no blank, at line 2 column 2; take it out\n";
-        FAILED, words: CANON_HEX, input: b"e0 9", status: 2, err: "input is not hex\n\
+        words: EXPLAINED_HEX, input: b"e0 9", status: 2, err: "input is not hex\n\
                 explain: the standard input has an odd number of hex digits; see that it was copied whole\n";
-        FAILED, input: b"\xe0\x90\x85\x86", room: (0, Full::Error), err: "fault write\n\
+        input: b"\xe0\x90\x85\x86", room: (0, Full::Error), err: "fault write\n\
                 explain: the standard output took no more bytes; see that its disk has room, and its reader goes on\n";
     };
     cases_are_served(&rt, rt.alloc(), ROWS)

@@ -1,11 +1,9 @@
 //! Answers where memory is refused: such an answer ends a test, so that one whose allocations fail in turn ends with want
 //! of memory or with its rows.
 
-use crate::same::same_of;
-use crate::serving::programs::{Case, Ended};
+use crate::base::*;
+use crate::serving::programs::Ended;
 use std::alloc::AllocError;
-use std::process::Abort;
-use test_rows::Tried;
 
 /// What is said where memory is refused.
 const MEMORY: &[u8] = b"fault memory\n";

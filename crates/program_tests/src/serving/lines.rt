@@ -1,15 +1,11 @@
 //! The program over lines that are written: what is written and said of each row, of cuts, and of what is large.
 
-use crate::serving::devices::TEMPLATES;
-use crate::serving::programs::{CASE, Case, Templates, rows_are_served, served};
+use crate::base::*;
+use crate::serving::programs::served;
+use crate::serving::writing::WRITE_PACKETS;
 use line_rows::{LineRow, ROWS, row_of};
-use std::alloc::Global;
-use std::process::Abort;
-use test_rows::{Tried, rows};
 
 const WRITE_HEX: &[&str] = &["fastcat", "write", "--templates", TEMPLATES, "--hex"];
-
-const WRITE_PACKETS: &[&str] = &["fastcat", "write", "--packets", "--templates", TEMPLATES];
 
 const OVER_LINES: Case = Case {
     words: WRITE_HEX,
@@ -18,14 +14,10 @@ const OVER_LINES: Case = Case {
 };
 
 /// A row's line is answered as it says, in one read and in reads of one byte.
-fn is_answered(rt: &impl Abort, alloc: Global, row: &LineRow<'_>) -> Tried {
-    let case = Case {
-        input: row.line.as_bytes(),
-        status: if row.said.is_empty() { 0 } else { 1 },
-        out: row.out.as_bytes(),
-        err: row.said,
-        ..OVER_LINES
-    };
+fn is_answered(rt: &impl Abort, alloc: Global, row: &LineRow) -> Tried {
+    let status = if row.said.is_empty() { 0 } else { 1 };
+    let case = OVER_LINES.of(WRITE_HEX, row.line.as_bytes());
+    let case = case.answered(status, row.out.as_bytes(), row.said);
     served(rt, alloc, &case)?;
     served(rt, alloc, &Case { width: 1, ..case })
 }
@@ -40,25 +32,23 @@ fn each_line_is_answered(rt: HostRuntime) -> Tried {
 
 #[test]
 fn lines_in_a_text(rt: HostRuntime) -> Tried {
-    const ROWS: &[Case] = rows! { Case { .. }:
-        OVER_LINES, out: b"\n";
-        OVER_LINES, input: b"\n \t\r\n", out: b"\n";
-        OVER_LINES, input: b"{\"id\":9,\"fields\":{}}\r", out: b"c089\n";
-        OVER_LINES,
-            input: b"{\"id\":9,\"fields\":{}}\n{\"id\":9,\"fields\":{}}\n{\"id\":9,\"fields\":{\"a\":1}}\n{\"id\":9,\"fields\":{}}",
-            status: 1, out: b"c08980\n", err: "refused Member line=3 template=9 instruction=0\n";
-        OVER_LINES,
-            input: b"\n{\"id\":4,\"fields\":{\"L\":[],\"K\":\"x\"}}\n{\"id\":4,\"fields\":{\"L\":[],\"K\":\"\"}}",
-            status: 1, out: b"c08480\n", err: "refused NotConstant line=3 template=4 instruction=4\n";
-        OVER_LINES, input: b"\xef\xbb\xbf{\"id\":9,\"fields\":{}}", status: 1, out: b"\n",
-            err: "refused Json line=1 template=0 instruction=0\n";
+    const ROWS: &[Row] = rows! {
+        WRITE_HEX, b"", 0, b"\n", "";
+        WRITE_HEX, b"\n \t\r\n", 0, b"\n", "";
+        WRITE_HEX, b"{\"id\":9,\"fields\":{}}\r", 0, b"c089\n", "";
+        WRITE_HEX,
+            b"{\"id\":9,\"fields\":{}}\n{\"id\":9,\"fields\":{}}\n{\"id\":9,\"fields\":{\"a\":1}}\n{\"id\":9,\"fields\":{}}",
+            1, b"c08980\n", "refused Member line=3 template=9 instruction=0\n";
+        WRITE_HEX, b"\n{\"id\":4,\"fields\":{\"L\":[],\"K\":\"x\"}}\n{\"id\":4,\"fields\":{\"L\":[],\"K\":\"\"}}", 1,
+            b"c08480\n", "refused NotConstant line=3 template=4 instruction=4\n";
+        WRITE_HEX, b"\xef\xbb\xbf{\"id\":9,\"fields\":{}}", 1, b"\n", "refused Json line=1 template=0 instruction=0\n";
         // no UTF-8, and a sign that is to be escaped
-        OVER_LINES, input: b"{\"id\":1,\"fields\":{\"Seq\":1,\"Sym\":\"AB\",\"Px\":1,\"U\":\"\xff\"}}", status: 1,
-            out: b"\n", err: "refused Json line=1 template=0 instruction=0\n";
-        OVER_LINES, input: b"{\"id\":1,\"fields\":{\"Seq\":1,\"Sym\":\"AB\",\"Px\":1,\"U\":\"a\x01\"}}", status: 1,
-            out: b"\n", err: "refused Json line=1 template=0 instruction=0\n";
+        WRITE_HEX, b"{\"id\":1,\"fields\":{\"Seq\":1,\"Sym\":\"AB\",\"Px\":1,\"U\":\"\xff\"}}", 1, b"\n",
+            "refused Json line=1 template=0 instruction=0\n";
+        WRITE_HEX, b"{\"id\":1,\"fields\":{\"Seq\":1,\"Sym\":\"AB\",\"Px\":1,\"U\":\"a\x01\"}}", 1, b"\n",
+            "refused Json line=1 template=0 instruction=0\n";
     };
-    rows_are_served(&rt, rt.alloc(), ROWS)
+    rows_are_served(&rt, rt.alloc(), &OVER_LINES, ROWS)
 }
 
 /// Texts, each so many times one behind the other.
@@ -83,30 +73,13 @@ struct Large {
     said: &'static str,
 }
 
-fn is_served<'a>(
-    rt: &impl Abort,
-    alloc: Global,
-    words: &'a [&'a str],
-    input: &'a [u8],
-    out: &'a [u8],
-    said: &'a str,
-) -> Tried {
-    let case = Case {
-        words,
-        input,
-        turns: 1 << 20,
-        status: if said.is_empty() { 0 } else { 1 },
-        out,
-        err: said,
-        ..OVER_LINES
-    };
-    served(rt, alloc, &case)
-}
-
 fn large_is_served(rt: &impl Abort, alloc: Global, row: &Large) -> Tried {
-    let input = joined(alloc, row.input)?;
-    let out = joined(alloc, row.out)?;
-    is_served(rt, alloc, row.words, &input, &out, row.said)
+    let (input, out) = (joined(alloc, row.input)?, joined(alloc, row.out)?);
+    let status = if row.said.is_empty() { 0 } else { 1 };
+    let case = OVER_LINES.of(row.words, &input);
+    let mut case = case.answered(status, &out, row.said);
+    case.turns = 1 << 20;
+    served(rt, alloc, &case)
 }
 
 /// Lines of 16,777,216 bytes, and of one more; and one of blanks.

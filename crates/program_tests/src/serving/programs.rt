@@ -1,46 +1,43 @@
 //! The program: its exit status, what it writes, and what it says.
 
-use crate::same::same_of;
+use crate::base::*;
 use crate::serving::back::is_written_back;
-use crate::serving::devices::{After, Feed, Full, STREAM, Shelf, TEMPLATES, whole, with_room};
+use crate::serving::devices::{Feed, Full, Shelf, whole, with_room};
 use crate::serving::examples::{BOOK, TRADE};
 use crate::serving::explaining::MANY;
 use crate::serving::granted::granted;
 use crate::serving::strict::QUOTES;
 use fast_io::Counted;
 use fast_serve::serve::{TURNS, serve, serve_words};
-use std::alloc::Global;
 use std::io;
-use std::process::Abort;
 use std::str::from_utf8;
 use template_tests::texts::{BARE, WORKED};
-use test_rows::{Tried, rows, words};
 
 // The template of the streams, as examples/worked.json has it.
-const FIRST: &str = r#"{"templates":[{"name":"First","id":16,"instructions":[
- {"kind":"uInt32","name":"A"},
+const FIRST: &str =
+    r#"{"templates":[{"name":"First","id":16,"instructions":[{"kind":"uInt32","name":"A"},
  {"kind":"uInt32","name":"B","operator":"copy"}]}]}"#;
 
 // The same as an input.
 const FIRST_BYTES: &[u8] = b"{\"templates\":[{\"name\":\"First\",\"id\":16,\"instructions\":[\
     {\"kind\":\"uInt32\",\"name\":\"A\"},{\"kind\":\"uInt32\",\"name\":\"B\",\"operator\":\"copy\"}]}]}";
 
-const SHOW: &[&str] = &["fastcat", "show", "--templates", TEMPLATES];
+pub const SHOW: &[&str] = &["fastcat", "show", "--templates", TEMPLATES];
 
-const CHECK: &[&str] = &["fastcat", "check", "--templates", TEMPLATES];
+pub const CHECK: &[&str] = &["fastcat", "check", "--templates", TEMPLATES];
 
-const CANON: &[&str] = &["fastcat", "canon", "--templates", TEMPLATES];
+pub const CANON: &[&str] = &["fastcat", "canon", "--templates", TEMPLATES];
 
 const SHOW_HEX: &[&str] = &["fastcat", "show", "--templates", TEMPLATES, "--hex"];
 
 const CHECK_HEX: &[&str] = &["fastcat", "check", "--hex", "--templates", TEMPLATES];
 
-const CANON_HEX: &[&str] = &["fastcat", "canon", "--hex", "--templates", TEMPLATES];
+pub const CANON_HEX: &[&str] = &["fastcat", "canon", "--hex", "--templates", TEMPLATES];
 
 const EXPLAINED: &[&str] = &["fastcat", "canon", "--explain", "--templates", TEMPLATES];
 
-const EXPLAINED_HEX: &[&str] =
-    words! { "fastcat", "canon", "--hex", "--explain", "--templates", TEMPLATES };
+pub const EXPLAINED_HEX: &[&str] =
+    list! { "fastcat", "canon", "--hex", "--explain", "--templates", TEMPLATES };
 
 const TWO: &[u8] = b"\xe0\x90\x85\x86\xe0\x90\x87\x86";
 
@@ -118,7 +115,31 @@ pub const CASE: Case = Case {
     err: "",
 };
 
+/// The same over other templates.
+pub fn over(templates: Templates) -> Case<'_> {
+    Case { templates, ..CASE }
+}
+
 impl<'a> Case<'a> {
+    /// The same of another line and another input.
+    pub fn of(self, words: &'a [&'a str], input: &'a [u8]) -> Case<'a> {
+        Case {
+            words,
+            input,
+            ..self
+        }
+    }
+
+    /// The same with other answers.
+    pub fn answered(self, status: u8, out: &'a [u8], err: &'a str) -> Case<'a> {
+        Case {
+            status,
+            out,
+            err,
+            ..self
+        }
+    }
+
     // What its files and its input give.
     fn shelf(&self) -> Shelf<'a> {
         Shelf {
@@ -161,16 +182,11 @@ pub fn nothing(alloc: Global) -> Tried<Ended> {
 /// Serves a case. (Its callers are proved in less time than with the clauses of `serve`.)
 pub fn serve_case(alloc: Global, case: &Case, ended: &mut Ended) {
     let mut said = 0;
-    let out = with_room(&mut ended.out, &mut ended.flushes, case.room);
-    let err = with_room(&mut ended.err, &mut said, case.err_room);
-    ended.status = serve(
-        alloc,
-        case.words,
-        &mut case.shelf(),
-        &mut Counted::new(out),
-        &mut Counted::new(err),
-        case.turns.min(TURNS),
-    );
+    let out = &mut Counted::new(with_room(&mut ended.out, &mut ended.flushes, case.room));
+    let err = &mut Counted::new(with_room(&mut ended.err, &mut said, case.err_room));
+    let shelf = &mut case.shelf();
+    let turns = case.turns.min(TURNS);
+    ended.status = serve(alloc, case.words, shelf, out, err, turns);
 }
 
 /// A case is answered as it is to be, and its output is flushed once where it is read to its end.
@@ -201,15 +217,39 @@ pub fn cases_are_served(rt: &impl Abort, alloc: Global, cases: &[Case]) -> Tried
     Ok(())
 }
 
-/// Serves cases, whole and from reads of each size up to their input's.
-pub fn rows_are_served(rt: &impl Abort, alloc: Global, rows: &[Case]) -> Tried {
+/// Serves a case, whole and from reads of each size up to its input's.
+pub fn row_is_served(rt: &impl Abort, alloc: Global, row: &Case) -> Tried {
+    served(rt, alloc, row)?;
+    let mut narrow = *row;
+    for width in 1..=row.input.len() {
+        narrow.width = width;
+        served(rt, alloc, &narrow)?;
+    }
+    Ok(())
+}
+
+/// The same of several.
+pub fn each_is_served(rt: &impl Abort, alloc: Global, rows: &[Case]) -> Tried {
     for row in rows {
-        served(rt, alloc, row)?;
-        let mut narrow = *row;
-        for width in 1..=row.input.len() {
-            narrow.width = width;
-            served(rt, alloc, &narrow)?;
-        }
+        row_is_served(rt, alloc, row)?;
+    }
+    Ok(())
+}
+
+/// A command line and its input, and what is answered, written and said.
+pub type Row = (
+    &'static [&'static str],
+    &'static [u8],
+    u8,
+    &'static [u8],
+    &'static str,
+);
+
+/// Serves the rows of a table, which have all else from one case.
+pub fn rows_are_served(rt: &impl Abort, alloc: Global, base: &Case, rows: &[Row]) -> Tried {
+    for (words, input, status, out, err) in rows {
+        let case = base.of(words, input).answered(*status, out, err);
+        row_is_served(rt, alloc, &case)?;
     }
     Ok(())
 }
@@ -234,34 +274,32 @@ fn streams_are_served(rt: HostRuntime) -> Tried {
         CASE, words: SHOW, input: b"\xe0\x90\x85\x86\xc0\xe4", status: 1, out: b"16 First A=5 B=6\n",
             err: "refused D9 message=2 offset=5 template=0 instruction=0\n";
     };
-    rows_are_served(&rt, rt.alloc(), ROWS)
+    each_is_served(&rt, rt.alloc(), ROWS)
 }
 
 #[test]
 fn hex_texts_are_served(rt: HostRuntime) -> Tried {
-    const ROWS: &[Case] = rows! { Case { .. }:
-        CASE, words: CANON_HEX, input: b"e0908586e0908786\n", out: b"e09085868087\n";
-        CASE, words: CANON_HEX, input: b"E0 90\t85 86\r\ne0 9\n0 87 8 6 ", out: b"e09085868087\n";
-        CASE, words: CANON_HEX, out: b"\n";
-        CASE, words: SHOW_HEX, input: b"e0908586e0908786", out: TWO_LINES;
-        CASE, words: SHOW_HEX, input: b"\n";
-        CASE, words: CHECK_HEX, input: b"e0908586e0908786", out: TWO_COUNTED;
-        CASE, words: CANON_HEX, input: b"e0908586 e0901000000080", status: 1, out: b"e0908586\n",
-            err: "refused D2 message=2 offset=6 template=16 instruction=1\n";
-        CASE, words: CANON_HEX, input: b"e09000000000000000000000", status: 1, out: b"\n",
-            err: "refused Limit message=1 offset=2 template=16 instruction=1\n";
-        CASE, words: SHOW_HEX, input: b"e090", status: 1,
-            err: "refused Truncated message=1 offset=2 template=16 instruction=1\n";
-        CASE, words: CANON_HEX, input: b"e0908586", out: b"e0908586\n";
-        CASE, words: CANON_HEX, input: b"80", status: 1, out: b"\n",
-            err: "refused D5 message=1 offset=1 template=0 instruction=0\n";
-        CASE, words: CANON_HEX, input: b"zz", status: 2, err: "input is not hex\n";
-        CASE, words: CANON_HEX, input: b"e09", status: 2, err: "input is not hex\n";
-        CASE, words: CANON_HEX, input: b"0xe0", status: 2, err: "input is not hex\n";
-        CASE, words: CANON_HEX, input: b"e0\x0b", status: 2, err: "input is not hex\n";
-        CASE, words: CANON_HEX, input: b"e0\x0c90", status: 2, err: "input is not hex\n";
+    const ROWS: &[Row] = rows! {
+        CANON_HEX, b"e0908586e0908786\n", 0, b"e09085868087\n", "";
+        CANON_HEX, b"E0 90\t85 86\r\ne0 9\n0 87 8 6 ", 0, b"e09085868087\n", "";
+        CANON_HEX, b"", 0, b"\n", "";
+        SHOW_HEX, b"e0908586e0908786", 0, TWO_LINES, "";
+        SHOW_HEX, b"\n", 0, b"", "";
+        CHECK_HEX, b"e0908586e0908786", 0, TWO_COUNTED, "";
+        CANON_HEX, b"e0908586 e0901000000080", 1, b"e0908586\n",
+            "refused D2 message=2 offset=6 template=16 instruction=1\n";
+        CANON_HEX, b"e09000000000000000000000", 1, b"\n",
+            "refused Limit message=1 offset=2 template=16 instruction=1\n";
+        SHOW_HEX, b"e090", 1, b"", "refused Truncated message=1 offset=2 template=16 instruction=1\n";
+        CANON_HEX, b"e0908586", 0, b"e0908586\n", "";
+        CANON_HEX, b"80", 1, b"\n", "refused D5 message=1 offset=1 template=0 instruction=0\n";
+        CANON_HEX, b"zz", 2, b"", "input is not hex\n";
+        CANON_HEX, b"e09", 2, b"", "input is not hex\n";
+        CANON_HEX, b"0xe0", 2, b"", "input is not hex\n";
+        CANON_HEX, b"e0\x0b", 2, b"", "input is not hex\n";
+        CANON_HEX, b"e0\x0c90", 2, b"", "input is not hex\n";
     };
-    rows_are_served(&rt, rt.alloc(), ROWS)
+    rows_are_served(&rt, rt.alloc(), &CASE, ROWS)
 }
 
 // A line is not taken: the help is said, or what is wrong with the line.
@@ -288,10 +326,10 @@ fn command_lines(rt: HostRuntime) -> Tried {
         &["fastcat", "show"],
         &["fastcat", "list", "--templates", TEMPLATES],
         &["fastcat", "canon", "--templates"],
-        words! { "fastcat", "show", "--packets", "--blocks", "--templates", TEMPLATES },
+        list! { "fastcat", "show", "--packets", "--blocks", "--templates", TEMPLATES },
         &["fastcat", "show", "--keep-going", "--templates", TEMPLATES],
-        words! { "fastcat", "write", "--packets", "--keep-going", "--templates", TEMPLATES },
-        words! { "fastcat", "canon", "--packets", "--keep-going", "--templates", TEMPLATES },
+        list! { "fastcat", "write", "--packets", "--keep-going", "--templates", TEMPLATES },
+        list! { "fastcat", "canon", "--packets", "--keep-going", "--templates", TEMPLATES },
         &["fastcat", "canon", STREAM, STREAM, "--templates", TEMPLATES],
         &["fastcat", "canon", "--Hex", "--templates", TEMPLATES],
         &["fastcat", "canon", "--templates", "-"],
@@ -317,29 +355,28 @@ fn templates_and_inputs_that_fail(rt: HostRuntime) -> Tried {
         status: 3,
         ..CASE
     };
-    const ROWS: &[Case] = rows! { Case { .. }:
+    const ROWS: &[Case] = rows! { Case { ..FAILED }:
         // templates come first
-        FAILED, words: CANON_HEX, templates: Templates::Text(TEXT), input: b"zz", status: 2,
+        words: CANON_HEX, templates: Templates::Text(TEXT), input: b"zz", status: 2,
             err: "templates refused S2 template=1 instruction=1\n";
-        FAILED, words: MISSING, templates: Templates::Text(TEXT), input: b"zz", status: 2,
+        words: MISSING, templates: Templates::Text(TEXT), input: b"zz", status: 2,
             err: "templates refused S2 template=1 instruction=1\n";
-        FAILED, templates: Templates::Text("{\"templates\":["), input: b"zz", status: 2,
+        templates: Templates::Text("{\"templates\":["), input: b"zz", status: 2,
             err: "templates refused S1 template=0 instruction=0\n";
-        FAILED, templates: Templates::Text("{"), templates_end: After::Error, input: b"zz", err: "fault read\n";
-        FAILED, templates: Templates::Text("{"), templates_end: After::Error, input: b"zz", turns: 1,
-            err: "fault turns\n";
+        templates: Templates::Text("{"), templates_end: After::Error, input: b"zz", err: "fault read\n";
+        templates: Templates::Text("{"), templates_end: After::Error, input: b"zz", turns: 1, err: "fault turns\n";
         // files that are not there
-        FAILED, words: &["fastcat", "canon", "--templates", "none", "--hex"], input: TWO, err: "fault open\n";
-        FAILED, words: &["fastcat", "show", "none", "--templates", TEMPLATES], input: TWO, err: "fault open\n";
+        words: &["fastcat", "canon", "--templates", "none", "--hex"], input: TWO, err: "fault open\n";
+        words: &["fastcat", "show", "none", "--templates", TEMPLATES], input: TWO, err: "fault open\n";
         // a reader that fails, or has no end within the reads
-        FAILED, input: ONE, width: 1, input_end: After::Error, out: ONE, err: "fault read\n";
-        FAILED, words: SHOW, input: ONE, width: 1, input_end: After::Error, out: LINE, err: "fault read\n";
-        FAILED, words: CHECK, input: ONE, width: 1, input_end: After::Error, err: "fault read\n";
-        FAILED, input: ONE, width: 1, turns: 4, out: ONE, err: "fault turns\n";
-        FAILED, words: CHECK, input: ONE, width: 1, turns: 4, err: "fault turns\n";
-        FAILED, words: CANON_HEX, input: b"e0908586", width: 1, input_end: After::Error, err: "fault read\n";
-        FAILED, words: CANON_HEX, input: b"e0908586", width: 1, turns: 8, err: "fault turns\n";
-        FAILED, words: SHOW_HEX, input: b"zz", width: 1, turns: 2, err: "fault turns\n";
+        input: ONE, width: 1, input_end: After::Error, out: ONE, err: "fault read\n";
+        words: SHOW, input: ONE, width: 1, input_end: After::Error, out: LINE, err: "fault read\n";
+        words: CHECK, input: ONE, width: 1, input_end: After::Error, err: "fault read\n";
+        input: ONE, width: 1, turns: 4, out: ONE, err: "fault turns\n";
+        words: CHECK, input: ONE, width: 1, turns: 4, err: "fault turns\n";
+        words: CANON_HEX, input: b"e0908586", width: 1, input_end: After::Error, err: "fault read\n";
+        words: CANON_HEX, input: b"e0908586", width: 1, turns: 8, err: "fault turns\n";
+        words: SHOW_HEX, input: b"zz", width: 1, turns: 2, err: "fault turns\n";
     };
     cases_are_served(&rt, rt.alloc(), ROWS)
 }
@@ -385,27 +422,9 @@ fn failing_outputs(rt: HostRuntime) -> Tried {
 // Serves the words of a process.
 fn serve_process(alloc: Global, words: io::Result<Vec<String>>, case: &Case, ended: &mut Ended) {
     let mut said = 0;
-    let out = with_room(&mut ended.out, &mut ended.flushes, case.room);
-    let err = with_room(&mut ended.err, &mut said, case.err_room);
-    ended.status = serve_words(
-        alloc,
-        words,
-        &mut case.shelf(),
-        &mut Counted::new(out),
-        &mut Counted::new(err),
-        TURNS,
-    );
-}
-
-fn words_are_served(
-    rt: &impl Abort,
-    alloc: Global,
-    words: io::Result<Vec<String>>,
-    case: &Case,
-) -> Tried {
-    let mut ended = nothing(alloc)?;
-    serve_process(alloc, words, case, &mut ended);
-    is_answered(rt, case, &ended)
+    let out = &mut Counted::new(with_room(&mut ended.out, &mut ended.flushes, case.room));
+    let err = &mut Counted::new(with_room(&mut ended.err, &mut said, case.err_room));
+    ended.status = serve_words(alloc, words, &mut case.shelf(), out, err, TURNS);
 }
 
 // The words of a process.
@@ -417,16 +436,15 @@ fn owned(alloc: Global, words: &[&str]) -> Tried<Vec<String>> {
     Ok(list)
 }
 
-// The words of a case, or an error in their place.
-fn words_of(
-    alloc: Global,
-    words: &[&str],
-    error: Option<io::ErrorKind>,
-) -> Tried<io::Result<Vec<String>>> {
-    match error {
-        Some(kind) => Ok(Err(io::Error::from(kind))),
-        None => Ok(Ok(owned(alloc, words)?)),
-    }
+// The words of a case, or an error in their place, are served.
+fn is_process(rt: &impl Abort, alloc: Global, error: Option<io::ErrorKind>, case: &Case) -> Tried {
+    let words = match error {
+        Some(kind) => Err(io::Error::from(kind)),
+        None => Ok(owned(alloc, case.words)?),
+    };
+    let mut ended = nothing(alloc)?;
+    serve_process(alloc, words, case, &mut ended);
+    is_answered(rt, case, &ended)
 }
 
 #[test]
@@ -438,38 +456,24 @@ fn process_words(rt: HostRuntime) -> Tried {
     };
     same_of(&rt, &[], TURNS, 1_099_511_627_776);
     for (error, case) in ROWS {
-        let words = words_of(rt.alloc(), case.words, *error)?;
-        words_are_served(&rt, rt.alloc(), words, case)?;
+        is_process(&rt, rt.alloc(), *error, case)?;
     }
     Ok(())
-}
-
-// So many blanks.
-fn blanks(alloc: Global, count: usize) -> Tried<Vec<u8>> {
-    let mut text = Vec::new(alloc);
-    text.resize(count, b' ')?;
-    Ok(text)
 }
 
 // Serves so many blanks as templates, or as hex text.
 fn long_text(
     rt: &impl Abort,
     alloc: Global,
-    count: usize,
-    is_templates: bool,
+    (count, is_templates): (usize, bool),
     case: &Case,
 ) -> Tried {
-    let text = blanks(alloc, count)?;
-    let case = if is_templates {
+    let text = vec![in alloc; b' '; count]?;
+    if is_templates {
         let templates = Templates::Text(from_utf8(&text).unwrap_or(""));
-        Case { templates, ..*case }
-    } else {
-        Case {
-            input: &text,
-            ..*case
-        }
-    };
-    served(rt, alloc, &case)
+        return served(rt, alloc, &Case { templates, ..*case });
+    }
+    served(rt, alloc, &case.of(case.words, &text))
 }
 
 #[test]
@@ -488,7 +492,7 @@ fn long_texts(rt: HostRuntime) -> Tried {
                     explain: the templates' file \"templates.json\" has more than 16777216 bytes; leave out templates that the stream does not need\n", ..LONG };
     };
     for (count, is_templates, case) in ROWS {
-        long_text(&rt, rt.alloc(), *count, *is_templates, case)?;
+        long_text(&rt, rt.alloc(), (*count, *is_templates), case)?;
     }
     Ok(())
 }

@@ -1,67 +1,28 @@
 //! Worked streams through each command of the program: whole, cut behind each of their bytes, long, and over devices that
 //! fail at each place.
 
-use crate::serving::devices::{After, Feed, Full, TEMPLATES, whole};
-use crate::serving::programs::{CASE, Case, Templates, cases_are_served, served};
-use std::alloc::Global;
-use std::process::Abort;
-use test_rows::{Tried, rows};
+use crate::base::*;
+use crate::serving::blocks::{CANON as CANON_BLOCKS, SHOW as SHOW_BLOCKS};
+use crate::serving::devices::{Feed, Full, whole};
+use crate::serving::programs::{CANON, CANON_HEX, CHECK, SHOW, served};
+use crate::serving::strict::{CANON_STRICTLY, SHOW_STRICTLY};
 
-/// The line of each command in a mode.
-#[derive(Clone, Copy)]
-struct Lines {
-    show: &'static [&'static str],
-    check: &'static [&'static str],
-    canon: &'static [&'static str],
-}
+/// The lines of `show`, `check` and `canon` in a mode.
+type Lines = [&'static [&'static str]; 3];
 
-const SHOW: &[&str] = &["fastcat", "show", "--templates", TEMPLATES];
-
-const CHECK: &[&str] = &["fastcat", "check", "--templates", TEMPLATES];
-
-const CANON: &[&str] = &["fastcat", "canon", "--templates", TEMPLATES];
-
-const PLAIN: Lines = Lines {
-    show: SHOW,
-    check: CHECK,
-    canon: CANON,
-};
-
-const SHOW_STRICTLY: &[&str] = &["fastcat", "show", "--strict", "--templates", TEMPLATES];
+const PLAIN: &Lines = &[SHOW, CHECK, CANON];
 
 const CHECK_STRICTLY: &[&str] = &["fastcat", "check", "--strict", "--templates", TEMPLATES];
 
-const CANON_STRICTLY: &[&str] = &["fastcat", "canon", "--strict", "--templates", TEMPLATES];
-
-const STRICT: Lines = Lines {
-    show: SHOW_STRICTLY,
-    check: CHECK_STRICTLY,
-    canon: CANON_STRICTLY,
-};
-
-const SHOW_BLOCKS: &[&str] = &["fastcat", "show", "--blocks", "--templates", TEMPLATES];
+const STRICT: &Lines = &[SHOW_STRICTLY, CHECK_STRICTLY, CANON_STRICTLY];
 
 const CHECK_BLOCKS: &[&str] = &["fastcat", "check", "--blocks", "--templates", TEMPLATES];
 
-const CANON_BLOCKS: &[&str] = &["fastcat", "canon", "--blocks", "--templates", TEMPLATES];
+const BLOCKS: &Lines = &[SHOW_BLOCKS, CHECK_BLOCKS, CANON_BLOCKS];
 
-const BLOCKS: Lines = Lines {
-    show: SHOW_BLOCKS,
-    check: CHECK_BLOCKS,
-    canon: CANON_BLOCKS,
-};
-
-const CANON_HEX: &[&str] = &["fastcat", "canon", "--hex", "--templates", TEMPLATES];
-
-/// What each command writes of a stream, and what is said of it.
+/// What `show`, `check` and `canon` write of a stream, and what is said of it.
 #[derive(Clone, Copy)]
-struct Made<'a> {
-    lines: &'a [u8],
-    told: &'a [u8],
-    canonical: &'a [u8],
-    status: u8,
-    said: &'a str,
-}
+struct Made<'a>([&'a [u8]; 3], &'a str);
 
 /// One command writes this.
 fn is_served<'a>(
@@ -69,34 +30,27 @@ fn is_served<'a>(
     alloc: Global,
     words: &'a [&'a str],
     standard: Feed<'a>,
-    out: &'a [u8],
-    made: Made<'a>,
+    (out, said): (&'a [u8], &'a str),
 ) -> Tried {
-    let case = Case {
-        words,
-        templates: Templates::Worked,
-        input: standard.rest,
-        width: standard.width,
-        input_end: standard.after,
-        status: made.status,
-        out,
-        err: made.said,
-        ..CASE
-    };
+    let case = over(Templates::Worked).of(words, standard.rest);
+    let mut case = case.answered(status_for(said), out, said);
+    case.width = standard.width;
+    case.input_end = standard.after;
     served(rt, alloc, &case)
 }
 
 /// Each command in a mode does.
-fn each_serves(
+fn each_serves<'a>(
     rt: &impl Abort,
     alloc: Global,
-    words: &Lines,
-    standard: Feed<'_>,
-    made: Made<'_>,
+    words: &'a Lines,
+    standard: Feed<'a>,
+    made: Made<'a>,
 ) -> Tried {
-    is_served(rt, alloc, words.show, standard, made.lines, made)?;
-    is_served(rt, alloc, words.check, standard, made.told, made)?;
-    is_served(rt, alloc, words.canon, standard, made.canonical, made)
+    let (Made([lines, told, canonical], said), [show, check, canon]) = (made, words);
+    is_served(rt, alloc, show, standard, (lines, said))?;
+    is_served(rt, alloc, check, standard, (told, said))?;
+    is_served(rt, alloc, canon, standard, (canonical, said))
 }
 
 /// A stream, what each command writes of it, and what is said where it is refused.
@@ -109,20 +63,12 @@ struct Stream {
 }
 
 fn stream_is_served(rt: &impl Abort, alloc: Global, row: &Stream) -> Tried {
-    let made = Made {
-        lines: row.lines.as_bytes(),
-        told: row.told.as_bytes(),
-        canonical: row.canonical,
-        status: if row.said.is_empty() { 0 } else { 1 },
-        said: row.said,
-    };
-    let bytewise = Feed {
-        rest: row.input,
-        width: 1,
-        after: After::End,
-    };
-    each_serves(rt, alloc, &PLAIN, bytewise, made)?;
-    each_serves(rt, alloc, &PLAIN, whole(row.input), made)
+    let texts = [row.lines.as_bytes(), row.told.as_bytes(), row.canonical];
+    let (made, standard) = (Made(texts, row.said), whole(row.input));
+    let mut bytewise = standard;
+    bytewise.width = 1;
+    each_serves(rt, alloc, PLAIN, bytewise, made)?;
+    each_serves(rt, alloc, PLAIN, standard, made)
 }
 
 #[test]
@@ -302,34 +248,27 @@ fn cut_serves(
     row: &Cut,
     count: usize,
     (width, after): (usize, After),
-    told: &str,
-    said: &str,
+    (told, said): (&str, &str),
 ) -> Tried {
     let (messages, bytes) = front(row, count);
-    let made = Made {
-        lines: first_lines(row.lines, messages),
-        told: told.as_bytes(),
-        canonical: first_bytes(row.stream, bytes),
-        status: status_for(said),
-        said,
-    };
+    let lines = first_lines(row.lines, messages);
+    let texts = [lines, told.as_bytes(), first_bytes(row.stream, bytes)];
+    let made = Made(texts, said);
     let rest = first_bytes(row.stream, count);
     let standard = Feed { rest, width, after };
-    each_serves(rt, alloc, &PLAIN, standard, made)?;
-    each_serves(rt, alloc, &STRICT, standard, made)
-}
-
-fn cut_is_served(rt: &impl Abort, alloc: Global, row: &Cut, count: usize, said: &str) -> Tried {
-    let (messages, bytes) = front(row, count);
-    let told = told(alloc, messages, bytes, said)?;
-    cut_serves(rt, alloc, row, count, (4096, After::End), &told, said)
+    each_serves(rt, alloc, PLAIN, standard, made)?;
+    each_serves(rt, alloc, STRICT, standard, made)
 }
 
 #[test]
 fn streams_that_are_cut(rt: HostRuntime) -> Tried {
     for row in CUTS {
         for (i, said) in row.said.iter().enumerate() {
-            cut_is_served(&rt, rt.alloc(), row, i.saturating_add(1), said)?;
+            let count = i.saturating_add(1);
+            let (messages, bytes) = front(row, count);
+            let told = told(rt.alloc(), messages, bytes, said)?;
+            let given = (4096, After::End);
+            cut_serves(&rt, rt.alloc(), row, count, given, (&told, said))?;
         }
     }
     Ok(())
@@ -341,7 +280,7 @@ fn reads_that_fail(rt: HostRuntime) -> Tried {
     let given = (1, After::Error);
     for row in CUTS {
         for count in 0..=row.said.len() {
-            cut_serves(&rt, rt.alloc(), row, count, given, "", "fault read\n")?;
+            cut_serves(&rt, rt.alloc(), row, count, given, ("", "fault read\n"))?;
         }
     }
     Ok(())
@@ -351,25 +290,20 @@ fn reads_that_fail(rt: HostRuntime) -> Tried {
 #[test]
 fn reads_that_fail_in_a_block(rt: HostRuntime) -> Tried {
     const QUOTE: &[u8] = b"\x88\xf0\x81\x81\x41\xc2\xfe\x00\xe4";
+    const LINE: &[u8] = b"1 Quote Seq=1 Sym=\"AB\" Px=100e-2 Qty=-\n";
     for count in 0..=9 {
-        let is_whole = count == 9;
-        let made = Made {
-            lines: if is_whole {
-                b"1 Quote Seq=1 Sym=\"AB\" Px=100e-2 Qty=-\n"
-            } else {
-                b""
-            },
-            told: b"",
-            canonical: if is_whole { &QUOTE[1..] } else { b"" },
-            status: 3,
-            said: "fault read\n",
+        let texts = if count == 9 {
+            [LINE, b"", &QUOTE[1..]]
+        } else {
+            [b"".as_slice(); 3]
         };
         let standard = Feed {
             rest: &QUOTE[..count],
             width: 1,
             after: After::Error,
         };
-        each_serves(&rt, rt.alloc(), &BLOCKS, standard, made)?;
+        let made = Made(texts, "fault read\n");
+        each_serves(&rt, rt.alloc(), BLOCKS, standard, made)?;
     }
     Ok(())
 }
@@ -406,8 +340,8 @@ fn writes_that_fail(rt: HostRuntime) -> Tried {
     const TWO: &[u8] = b"\xf0\x81\x81\x41\xc2\xfe\x00\xe4\xf8\x81\x82\x41\xc2\x80\x81\x80";
     const BLOCK: &[u8] = b"\x90\xf0\x81\x81\x41\xc2\xfe\x00\xe4\xf8\x81\x82\x41\xc2\x80\x81\x80";
     const HEX: &[u8] = b"f0818141c2fe00e4f8818241c2808180";
-    const LINES: &[u8] = b"1 Quote Seq=1 Sym=\"AB\" Px=100e-2 Qty=-\n\
-        1 Quote Seq=2 Sym=\"AB\" Px=101e-2 Qty=-\n";
+    const LINES: &[u8] =
+        b"1 Quote Seq=1 Sym=\"AB\" Px=100e-2 Qty=-\n1 Quote Seq=2 Sym=\"AB\" Px=101e-2 Qty=-\n";
     const TOLD: &[u8] = b"ok messages=2 bytes=16 canonical=11\n";
     const BLOCK_TOLD: &[u8] = b"ok messages=2 bytes=17 canonical=11\n";
     const SHORT: &[u8] = b"\xf0\x81\x81\x41\xc2\xfe\x00\xe4\x80\x80\x81";
@@ -447,26 +381,16 @@ fn stream_of(alloc: Global, pieces: &[(&[u8], usize)]) -> Tried<Vec<u8>> {
     Ok(stream)
 }
 
-fn long_serves(rt: &impl Abort, alloc: Global, row: &Long, stream: &[u8], told: &str) -> Tried {
-    let made = Made {
-        lines: b"",
-        told: told.as_bytes(),
-        canonical: if row.said.is_empty() { stream } else { b"" },
-        status: status_for(row.said),
-        said: row.said,
-    };
-    let standard = whole(stream);
-    for words in [&PLAIN, &STRICT] {
-        is_served(rt, alloc, words.check, standard, made.told, made)?;
-        is_served(rt, alloc, words.canon, standard, made.canonical, made)?;
-    }
-    Ok(())
-}
-
 fn long_is_served(rt: &impl Abort, alloc: Global, row: &Long) -> Tried {
     let stream = stream_of(alloc, row.pieces)?;
     let told = told(alloc, row.messages, stream.len(), row.said)?;
-    long_serves(rt, alloc, row, &stream, &told)
+    let size = if row.said.is_empty() { stream.len() } else { 0 };
+    let (given, told, canonical) = (whole(&stream), told.as_bytes(), &stream[..size]);
+    for [_, check, canon] in [PLAIN, STRICT] {
+        is_served(rt, alloc, check, given, (told, row.said))?;
+        is_served(rt, alloc, canon, given, (canonical, row.said))?;
+    }
+    Ok(())
 }
 
 #[test]
@@ -496,19 +420,14 @@ fn long_texts_and_streams(rt: HostRuntime) -> Tried {
 #[test]
 fn sequences_without_members(rt: HostRuntime) -> Tried {
     const MOST: &[u8] = b"\xc0\x81\x80\x03\x7f\xfe";
-    const REFUSED: Case = Case {
-        templates: Templates::Bare,
-        input: b"\xc0\x81\x80\x03\x7f\xff",
-        status: 1,
-        err: "refused Limit message=1 offset=6 template=1 instruction=2\n",
-        ..CASE
+    const MORE: &[u8] = b"\xc0\x81\x80\x03\x7f\xff";
+    const SAID: &str = "refused Limit message=1 offset=6 template=1 instruction=2\n";
+    const ROWS: &[Row] = rows! {
+        CHECK, MOST, 0, b"ok messages=1 bytes=6 canonical=6\n", "";
+        CANON, MOST, 0, MOST, "";
+        SHOW, MORE, 1, b"", SAID;
+        CHECK, MORE, 1, b"", SAID;
+        CANON, MORE, 1, b"", SAID;
     };
-    const ROWS: &[Case] = rows! { Case { .. }:
-        CASE, words: CHECK, templates: Templates::Bare, input: MOST, out: b"ok messages=1 bytes=6 canonical=6\n";
-        CASE, words: CANON, templates: Templates::Bare, input: MOST, out: MOST;
-        REFUSED, words: SHOW;
-        REFUSED, words: CHECK;
-        REFUSED, words: CANON;
-    };
-    cases_are_served(&rt, rt.alloc(), ROWS)
+    rows_are_served(&rt, rt.alloc(), &over(Templates::Bare), ROWS)
 }
