@@ -7,11 +7,11 @@ ghost use Rattle.fast_template.specs.TemplateSets.{applies};
 ghost use Rattle.fast_field.specs.Parts.{IsKindOfPart};
 ghost use Rattle.fast_field.specs.Within.{HoldsScalar};
 
+use crate::base::*;
 use crate::fields::Kept::{Assigned, Empty, Undefined};
 use crate::fields::Shape::{Exponent, Initial, Mandatory, Mantissa, Optional};
 use crate::fields::Value::{Ascii, Bytes, Decimal, I32, I64, U32, U64, Unicode};
 use crate::fields::{Kept, Shape, are_such, is_kept};
-use crate::same::same;
 use fast_dictionary::{Entry, Spare};
 use fast_field::Level;
 use fast_take::Judged::{Behind, BehindTwo, Given, Stands};
@@ -20,9 +20,6 @@ use fast_template::Kind::{Int32, Int64, UInt32, UInt64};
 use fast_template::Operator::{Copy, Default, Delta, Increment, Plain, Tail};
 use fast_template::{FieldPart, Kind, Operator, Part, Presence, Scalar};
 use fast_value::UNIT_LIMIT;
-use std::alloc::{AllocError, Global};
-use std::process::Abort;
-use test_rows::{Tried, rows};
 
 // A field, its entry, what the bytes behind the first are judged to be, and the entry afterwards.
 #[derive(Clone, Copy)]
@@ -94,22 +91,17 @@ pub(crate) fn has_kind(part: Part, kind: Kind) -> bool
 }
 
 // Want of memory leaves the entry as it was, and ends the test.
-fn is_judged_so(rt: &impl Abort, alloc: Global, instr: &FieldPart, row: Row) -> Tried {
-    let Row(_, before, bytes, judged, after) = row;
+fn is_judged(rt: &impl Abort, alloc: Global, row: Row) -> Tried {
+    let Row(of, before, bytes, judged, after) = row;
+    let instr = of.instr(alloc)?;
     let mut entry = before.entry(alloc)?;
     // no other is judged
-    if !are_such(rt, instr, &entry) {
+    if !are_such(rt, &instr, &entry) {
         return Ok(());
     }
-    let answer = judge_sent(
-        instr.part,
-        &mut Spare::new(alloc),
-        instr,
-        &mut entry,
-        Level::Usual,
-        bytes,
-        bytes.len().min(1),
-    );
+    let (level, at) = (Level::Usual, bytes.len().min(1));
+    let spare = &mut Spare::new(alloc);
+    let answer = judge_sent(instr.part, spare, &instr, &mut entry, level, bytes, at);
     if answer == Judged::Elsewhere && judged != Judged::Elsewhere {
         is_kept(rt, alloc, &entry, before)?;
         return Err(AllocError);
@@ -118,21 +110,13 @@ fn is_judged_so(rt: &impl Abort, alloc: Global, instr: &FieldPart, row: Row) -> 
     is_kept(rt, alloc, &entry, after)
 }
 
-fn is_judged(rt: &impl Abort, alloc: Global, row: Row) -> Tried {
-    let instr = row.0.instr(alloc)?;
-    is_judged_so(rt, alloc, &instr, row)
-}
-
 fn all_judged(rt: &impl Abort, alloc: Global, rows: &[Row], left: &[Left]) -> Tried {
     for row in rows {
         is_judged(rt, alloc, *row)?;
     }
     for Left(of, before, bytes) in left {
-        is_judged(
-            rt,
-            alloc,
-            Row(*of, *before, *bytes, Judged::Elsewhere, *before),
-        )?;
+        let row = Row(*of, *before, *bytes, Judged::Elsewhere, *before);
+        is_judged(rt, alloc, row)?;
     }
     Ok(())
 }

@@ -1,14 +1,13 @@
 //! Rows on fields that are best spelled otherwise than they stand, or are NULL.
 
-ghost use Rattle.std.specs.Prelude.{◌≤◌, length};
 ghost use Rattle.fast_field.specs.Parts.{IsFieldPart};
 
+use crate::base::*;
 use crate::fields::Kept::{Assigned, Empty, Undefined};
 use crate::fields::Shape::{Initial, Mandatory, Optional};
 use crate::fields::Value::{Ascii, Bytes, Decimal, U32, Unicode};
 use crate::fields::{Kept, Shape, are_such, is_kept};
 use crate::judged::holds_scalar;
-use crate::same::same;
 use crate::takes::is_taken;
 use fast_dictionary::Entry;
 use fast_field::{FieldFault, Level};
@@ -16,42 +15,47 @@ use fast_take::{Aside, Judged, Took, relay_judged};
 use fast_template::Kind::UInt32;
 use fast_template::Operator::{Constant, Copy, Default, Delta, Increment, Plain, Tail};
 use fast_template::{FieldPart, Kind, Operator, Presence};
-use std::alloc::{AllocError, Global};
-use std::process::Abort;
-use test_rows::{Tried, rows};
 
 // A field, its entry, bytes behind the first that are read to their end, those of the best form, under bit 1, or none, under
 // bit 0, and the entry afterwards.
+#[derive(Clone, Copy)]
 struct Relayed(Shape, Kept, &'static [u8], &'static [u8], Kept);
 
 // A field, its entry, and bytes behind the first that are left to the ways that take any: they are as they are read.
+#[derive(Clone, Copy)]
 struct Left(Shape, Kept, &'static [u8]);
 
-// What becomes of a field that was sent and does not stand, and the bytes of its best form.
+// A field that was sent and does not stand is relayed with this answer (whether there is a value, the bit, and the place behind
+// the field) and this best form. Answers what became of it, and what lies aside.
 pub(crate) fn relay(
     rt: &impl Abort,
+    alloc: Global,
     instr: &FieldPart,
     entry: &mut Entry,
     bytes: &[u8],
-    at: usize,
-    aside: &mut Aside,
-    form: &mut Vec<u8>,
-) -> Tried<Result<Took, FieldFault>>
-    requires place { at ≤ length bytes.now }
-    requires part { IsFieldPart instr.now }
+    answer: (bool, bool, usize),
+    form: &[u8],
+) -> Tried<(Took, Aside)>
+    requires { IsFieldPart instr.now }
 {
     // no other is relayed
     if !holds_scalar(entry) {
         same(rt, false, true);
         return Err(AllocError);
     }
-    let judged = Judged::Elsewhere;
-    match relay_judged(judged, instr, entry, Level::Usual, bytes, at, aside) {
-        Err(FieldFault::Memory) => Err(AllocError),
-        Err(fault) => Ok(Err(fault)),
+    let (mut aside, mut out) = (Aside::new(alloc), Vec::new(alloc));
+    let (judged, level, at) = (Judged::Elsewhere, Level::Usual, bytes.len().min(1));
+    match relay_judged(judged, instr, entry, level, bytes, at, &mut aside) {
+        Err(fault) => {
+            same(rt, fault, FieldFault::Memory);
+            Err(AllocError)
+        }
         Ok(took) => {
-            aside.append_best(took, bytes, at, form)?;
-            Ok(Ok(took))
+            aside.append_best(took, bytes, at, &mut out)?;
+            let (there, bit) = (took.is_there(&aside), took.best_bit(true, &aside));
+            same(rt, (there, bit, took.place()), answer);
+            same(rt, out.as_slice(), form);
+            Ok((took, aside))
         }
     }
 }
@@ -59,32 +63,18 @@ pub(crate) fn relay(
 // `there` says whether there is a value: it was sent as a difference then, and all of its best form but how much is removed
 // stands in what was read.
 fn is_relayed(rt: &impl Abort, alloc: Global, there: bool, row: &Relayed) -> Tried {
-    let instr = row.0.instr(alloc)?;
-    let mut entry = row.1.entry(alloc)?;
+    let Relayed(of, before, bytes, form, after) = *row;
+    let instr = of.instr(alloc)?;
+    let mut entry = before.entry(alloc)?;
     if !are_such(rt, &instr, &entry) {
         return Ok(());
     }
-    let (bytes, form) = (row.2, row.3);
-    let at = bytes.len().min(1);
-    let mut aside = Aside::new(alloc);
-    let mut out = Vec::new(alloc);
-    match relay(rt, &instr, &mut entry, bytes, at, &mut aside, &mut out)? {
-        Err(fault) => same(rt, Some(fault), None),
-        Ok(took) => same(
-            rt,
-            (
-                took.is_there(&aside),
-                took.best_bit(true, &aside),
-                took.place(),
-            ),
-            (there, !form.is_empty(), bytes.len()),
-        ),
-    }
-    same(rt, out.as_slice(), form);
+    let answer = (there, !form.is_empty(), bytes.len());
+    let (_, aside) = relay(rt, alloc, &instr, &mut entry, bytes, answer, form)?;
     if there {
         same(rt, aside.made.as_slice(), &form[..form.len().min(1)]);
     }
-    is_kept(rt, alloc, &entry, row.4)
+    is_kept(rt, alloc, &entry, after)
 }
 
 fn all_relayed(rt: &impl Abort, alloc: Global, there: bool, rows: &[Relayed]) -> Tried {
@@ -95,23 +85,12 @@ fn all_relayed(rt: &impl Abort, alloc: Global, there: bool, rows: &[Relayed]) ->
 }
 
 fn is_as_read(rt: &impl Abort, alloc: Global, row: &Left) -> Tried {
-    let instr = row.0.instr(alloc)?;
-    let entry = row.1.entry(alloc)?;
-    if !are_such(rt, &instr, &entry) {
-        return Ok(());
+    let Left(of, before, bytes) = *row;
+    let (instr, entry) = (of.instr(alloc)?, before.entry(alloc)?);
+    if are_such(rt, &instr, &entry) {
+        let (level, at, aside) = (Level::Usual, bytes.len().min(1), &mut Aside::new(alloc));
+        is_taken(rt, alloc, &instr, &entry, true, level, bytes, at, aside)?;
     }
-    let (bytes, mut aside) = (row.2, Aside::new(alloc));
-    is_taken(
-        rt,
-        alloc,
-        &instr,
-        &entry,
-        true,
-        Level::Usual,
-        bytes,
-        bytes.len().min(1),
-        &mut aside,
-    )?;
     Ok(())
 }
 

@@ -9,44 +9,71 @@ ghost use Rattle.fast_field.specs.Parts.{IsFieldPart};
 ghost use Rattle.fast_template.specs.TemplateSets.{IsInitial, is_in_part};
 ghost use Rattle.fast_value.specs.declared.kind.Part.TheVariants as part_type;
 
+use crate::base::*;
 use crate::fields::{Value, part_of};
 use crate::judged::{applies_to, has_kind, holds_scalar, is_scalar};
 use crate::relaying::relay;
-use crate::same::same;
 use fast_dictionary::{Entry, Spare};
 use fast_field::{FieldFault, FieldRefusal, Level, Passed, read_field, write_in_place};
 use fast_take::{Aside, Judged, Took, judge_sent, pass_quickly};
 use fast_template::{FieldPart, Initial, Kind, Operator, Part, Presence, Scalar, part_needs_bit};
 use fast_value::is_of_kind;
-use std::alloc::{AllocError, Global};
-use std::process::Abort;
 use template_tests::generated::{Numbers, put_sent};
-use test_rows::Tried;
+use test_rows::list;
 
 // Each type as a field has it, with an initial value.
-pub(crate) const PARTS: &[(Part, Kind, Value)] = &[
-    (Part::Whole, Kind::UInt32, Value::U32(5)),
-    (Part::Whole, Kind::Int32, Value::I32(-5)),
-    (Part::Whole, Kind::UInt64, Value::U64(5)),
-    (Part::Whole, Kind::Int64, Value::I64(-5)),
-    (Part::Whole, Kind::Decimal, Value::Decimal(-2, 5)),
-    (Part::Whole, Kind::Ascii, Value::Ascii(b"AB")),
-    (Part::Whole, Kind::Unicode, Value::Unicode("AB")),
-    (Part::Whole, Kind::Bytes, Value::Bytes(b"AB")),
-    (Part::Length, Kind::UInt32, Value::U32(5)),
-    (Part::Exponent, Kind::Int32, Value::I32(-2)),
-    (Part::Mantissa, Kind::Int64, Value::I64(-5)),
-];
+const PARTS: &[(Part, Kind, Value)] = rows! {
+    Part::Whole, Kind::UInt32, Value::U32(5);
+    Part::Whole, Kind::Int32, Value::I32(-5);
+    Part::Whole, Kind::UInt64, Value::U64(5);
+    Part::Whole, Kind::Int64, Value::I64(-5);
+    Part::Whole, Kind::Decimal, Value::Decimal(-2, 5);
+    Part::Whole, Kind::Ascii, Value::Ascii(b"AB");
+    Part::Whole, Kind::Unicode, Value::Unicode("AB");
+    Part::Whole, Kind::Bytes, Value::Bytes(b"AB");
+    Part::Length, Kind::UInt32, Value::U32(5);
+    Part::Exponent, Kind::Int32, Value::I32(-2);
+    Part::Mantissa, Kind::Int64, Value::I64(-5);
+};
 
-pub(crate) const OPERATORS: &[Operator] = &[
-    Operator::Plain,
-    Operator::Constant,
-    Operator::Default,
-    Operator::Copy,
-    Operator::Increment,
-    Operator::Delta,
-    Operator::Tail,
-];
+const OPERATORS: &[Operator] = list! {
+    Operator::Plain, Operator::Constant, Operator::Default, Operator::Copy, Operator::Increment, Operator::Delta,
+    Operator::Tail
+};
+
+// Pushes an instruction with an initial value, and without one where none is wanted.
+fn push_both(
+    alloc: Global,
+    part: (Part, Kind),
+    how: (Presence, Operator),
+    initial: Value,
+    all: &mut Vec<FieldPart>,
+) -> Tried {
+    if part.0 != Part::Exponent {
+        all.push(part_of(alloc, part, how, Some(initial))?)?;
+    }
+    if !needs_initial(how.1, how.0) {
+        all.push(part_of(alloc, part, how, None)?)?;
+    }
+    Ok(())
+}
+
+// Instructions of each type, operator and presence.
+pub(crate) fn instructions(alloc: Global) -> Tried<Vec<FieldPart>> {
+    let mut all = Vec::new(alloc);
+    for (which, kind, initial) in PARTS {
+        for operator in OPERATORS {
+            if applies_to(*operator, *kind) {
+                let (part, initial) = ((*which, *kind), *initial);
+                let how = (Presence::Mandatory, *operator);
+                push_both(alloc, part, how, initial, &mut all)?;
+                let how = (Presence::Optional, *operator);
+                push_both(alloc, part, how, initial, &mut all)?;
+            }
+        }
+    }
+    Ok(all)
+}
 
 // How many fields of an instruction follow one another.
 const FIELDS: u32 = 96;
@@ -89,7 +116,7 @@ fn is_initial(instr: &FieldPart, initial: &Initial) -> bool
 }
 
 // Whether an operator wants an initial value.
-pub(crate) fn needs_initial(operator: Operator, presence: Presence) -> bool
+fn needs_initial(operator: Operator, presence: Presence) -> bool
     ensures constant { result ≡ false → operator ≡ operator_type.Constant → ⊥ }
     ensures default { result ≡ false → operator ≡ operator_type.Default → presence ≡ Mandatory → ⊥ }
 {
@@ -124,33 +151,19 @@ pub(crate) fn is_part(which: Part, instr: &FieldPart) -> bool
         && has_kind(instr.part, instr.kind)
 }
 
-// The best form of a field that was judged: its bit, the place where its bytes begin, and the one behind the field.
+// The answer of a field that was judged (whether it has a value, the bit of its best form, and the place behind it), and the
+// place where the bytes of the best form begin.
 #[derive(Clone, Copy, Debug, PartialEq, Eq, Drop)]
-struct Best {
-    there: bool,
-    bit: bool,
-    first: usize,
-    next: usize,
-}
-
-// The best form of a value that was sent.
-fn sent(bit: bool, first: usize, next: usize) -> Option<Best> {
-    Some(Best {
-        there: true,
-        bit,
-        first,
-        next,
-    })
-}
+struct Best((bool, bool, usize), usize);
 
 fn best_of(judged: Judged, bytes: &[u8], at: usize) -> Option<Best>
     requires { at ≤ length bytes.now }
 {
     match judged {
-        Judged::Stands(next) => sent(true, at, next),
-        Judged::Behind(next) => sent(true, at + 1, next),
-        Judged::BehindTwo(next) => sent(true, at + 2, next),
-        Judged::Given(next) => sent(false, next, next),
+        Judged::Stands(next) => Some(Best((true, true, next), at)),
+        Judged::Behind(next) => Some(Best((true, true, next), at + 1)),
+        Judged::BehindTwo(next) => Some(Best((true, true, next), at + 2)),
+        Judged::Given(next) => Some(Best((true, false, next), next)),
         Judged::Elsewhere => None,
     }
 }
@@ -158,7 +171,6 @@ fn best_of(judged: Judged, bytes: &[u8], at: usize) -> Option<Best>
 // What the quick way answers of a field: none where it does not serve.
 fn quickly(
     alloc: Global,
-    which: Part,
     instr: &FieldPart,
     entry: &mut Entry,
     bit: bool,
@@ -167,26 +179,19 @@ fn quickly(
 ) -> Option<Best>
     requires place { at ≤ length bytes.now }
     requires part { IsFieldPart instr.now }
-    requires which { which ≡ instr.now.part }
 {
     if !bit {
-        let there = match pass_quickly(which, instr, entry) {
-            Passed::Present => true,
-            Passed::Absent => false,
-            Passed::Elsewhere => return None,
+        return match pass_quickly(instr.part, instr, entry) {
+            Passed::Present => Some(Best((true, false, at), at)),
+            Passed::Absent => Some(Best((false, false, at), at)),
+            Passed::Elsewhere => None,
         };
-        return Some(Best {
-            there,
-            bit: false,
-            first: at,
-            next: at,
-        });
     }
     if !holds_scalar(entry) {
         return None;
     }
-    let mut spare = Spare::new(alloc);
-    let judged = judge_sent(which, &mut spare, instr, entry, Level::Usual, bytes, at);
+    let (spare, level) = (&mut Spare::new(alloc), Level::Usual);
+    let judged = judge_sent(instr.part, spare, instr, entry, level, bytes, at);
     best_of(judged, bytes, at)
 }
 
@@ -198,40 +203,22 @@ fn is_relayed(
     instr: &FieldPart,
     before: &Entry,
     bytes: &[u8],
-    at: usize,
-    wanted: (bool, bool, usize),
+    answer: (bool, bool, usize),
     form: &[u8],
     after: &Entry,
 ) -> Tried<bool>
-    requires place { at ≤ length bytes.now }
-    requires part { IsFieldPart instr.now }
+    requires { IsFieldPart instr.now }
 {
     let mut entry = before.view().copy(alloc)?;
-    let mut aside = Aside::new(alloc);
-    let mut out = Vec::new(alloc);
-    let took = match relay(rt, instr, &mut entry, bytes, at, &mut aside, &mut out)? {
-        Ok(took) => took,
-        Err(fault) => {
-            same(rt, Some(fault), None);
-            return Ok(false);
-        }
-    };
-    let there = took.is_there(&aside);
-    same(
-        rt,
-        (there, took.best_bit(true, &aside), took.place()),
-        wanted,
-    );
-    same(rt, out.as_slice(), form);
+    let (took, aside) = relay(rt, alloc, instr, &mut entry, bytes, answer, form)?;
     same(rt, &entry, after);
-    Ok(there && took == Took::Other(took.place()) && aside.made.len() == 1)
+    Ok(answer.0 && took == Took::Other(took.place()) && aside.made.len() == 1)
 }
 
 // A field of which the last bytes have not come is left to the general way, and nothing changes.
 fn waits(
     rt: &impl Abort,
     alloc: Global,
-    which: Part,
     instr: &FieldPart,
     entry: &Entry,
     bytes: &[u8],
@@ -239,19 +226,10 @@ fn waits(
 ) -> Tried
     requires place { at ≤ length bytes.now }
     requires part { IsFieldPart instr.now }
-    requires which { which ≡ instr.now.part }
 {
     for cut in at..bytes.len() {
-        let mut same_entry = entry.view().copy(alloc)?;
-        let best = quickly(
-            alloc,
-            which,
-            instr,
-            &mut same_entry,
-            true,
-            &bytes[..cut],
-            at,
-        );
+        let (mut same_entry, front) = (entry.view().copy(alloc)?, &bytes[..cut]);
+        let best = quickly(alloc, instr, &mut same_entry, true, front, at);
         same(rt, best, None);
         same(rt, &same_entry, entry);
     }
@@ -262,7 +240,6 @@ fn waits(
 fn goes_both_ways(
     rt: &impl Abort,
     alloc: Global,
-    which: Part,
     instr: &FieldPart,
     entry: &mut Entry,
     bit: bool,
@@ -270,22 +247,15 @@ fn goes_both_ways(
 ) -> Tried<bool> {
     let at = bytes.len().min(1);
     // no other is judged
-    if !is_part(which, instr) || !holds_scalar(entry) {
+    if !is_part(instr.part, instr) || !holds_scalar(entry) {
         same(rt, false, true);
         return Ok(false);
     }
     let before = entry.view().copy(alloc)?;
     let mut quick = entry.view().copy(alloc)?;
-    let best = quickly(alloc, which, instr, &mut quick, bit, bytes, at);
-    let (value, after, next) = match read_field(
-        alloc,
-        instr,
-        entry.view(),
-        bit,
-        Level::Usual,
-        bytes,
-        at,
-    ) {
+    let best = quickly(alloc, instr, &mut quick, bit, bytes, at);
+    let (kept, level) = (entry.view(), Level::Usual);
+    let (value, after, next) = match read_field(alloc, instr, kept, bit, level, bytes, at) {
         Err(FieldFault::Memory) => return Err(AllocError),
         Err(_) => {
             same(rt, best, None);
@@ -294,7 +264,7 @@ fn goes_both_ways(
         }
         Ok(read) => read,
     };
-    waits(rt, alloc, which, instr, &before, &bytes[..next], at)?;
+    waits(rt, alloc, instr, &before, &bytes[..next], at)?;
     let mut form = Vec::new(alloc);
     match write_in_place(alloc, instr, entry, value.as_ref(), &mut form) {
         Err(refusal) => {
@@ -303,18 +273,18 @@ fn goes_both_ways(
         }
         Ok(best_bit) => {
             same(rt, &*entry, &after);
-            let wanted = (value.is_some(), best_bit, next);
+            let answer = (value.is_some(), best_bit, next);
             match best {
                 None => {
                     same(rt, &quick, &before);
                     if !bit {
                         return Ok(false);
                     }
-                    is_relayed(rt, alloc, instr, &before, bytes, at, wanted, &form, &after)
+                    is_relayed(rt, alloc, instr, &before, bytes, answer, &form, &after)
                 }
-                Some(best) => {
-                    same(rt, (best.there, best.bit, best.next), wanted);
-                    same(rt, bytes.get(best.first..best.next), Some(form.as_slice()));
+                Some(Best(given, first)) => {
+                    same(rt, given, answer);
+                    same(rt, bytes.get(first..next), Some(form.as_slice()));
                     same(rt, &quick, &after);
                     Ok(true)
                 }
@@ -328,7 +298,6 @@ fn all_go_both_ways(
     rt: &impl Abort,
     alloc: Global,
     numbers: &mut Numbers,
-    which: Part,
     instr: &FieldPart,
 ) -> Tried {
     let mut entry = Entry::Undefined;
@@ -336,55 +305,17 @@ fn all_go_both_ways(
     for _ in 0..FIELDS {
         let bit = !part_needs_bit(instr) || numbers.below(3) > 0;
         let bytes = generated(alloc, instr, bit, numbers)?;
-        served |= goes_both_ways(rt, alloc, which, instr, &mut entry, bit, &bytes)?;
+        served |= goes_both_ways(rt, alloc, instr, &mut entry, bit, &bytes)?;
     }
     same(rt, served, true);
     Ok(())
 }
 
-// The same with an initial value, and without one where none is wanted.
-fn instructions_go_both_ways(
-    rt: &impl Abort,
-    alloc: Global,
-    numbers: &mut Numbers,
-    which: Part,
-    kind: Kind,
-    presence: Presence,
-    operator: Operator,
-    initial: Value,
-) -> Tried {
-    if !applies_to(operator, kind) {
-        return Ok(());
-    }
-    if which != Part::Exponent {
-        let instr = part_of(alloc, which, kind, presence, operator, Some(initial))?;
-        all_go_both_ways(rt, alloc, numbers, which, &instr)?;
-    }
-    if needs_initial(operator, presence) {
-        return Ok(());
-    }
-    let instr = part_of(alloc, which, kind, presence, operator, None)?;
-    all_go_both_ways(rt, alloc, numbers, which, &instr)
-}
-
 #[test]
 fn generated_fields_go_the_same_both_ways(rt: HostRuntime) -> Tried {
     let mut numbers = Numbers::new(1);
-    for (which, kind, initial) in PARTS {
-        for operator in OPERATORS {
-            for presence in [Presence::Mandatory, Presence::Optional] {
-                instructions_go_both_ways(
-                    &rt,
-                    rt.alloc(),
-                    &mut numbers,
-                    *which,
-                    *kind,
-                    presence,
-                    *operator,
-                    *initial,
-                )?;
-            }
-        }
+    for instr in &instructions(rt.alloc())? {
+        all_go_both_ways(&rt, rt.alloc(), &mut numbers, instr)?;
     }
     Ok(())
 }
