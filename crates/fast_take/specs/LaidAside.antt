@@ -1,4 +1,4 @@
--- Fields that are judged as they stand. (Own.) No public clause names these.
+-- What lies aside of a field that was judged as it stands. (Own.) No public clause names these.
 use Rattle.std.specs.Prelude.{◌≡◌, ℕ, List, drop, Some, Ok, true}
 use Rattle.fast_wire.specs.declared.level.Level.TheVariants.{Usual}
 use Rattle.fast_value.specs.declared.scalar.Scalar.{Scalar}

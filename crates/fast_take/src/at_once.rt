@@ -1,4 +1,5 @@
-//! Fields that are judged as they stand: most of those that are sent. Whatever is not judged here is taken behind it.
+//! Fields that are taken at once, most of those that are sent: what is judged of them is told, and a value that no entry keeps
+//! is laid aside. Whatever is not judged is taken behind it.
 
 ghost use Rattle.std.specs.Prelude.{◌≡◌, ◌≢◌, ◌≤◌, [], ℕ, List, Some, false, true, length, drop, IfSome, IsTrue, MatchOption};
 ghost use Rattle.fast_value.specs.Scalar.{is_integer, of_integer};
