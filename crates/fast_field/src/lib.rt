@@ -6,7 +6,7 @@
 //! nothing. [`plan_field`] answers the bit and the bytes of the best form of a value and [`write_field`] appends it;
 //! [`write_in_place`] does both and changes the entry too, and [`write_found`] does so with a value that was just read.
 //! [`pass_left_out`] takes what bit 0 gives without a value in between, and [`pass_found`] answers where it lies. The rest
-//! of what is public is for `fast_relay`, which reads and writes the most frequent fields at once, and for `fast_gaps`.
+//! of what is public is for `fast_take`, which takes the most frequent fields at once, and for `fast_gaps`.
 //! The definitions stand in `specs/`: the forms that spell a value (`Fields`, over `Spelled`, `Bases` and
 //! `Deltas`), the form that a writer chooses (`Best`), and the function that reads a field from the front of a list
 //! and answers its first fault (`FieldReading`). The module [`laws`] ties forms and reading together.
