@@ -287,18 +287,18 @@ fn goes_round(rt: &impl Abort, alloc: Global, count: usize) -> Tried {
         value: Some(value),
     };
     written_by_each(rt, &given, true, &bytes)?;
-    is_read_back(rt, given, &bytes)
+    is_read_back(rt, &given, &bytes)
 }
 
 // A value is read from these bytes, and kept in the entry.
-fn is_read_back(rt: &impl Abort, given: Given, bytes: &[u8]) -> Tried
-    requires { IsFieldPart given.instr }
+fn is_read_back(rt: &impl Abort, given: &Given, bytes: &[u8]) -> Tried
+    requires { IsFieldPart given.now.instr }
 {
     let (kept, level) = (EntryRef::Undefined, Level::Usual);
     match read_field(given.alloc, &given.instr, kept, true, level, bytes, 0) {
         Ok((read, entry, next)) => {
             same(rt, &read, &given.value);
-            let kept = match given.value {
+            let kept = match read {
                 Some(value) => Entry::Assigned(value),
                 None => Entry::Empty,
             };
