@@ -62,9 +62,8 @@ pub fn has_stop(bytes: &[u8]) -> bool
     }
 }
 
-/// Whether something of a field stands in the stream under this bit.
-#[inline(always)]
-pub(crate) fn is_sent(operator: Operator, bit: bool) -> bool
+// Whether something of a field stands in the stream under this bit.
+fn is_sent(operator: Operator, bit: bool) -> bool
     ensures { result ≡ sends operator bit }
 {
     match operator {

@@ -23,7 +23,6 @@ ghost use Rattle.fast_walk.specs.Awaited.{AwaitsBit, AwaitsBehind, AwaitsInside,
 ghost use Rattle.fast_walk.specs.Passing.{Passes, next_behind};
 
 use crate::bits::{first_for, take_for};
-use crate::lack::is_sent;
 use fast_dictionary::Entries;
 use fast_field::FieldFault;
 use fast_template::{FieldPart, Flat, Name, Presence, part_needs_bit};
@@ -243,10 +242,6 @@ pub trait Receiver: Drop {
                     let needs = part_needs_bit(whole);
                     let bit = first_for(bits, needs);
                     let place = fields.place;
-                    // (where no byte is left, a field that wants one is not tried)
-                    if place == bytes.len() && is_sent(whole.operator, bit) {
-                        return Ok(fields);
-                    }
                     match self.field(
                         alloc, name, presence, entries, whole, bit, level, bytes, place,
                     ) {

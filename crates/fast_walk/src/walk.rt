@@ -27,6 +27,9 @@ use fast_wire::{Bits, Level};
 use std::alloc::{AllocError, Global};
 use std::mem;
 
+/// So few bytes are taken field by field.
+const FEW: usize = 4;
+
 /// The elements of a sequence that are still to come.
 #[derive(Clone, Copy)]
 pub struct Sequel<'a> {
@@ -561,7 +564,8 @@ impl<'a> Walk<'a> {
         }
     }
 
-    // Takes the fields that are next, as many as the receiver likes.
+    // Takes the fields that are next, as many as the receiver likes; none of few bytes, as come where bytes come one at a time: a
+    // field would be tried where they end, which `step` does not do.
     #[inline(always)]
     fn fields<L: Leveled, R: Receiver, E: Entries>(
         &mut self,
@@ -580,7 +584,7 @@ impl<'a> Walk<'a> {
         ensures same_keys { E.serves entries.new ≡ E.serves entries.old }
     {
         match self.next {
-            Next::Instruction if begins_with_field(self.rest) => {
+            Next::Instruction if bytes.len() > FEW && begins_with_field(self.rest) => {
                 let fields = receiver.fields(
                     alloc,
                     entries,

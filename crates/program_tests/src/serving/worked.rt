@@ -241,19 +241,25 @@ fn status_for(said: &str) -> u8 {
     }
 }
 
+fn made_of<'a>(lines: &'a [u8], told: &'a [u8], canonical: &'a [u8], said: &'a str) -> Made<'a> {
+    Made([lines, told, canonical], said)
+}
+
 /// So many bytes of a worked stream are served, from reads of one size, and then this is told and said.
-fn cut_serves(
+fn cut_serves<'a>(
     rt: &impl Abort,
     alloc: Global,
-    row: &Cut,
+    row: &'a Cut,
     count: usize,
     (width, after): (usize, After),
-    (told, said): (&str, &str),
+    (told, said): (&'a str, &'a str),
 ) -> Tried {
     let (messages, bytes) = front(row, count);
-    let lines = first_lines(row.lines, messages);
-    let texts = [lines, told.as_bytes(), first_bytes(row.stream, bytes)];
-    let made = Made(texts, said);
+    let (lines, canonical) = (
+        first_lines(row.lines, messages),
+        first_bytes(row.stream, bytes),
+    );
+    let made = made_of(lines, told.as_bytes(), canonical, said);
     let rest = first_bytes(row.stream, count);
     let standard = Feed { rest, width, after };
     each_serves(rt, alloc, PLAIN, standard, made)?;

@@ -13,11 +13,6 @@ returns-in-None-clause-goes g c =
     let from : Fields = record { mantissa = None; rest = c.args.rest; spare = c.args.spare; place = c.args.at } in
     takes_all g.Self.Receiver.has c.args.level c.args.bytes.now from c.fields.fields c.fields.invariant.mantissa c.fields.invariant.takes
 
-pub returns-then-is_sent-clause-goes : goal.returns-then-is_sent-clause-goes
-returns-then-is_sent-clause-goes g c =
-    let from : Fields = record { mantissa = None; rest = c.args.rest; spare = c.args.spare; place = c.args.at } in
-    takes_all g.Self.Receiver.has c.args.level c.args.bytes.now from c.fields.fields c.fields.invariant.mantissa c.fields.invariant.takes
-
 pub returns-in_default-clause-goes : goal.returns-in_default-clause-goes
 returns-in_default-clause-goes g c =
     let from : Fields = record { mantissa = None; rest = c.args.rest; spare = c.args.spare; place = c.args.at } in
