@@ -22,7 +22,12 @@ const BLOCKS: &Lines = &[SHOW_BLOCKS, CHECK_BLOCKS, CANON_BLOCKS];
 
 /// What `show`, `check` and `canon` write of a stream, and what is said of it.
 #[derive(Clone, Copy)]
-struct Made<'a>([&'a [u8]; 3], &'a str);
+struct Made<'a> {
+    lines: &'a [u8],
+    told: &'a [u8],
+    canonical: &'a [u8],
+    said: &'a str,
+}
 
 /// One command writes this.
 fn is_served<'a>(
@@ -47,10 +52,10 @@ fn each_serves<'a>(
     standard: Feed<'a>,
     made: Made<'a>,
 ) -> Tried {
-    let (Made([lines, told, canonical], said), [show, check, canon]) = (made, words);
-    is_served(rt, alloc, show, standard, (lines, said))?;
-    is_served(rt, alloc, check, standard, (told, said))?;
-    is_served(rt, alloc, canon, standard, (canonical, said))
+    let [show, check, canon] = words;
+    is_served(rt, alloc, show, standard, (made.lines, made.said))?;
+    is_served(rt, alloc, check, standard, (made.told, made.said))?;
+    is_served(rt, alloc, canon, standard, (made.canonical, made.said))
 }
 
 /// A stream, what each command writes of it, and what is said where it is refused.
@@ -63,8 +68,13 @@ struct Stream {
 }
 
 fn stream_is_served(rt: &impl Abort, alloc: Global, row: &Stream) -> Tried {
-    let texts = [row.lines.as_bytes(), row.told.as_bytes(), row.canonical];
-    let (made, standard) = (Made(texts, row.said), whole(row.input));
+    let made = Made {
+        lines: row.lines.as_bytes(),
+        told: row.told.as_bytes(),
+        canonical: row.canonical,
+        said: row.said,
+    };
+    let standard = whole(row.input);
     let mut bytewise = standard;
     bytewise.width = 1;
     each_serves(rt, alloc, PLAIN, bytewise, made)?;
@@ -241,40 +251,40 @@ fn status_for(said: &str) -> u8 {
     }
 }
 
-fn made_of<'a>(lines: &'a [u8], told: &'a [u8], canonical: &'a [u8], said: &'a str) -> Made<'a> {
-    Made([lines, told, canonical], said)
-}
-
 /// So many bytes of a worked stream are served, from reads of one size, and then this is told and said.
-fn cut_serves<'a>(
+fn cut_serves(
     rt: &impl Abort,
     alloc: Global,
-    row: &'a Cut,
+    row: &Cut,
     count: usize,
     (width, after): (usize, After),
-    (told, said): (&'a str, &'a str),
+    told: &str,
+    said: &str,
 ) -> Tried {
     let (messages, bytes) = front(row, count);
-    let (lines, canonical) = (
-        first_lines(row.lines, messages),
-        first_bytes(row.stream, bytes),
-    );
-    let made = made_of(lines, told.as_bytes(), canonical, said);
+    let made = Made {
+        lines: first_lines(row.lines, messages),
+        told: told.as_bytes(),
+        canonical: first_bytes(row.stream, bytes),
+        said,
+    };
     let rest = first_bytes(row.stream, count);
     let standard = Feed { rest, width, after };
     each_serves(rt, alloc, PLAIN, standard, made)?;
     each_serves(rt, alloc, STRICT, standard, made)
 }
 
+fn cut_is_served(rt: &impl Abort, alloc: Global, row: &Cut, count: usize, said: &str) -> Tried {
+    let (messages, bytes) = front(row, count);
+    let told = told(alloc, messages, bytes, said)?;
+    cut_serves(rt, alloc, row, count, (4096, After::End), &told, said)
+}
+
 #[test]
 fn streams_that_are_cut(rt: HostRuntime) -> Tried {
     for row in CUTS {
         for (i, said) in row.said.iter().enumerate() {
-            let count = i.saturating_add(1);
-            let (messages, bytes) = front(row, count);
-            let told = told(rt.alloc(), messages, bytes, said)?;
-            let given = (4096, After::End);
-            cut_serves(&rt, rt.alloc(), row, count, given, (&told, said))?;
+            cut_is_served(&rt, rt.alloc(), row, i.saturating_add(1), said)?;
         }
     }
     Ok(())
@@ -286,7 +296,7 @@ fn reads_that_fail(rt: HostRuntime) -> Tried {
     let given = (1, After::Error);
     for row in CUTS {
         for count in 0..=row.said.len() {
-            cut_serves(&rt, rt.alloc(), row, count, given, ("", "fault read\n"))?;
+            cut_serves(&rt, rt.alloc(), row, count, given, "", "fault read\n")?;
         }
     }
     Ok(())
@@ -298,17 +308,22 @@ fn reads_that_fail_in_a_block(rt: HostRuntime) -> Tried {
     const QUOTE: &[u8] = b"\x88\xf0\x81\x81\x41\xc2\xfe\x00\xe4";
     const LINE: &[u8] = b"1 Quote Seq=1 Sym=\"AB\" Px=100e-2 Qty=-\n";
     for count in 0..=9 {
-        let texts = if count == 9 {
-            [LINE, b"", &QUOTE[1..]]
+        let (lines, canonical) = if count == 9 {
+            (LINE, &QUOTE[1..])
         } else {
-            [b"".as_slice(); 3]
+            (b"".as_slice(), b"".as_slice())
         };
         let standard = Feed {
             rest: &QUOTE[..count],
             width: 1,
             after: After::Error,
         };
-        let made = Made(texts, "fault read\n");
+        let made = Made {
+            lines,
+            told: b"",
+            canonical,
+            said: "fault read\n",
+        };
         each_serves(&rt, rt.alloc(), BLOCKS, standard, made)?;
     }
     Ok(())
