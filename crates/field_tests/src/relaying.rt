@@ -71,10 +71,12 @@ fn is_relayed(rt: &impl Abort, alloc: Global, there: bool, row: &Relayed) -> Tri
     }
     let answer = (there, !form.is_empty(), bytes.len());
     let (_, aside) = relay(rt, alloc, &instr, &mut entry, bytes, answer, form)?;
-    if there {
-        same(rt, aside.made.as_slice(), &form[..form.len().min(1)]);
+    is_kept(rt, alloc, &entry, after)?;
+    // where memory is refused for the removal, the way that takes any makes the whole form
+    if there && aside.made.as_slice() != &form[..form.len().min(1)] {
+        return Err(AllocError);
     }
-    is_kept(rt, alloc, &entry, after)
+    Ok(())
 }
 
 fn all_relayed(rt: &impl Abort, alloc: Global, there: bool, rows: &[Relayed]) -> Tried {
