@@ -1,4 +1,4 @@
-//! Reading the next message in a list of bytes.
+//! Reading messages in a list of bytes, the next one and those behind it.
 
 ghost use Rattle.std.specs.Prelude.{◌≡◌, ◌≢◌, ◌≤◌, ◌<◌, ◌^◌, ◌⊎◌, None, length, drop};
 ghost use Rattle.fast_machine.specs.Calls.{LeavesMessage};
