@@ -1,15 +1,15 @@
 -- The innermost ends in the last around it.
 use Rattle.std.proofs.Common.{◌≡◌, ℕ, ◌+◌, List, [], ◌∷◌, ◌++◌, length, length-take, take, drop, slice_range, refl, sym, ap, ap₂, ◌∙◌, arith}
 use Rattle.std.proofs.lemmas.List.{same_from_push, take-take, take_rest}
-use Rattle.fast_draft.specs.Segments.{GoesOn, Leaves, Memory, Segment, Segments, with_more}
-use Rattle.fast_draft.specs.Standing.{EndsThere, IsSound, new_at, segment_at, segments, segments_at, with_map}
+use Rattle.fast_draft.specs.Segments.{GoesOn, Leaves, Memory, Segment, Segments, with_more, with_segments}
+use Rattle.fast_draft.specs.Standing.{EndsThere, IsSound, first_place, new_at, outer_at, segment_at, segments, segments_at, with_map}
 use Rattle.fast_draft.specs.declared.level.Level.{Level}
-use Rattle.fast_draft.proofs.Places.{all_stand, around_more, inner_fresh, inner_more, same_front, same_segment, same_segments, same_stands, segments_more, sound_inside, sound_more, stand_less}
+use Rattle.fast_draft.proofs.Places.{all_stand, around_more, first_of_more, inner_fresh, inner_more, outer_more, outer_of, same_front, same_outer, same_segment, same_stands, segments_more, sound_inside, sound_more, stand_less}
 
 -- what is left: the last is the innermost, with what has ended behind its bytes
 pub record IsLeft (ls : List Level) (w l : Level) (map old new : List ℕ) : Type 0 where
   pub sound : IsSound new ls w
-  pub around : segments_at new ls w.place ≡ segments_at old ls w.place
+  pub around : outer_at new ls w.place ≡ outer_at old ls w.place
   pub inner : segment_at new w (length new) ≡ with_more (segment_at old w l.place) (map ++ slice_range old (l.place + l.size) (length old))
 
 pub is_left : (ls : List Level) (w l : Level) (map old new : List ℕ) → IsSound old (ls ++ w ∷ []) l → new ≡ with_map l map old → IsLeft ls w l map old new
@@ -29,16 +29,18 @@ is_left ls w l map old new s e =
     let behind = map ++ slice_range old (l.place + l.size) (length old) in
     let split : new ≡ base ++ behind = e ∙ ap (λ x. base ++ (map ++ x)) bytes in record {
       sound = rw split (sound_more base behind ls w sound);
-      around = ap (λ x. segments_at x ls w.place) split ∙ around_more base behind ls w sound ∙ sym (same_segments old base ls w.place fore all.0);
+      around = ap (λ x. outer_at x ls w.place) split ∙ around_more base behind ls w sound ∙ sym (same_outer old base ls w.place fore all.0);
       inner = ap (λ x. segment_at x w (length x)) split ∙ inner_more base behind w (omega (arith, long))
           ∙ ap (λ x. with_more x behind) (ap (λ n. segment_at base w n) long ∙ sym (same_segment old base w l.place near same));
     }
 
 -- the segments around are those of the last and those around it
-last_is : (old : List ℕ) (ls : List Level) (v l : Level) (m : Memory) (was : Segments) (ws : List Segment) (w : Segment) → segments old (ls ++ v ∷ []) l m ≡ was → was.around ≡ ws ++ w ∷ []
-    → (segments_at old ls v.place ≡ ws) × (segment_at old v l.place ≡ w)
+last_is : (old : List ℕ) (ls : List Level) (v l : Level) (m : Memory) (was : Segments) (ws : List Segment) (w : Segment) → segments old (ls ++ v ∷ []) l m ≡ was → was.around.segments ≡ ws ++ w ∷ []
+    → (outer_at old ls v.place ≡ with_segments was.around ws) × (segment_at old v l.place ≡ w)
 last_is old ls v l m was ws w view e =
-    same_from_push (segments_at old ls v.place) ws (segment_at old v l.place) w (sym (segments_more old ls v l.place) ∙ ap (λ s. s.around) view ∙ e)
+    let both = same_from_push (segments_at old ls v.place) ws (segment_at old v l.place) w (sym (segments_more old ls v l.place) ∙ ap (λ s. s.around.segments) view ∙ e) in
+    let front : take (first_place ls v.place) old ≡ was.around.ended = ap (λ n. take n old) (sym (first_of_more ls v l.place)) ∙ ap (λ s. s.around.ended) view in
+    (ap₂ outer_of front both.0, both.1)
 
 pub leaves : (ls : List Level) (v l : Level) (old new : List ℕ) (m : Memory) (was : Segments) → segments old (ls ++ v ∷ []) l m ≡ was → IsSound old (ls ++ v ∷ []) l → EndsThere l old new → Leaves was (segments new ls v m)
 leaves ls v l old new m was view s t = λ ws w e.
@@ -65,13 +67,13 @@ has_last : (l : Level) (ls : List Level) → HasLast (l ∷ ls)
 has_last l [] = record { before = []; last = l; is = refl }
 has_last l (k ∷ ls) = let h = has_last k ls in record { before = l ∷ h.before; last = h.last; is = ap (λ xs. l ∷ xs) h.is }
 
-pub some_last : (ls : List Level) (old : List ℕ) (l : Level) (m : Memory) (was : Segments) → segments old ls l m ≡ was → (was.around ≡ [] → ⊥) → HasLast ls
-some_last [] old l m was view some = absurd (some (sym (ap (λ s. s.around) view)))
+pub some_last : (ls : List Level) (old : List ℕ) (l : Level) (m : Memory) (was : Segments) → segments old ls l m ≡ was → (was.around.segments ≡ [] → ⊥) → HasLast ls
+some_last [] old l m was view some = absurd (some (sym (ap (λ s. s.around.segments) view)))
 some_last (k ∷ ls) old l m was view some = has_last k ls
 
-pub none_around : (ls : List Level) (old : List ℕ) (l : Level) (m : Memory) (was : Segments) → segments old ls l m ≡ was → was.around ≡ [] → ls ≡ []
+pub none_around : (ls : List Level) (old : List ℕ) (l : Level) (m : Memory) (was : Segments) → segments old ls l m ≡ was → was.around.segments ≡ [] → ls ≡ []
 none_around [] old l m was view none = refl
-none_around (k ∷ ls) old l m was view none = absurd (cons_some (ap (λ s. s.around) view ∙ none))
+none_around (k ∷ ls) old l m was view none = absurd (cons_some (ap (λ s. s.around.segments) view ∙ none))
   where
     cons_some : {x : Segment} {xs : List Segment} → x ∷ xs ≡ [] → ⊥
     cons_some e = absurd cc
@@ -81,6 +83,15 @@ sound_ended ls l old new h s t =
     let left = is_left h.before h.last l t.map old new (rw (← h.is) s) t.out in
     rw h.is (sound_inside new h.before h.last left.sound)
 
+-- the messages that ended stand as they did
+pub ended_on : (ls : List Level) (l : Level) (old new : List ℕ) → HasLast ls → IsSound old ls l → EndsThere l old new
+    → take (first_place ls (length new)) new ≡ take (first_place ls l.place) old
+ended_on ls l old new h s t =
+    let left = is_left h.before h.last l t.map old new (rw (← h.is) s) t.out in
+    rw h.is (
+    ap (λ n. take n new) (first_of_more h.before h.last (length new)) ∙ ap (λ o. o.ended) left.around ∙ ap (λ n. take n old) (sym (first_of_more h.before h.last l.place))
+    )
+
 pub goes_on : (ls : List Level) (l : Level) (old new map : List ℕ) (m : Memory) (was : Segments) → HasLast ls → segments old ls l m ≡ was → IsSound old ls l → EndsThere l old new
     → GoesOn map was (segments (new ++ map) ls (new_at (length new) (length map)) m)
 goes_on ls l old new map m was h view s t = λ ws w e.
@@ -89,7 +100,7 @@ goes_on ls l old new map m was h view s t = λ ws w e.
     let left = is_left h.before h.last l t.map old new s t.out in
     let gone = leaves h.before h.last l old new m was view s t ws w e in
     let v = segment_at new h.last (length new) in
-    let around : segments_at (new ++ map) ls (length new) ≡ ws ++ v ∷ [] =
+    let around : outer_at (new ++ map) ls (length new) ≡ with_segments was.around (ws ++ v ∷ []) =
     around_more new map ls (new_at (length new) 0) (rw h.is (sound_inside new h.before h.last left.sound))
-    ∙ ap (λ xs. segments_at new xs (length new)) h.is ∙ segments_more new h.before h.last (length new) ∙ ap (λ xs. xs ++ v ∷ []) gone.0 in
+    ∙ ap (λ xs. outer_at new xs (length new)) h.is ∙ outer_more new h.before h.last (length new) ∙ ap (λ o. with_segments o (o.segments ++ v ∷ [])) gone.0 in
     (v, gone.1, around, inner_fresh new map)

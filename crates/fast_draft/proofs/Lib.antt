@@ -5,5 +5,6 @@ pub mod Passing
 pub mod OneByte
 pub mod Ending
 pub mod Leaving
+pub mod Nearer
 pub mod Staying
 pub mod TwoBytes

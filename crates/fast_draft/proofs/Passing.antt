@@ -8,9 +8,9 @@ use Rattle.fast_wire.specs.PresenceMap.{bits_of, later_bits}
 use Rattle.fast_wire.proofs.MapBits.{later_left, length_bits, none_left}
 use Rattle.fast_draft.specs.Mending.{Clears}
 use Rattle.fast_draft.specs.Segments.{ClearsNext, ahead}
-use Rattle.fast_draft.specs.Standing.{ClearedNext, ClearedThere, IsSound, Stands, map_at, past_bit, segment_at, segments_at, with_map}
+use Rattle.fast_draft.specs.Standing.{ClearedNext, ClearedThere, IsSound, Stands, map_at, past_bit, outer_at, segment_at, with_map}
 use Rattle.fast_draft.specs.declared.level.Level.{Level}
-use Rattle.fast_draft.proofs.Places.{all_stand, same_segments}
+use Rattle.fast_draft.proofs.Places.{all_stand, same_outer}
 
 -- how long the map is, and how many bits it has
 pub map_length : (out : List ℕ) (l : Level) (end : ℕ) → Stands out l end → end ≤ length out → length (map_at out l) ≡ l.size
@@ -117,9 +117,9 @@ clears_nothing out l s none =
       none = λ e. refl;
     }
 
-clears_around : (l : Level) (ls : List Level) (old new : List ℕ) → IsSound old ls l → ClearedThere l old new → segments_at new ls l.place ≡ segments_at old ls l.place
+clears_around : (l : Level) (ls : List Level) (old new : List ℕ) → IsSound old ls l → ClearedThere l old new → outer_at new ls l.place ≡ outer_at old ls l.place
 clears_around l ls old new s c =
-    let r = replaced l c.map old new s.inner.within c.out in sym (same_segments old new ls l.place (sym r.before) s.around)
+    let r = replaced l c.map old new s.inner.within c.out in sym (same_outer old new ls l.place (sym r.before) s.around)
 
 sound_cleared : (l : Level) (ls : List Level) (old new : List ℕ) → IsSound old ls l → l.asked < 7 * l.size → ClearedThere l old new → IsSound new ls (past_bit l)
 sound_cleared l ls old new s some c =
@@ -142,7 +142,7 @@ sound_cleared l ls old new s some c =
 -- the next bit is cleared, if one is left
 pub record IsCleared (ls : List Level) (l m : Level) (old new : List ℕ) : Type 0 where
   pub sound : IsSound new ls m
-  pub around : segments_at new ls m.place ≡ segments_at old ls l.place
+  pub around : outer_at new ls m.place ≡ outer_at old ls l.place
   pub inner : ClearsNext (segment_at old l (length old)) (segment_at new m (length new))
 
 pub is_cleared : (ls : List Level) (l m : Level) (old new : List ℕ) → IsSound old ls l → ClearedNext l m old new → IsCleared ls l m old new

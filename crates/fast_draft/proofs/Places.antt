@@ -1,11 +1,11 @@
 -- What stands at its place in an output stays as bytes are written behind it.
-use Rattle.std.proofs.Common.{◌≡◌, ℕ, suc, ◌+◌, ◌-◌, ◌≤◌, List, [], ◌∷◌, ◌++◌, append-nil, length, length-append, take, drop, slice_range, refl, sym, ap, ap₂, ◌∙◌, arith, inl, inr, ◌⊎◌}
+use Rattle.std.proofs.Common.{◌≡◌, Some, slice_get, ℕ, suc, ◌+◌, ◌-◌, ◌≤◌, List, [], ◌∷◌, ◌++◌, append-nil, length, length-append, length-take, take, drop, slice_range, refl, sym, ap, ap₂, ◌∙◌, arith, inl, inr, ◌⊎◌}
 use Rattle.std.proofs.lemmas.List.{take-take, take-append-le, drop-append-le, take_rest, take_at, drop_at, drop_all}
 use Rattle.std.proofs.lemmas.Slice.{between_is}
 use Rattle.fast_wire.specs.Entity.{IsEntity, groups}
 use Rattle.fast_wire.specs.PresenceMap.{bits_of}
-use Rattle.fast_draft.specs.Segments.{IsMapOrNone, Segment, fresh, with_more}
-use Rattle.fast_draft.specs.Standing.{AllStand, IsSound, Stands, first_place, map_at, new_at, segment_at, segments_at}
+use Rattle.fast_draft.specs.Segments.{IsMapOrNone, Outer, Segment, fresh, with_more, with_segments}
+use Rattle.fast_draft.specs.Standing.{AllStand, IsSound, Stands, first_place, map_at, new_at, outer_at, segment_at, segments_at}
 use Rattle.fast_draft.specs.declared.level.Level.{Level}
 
 -- ---- the same front
@@ -49,15 +49,27 @@ all_stand a b (l ∷ ls) end same s =
     let near = first_before a ls end s.1 in
     (same_stands a b l (first_place ls end) (same_front a b (first_place ls end) end near same) s.0, all_stand a b ls end same s.1)
 
+-- of its parts
+abbrev pub outer_of : List ℕ → List Segment → Outer
+outer_of ended segments = record { ended = ended; segments = segments }
+
+pub same_outer : (a b : List ℕ) (ls : List Level) (end : ℕ) → take end a ≡ take end b → AllStand a ls end → outer_at a ls end ≡ outer_at b ls end
+same_outer a b ls end same s =
+    ap₂ outer_of (same_front a b (first_place ls end) end (first_before a ls end s) same) (same_segments a b ls end same s)
+
 -- ---- one more behind them
 
-first_of_more : (ls : List Level) (l : Level) (end : ℕ) → first_place (ls ++ l ∷ []) end ≡ first_place ls l.place
+pub first_of_more : (ls : List Level) (l : Level) (end : ℕ) → first_place (ls ++ l ∷ []) end ≡ first_place ls l.place
 first_of_more [] l end = refl
 first_of_more (k ∷ ls) l end = refl
 
 pub segments_more : (out : List ℕ) (ls : List Level) (l : Level) (end : ℕ) → segments_at out (ls ++ l ∷ []) end ≡ segments_at out ls l.place ++ segment_at out l end ∷ []
 segments_more out [] l end = refl
 segments_more out (k ∷ ls) l end = ap₂ (λ p xs. segment_at out k p ∷ xs) (first_of_more ls l end) (segments_more out ls l end)
+
+pub outer_more : (out : List ℕ) (ls : List Level) (l : Level) (end : ℕ)
+    → outer_at out (ls ++ l ∷ []) end ≡ with_segments (outer_at out ls l.place) (segments_at out ls l.place ++ segment_at out l end ∷ [])
+outer_more out ls l end = ap₂ outer_of (ap (λ n. take n out) (first_of_more ls l end)) (segments_more out ls l end)
 
 pub count_segments : (out : List ℕ) (ls : List Level) (end : ℕ) → length (segments_at out ls end) ≡ length ls
 count_segments out [] end = refl
@@ -85,9 +97,9 @@ sound_more out bytes ls l s =
       inner = record { within = omega (arith, length-append out bytes); whole = rw (← e) s.inner.whole; few = s.inner.few; asked = s.inner.asked };
     }
 
-pub around_more : (out bytes : List ℕ) (ls : List Level) (l : Level) → IsSound out ls l → segments_at (out ++ bytes) ls l.place ≡ segments_at out ls l.place
+pub around_more : (out bytes : List ℕ) (ls : List Level) (l : Level) → IsSound out ls l → outer_at (out ++ bytes) ls l.place ≡ outer_at out ls l.place
 around_more out bytes ls l s =
-    let inside = s.inner.within in sym (same_segments out (out ++ bytes) ls l.place (longer_front out bytes l.place (omega arith)) s.around)
+    let inside = s.inner.within in sym (same_outer out (out ++ bytes) ls l.place (longer_front out bytes l.place (omega arith)) s.around)
 
 pub inner_more : (out bytes : List ℕ) (l : Level) → l.place + l.size ≤ length out → segment_at (out ++ bytes) l (length (out ++ bytes)) ≡ with_more (segment_at out l (length out)) bytes
 inner_more out bytes l le =
@@ -108,7 +120,7 @@ sound_empty out ls all = record { around = all; inner = record { within = omega 
 pub sound_inside : (out : List ℕ) (ls : List Level) (l : Level) → IsSound out ls l → IsSound out (ls ++ l ∷ []) (new_at (length out) 0)
 sound_inside out ls l s = sound_empty out (ls ++ l ∷ []) (stand_more out ls l (length out) s.around s.inner)
 
-take_whole : (xs : List ℕ) → take (length xs) xs ≡ xs
+pub take_whole : (xs : List ℕ) → take (length xs) xs ≡ xs
 take_whole xs = ap (λ ys. take (length xs) ys) (sym (append-nil xs)) ∙ take_at xs [] (length xs) refl
 
 map_there : (out map : List ℕ) → slice_range (out ++ map) (length out) (length out + length map) ≡ map
@@ -135,3 +147,29 @@ inner_fresh out map =
     let nothing : slice_range (out ++ map) (length out + length map) (length (out ++ map)) ≡ [] =
     take_rest (out ++ map) (length out + length map) ∙ drop_all (length out + length map) (out ++ map) (omega (arith, length-append out map)) in
     ap₂ (segment_of (new_at (length out) (length map))) (map_there out map) nothing
+
+-- ---- the messages that ended
+
+-- the bytes in front of the first
+pub ended_long : (out : List ℕ) (ls : List Level) (l : Level) → IsSound out ls l → length (take (first_place ls l.place) out) ≡ first_place ls l.place
+ended_long out ls l s =
+    let near = first_before out ls l.place s.around in
+    let inside = s.inner.within in omega (arith, length-take (first_place ls l.place) out)
+
+-- the first is in front of all
+pub first_is : (ls : List Level) (l : Level) (end : ℕ) → Some l ≡ slice_get ls 0 → first_place ls end ≡ l.place
+first_is [] l end is = absurd cc
+first_is (k ∷ ls) l end is = ap (λ x. x.place) (some_same k l (sym is))
+  where
+    some_same : (x y : Level) → Some x ≡ Some y → x ≡ y
+    some_same x y e = cc
+
+pub ended_front : (out : List ℕ) (ls : List Level) (l : Level) (was : List ℕ) → IsSound out ls l → take (first_place ls l.place) out ≡ was → take (length was) out ≡ was
+ended_front out ls l was s is = rw (← is) (ap (λ n. take n out) (ended_long out ls l s))
+
+-- where nothing is open behind them
+pub ended_alone : (base map : List ℕ) → outer_at (base ++ map) [] (length base) ≡ outer_of base []
+ended_alone base map = ap (λ e. outer_of e []) (take_at base map (length base) refl)
+
+pub ended_whole : (base : List ℕ) → outer_at base [] (length base) ≡ outer_of base []
+ended_whole base = ap (λ e. outer_of e []) (take_whole base)

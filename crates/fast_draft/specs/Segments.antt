@@ -1,4 +1,4 @@
--- The segments of a message that is open, and what each call does with them.
+-- The segments of a message that is open, behind the messages that ended, and what each call does with them.
 use Rattle.std.specs.Prelude.{◌≡◌, ◌≤◌, ◌<◌, ◌⊎◌, ◌+◌, ◌-◌, ◌*◌, ℕ, Bool, List, [], ◌∷◌, ◌++◌, length, take, drop}
 use Rattle.fast_wire.specs.Entity.{groups}
 use Rattle.fast_wire.specs.PresenceMap.{IsMap, IsWholeMap, bits_of, later_bits}
@@ -19,9 +19,14 @@ pub record Memory : Type 0 where
   pub used : ℕ
   pub levels : ℕ
 
--- the segments around the innermost, the message's own first, the innermost, and the memory that they stand in
+-- What stands around the innermost segment: the bytes of the messages that ended, and the segments, the message's own first.
+pub record Outer : Type 0 where
+  pub ended : List ℕ
+  pub segments : List Segment
+
+-- what stands around the innermost, the innermost, and the memory that they stand in
 pub record Segments : Type 0 where
-  pub around : List Segment
+  pub around : Outer
   pub inner : Segment
   pub memory : Memory
 
@@ -33,7 +38,7 @@ NoRoomFor count m = m.bytes < m.used + count
 
 -- one more segment around the innermost does not fit
 abbrev pub NoLevelFor : Segments → Type 0
-NoLevelFor s = s.memory.levels ≤ length s.around
+NoLevelFor s = s.memory.levels ≤ length s.around.segments
 
 -- at most so many bytes more are in use, and the memory holds no less
 pub record Takes (count : ℕ) (old new : Memory) : Type 0 where
@@ -41,11 +46,15 @@ pub record Takes (count : ℕ) (old new : Memory) : Type 0 where
   pub used : new.used ≤ old.used + count
   pub levels : old.levels ≤ new.levels
 
--- nothing is in use
-abbrev pub emptied : Memory → Memory
-emptied m = record { bytes = m.bytes; used = 0; levels = m.levels }
+-- nothing is in use but for the messages that ended
+abbrev pub emptied : Segments → Memory
+emptied s = record { bytes = s.memory.bytes; used = length s.around.ended; levels = s.memory.levels }
 
 -- ---- segments
+
+-- other segments stand around, behind the same messages
+abbrev pub with_segments : Outer → List Segment → Outer
+with_segments o ss = record { ended = o.ended; segments = ss }
 
 -- the bytes are no map, or a whole one
 abbrev pub IsMapOrNone : List ℕ → Type 0
@@ -83,22 +92,16 @@ pub record EndsIn (around inner new : Segment) : Type 0 where
 
 -- the innermost ended in the last around it, which is the innermost now
 abbrev pub Leaves : Segments → Segments → Type 0
-Leaves old new = (ws : List Segment) (w : Segment) → old.around ≡ ws ++ w ∷ []
-    → (new.around ≡ ws) × EndsIn w old.inner new.inner
+Leaves old new = (ws : List Segment) (w : Segment) → old.around.segments ≡ ws ++ w ∷ []
+    → (new.around ≡ with_segments old.around ws) × EndsIn w old.inner new.inner
 
 -- the innermost ended in the last around it, where another begins
 abbrev pub GoesOn : List ℕ → Segments → Segments → Type 0
-GoesOn map old new = (ws : List Segment) (w : Segment) → old.around ≡ ws ++ w ∷ []
-    → (v : Segment) × EndsIn w old.inner v × (new.around ≡ ws ++ v ∷ []) × (new.inner ≡ fresh map)
+GoesOn map old new = (ws : List Segment) (w : Segment) → old.around.segments ≡ ws ++ w ∷ []
+    → (v : Segment) × EndsIn w old.inner v × (new.around ≡ with_segments old.around (ws ++ v ∷ [])) × (new.inner ≡ fresh map)
 
 -- a segment has ended behind other bytes
 pub record EndsBehind (s : Segment) (old new : List ℕ) : Type 0 where
   pub map : List ℕ
   pub ends : Ends s map
   pub out : new ≡ old ++ (map ++ s.bytes)
-
--- what a segment ends with does not fit behind so many bytes of so many that fit
-pub record EndsBeyond (s : Segment) (fit used : ℕ) : Type 0 where
-  pub map : List ℕ
-  pub ends : Ends s map
-  pub beyond : fit < used + length (map ++ s.bytes)

@@ -1,9 +1,9 @@
 -- Where the segments stand in one output.
-use Rattle.std.specs.Prelude.{◌≡◌, ◌≤◌, ◌<◌, ◌⊎◌, ◌+◌, ◌*◌, ℕ, List, [], ◌∷◌, ◌++◌, length, take, drop, slice_range}
+use Rattle.std.specs.Prelude.{◌≡◌, ◌≤◌, ◌<◌, ◌⊎◌, ◌+◌, ◌-◌, ◌*◌, ℕ, List, [], ◌∷◌, ◌++◌, length, take, drop, slice_range}
 use Rattle.fast_wire.specs.Entity.{IsEntity, groups}
 use Rattle.fast_wire.specs.PresenceMap.{bits_of}
 use Rattle.fast_draft.specs.Mending.{Clears, CutsMap}
-use Rattle.fast_draft.specs.Segments.{Ends, Memory, Segment, Segments}
+use Rattle.fast_draft.specs.Segments.{Ends, Memory, Outer, Segment, Segments}
 use Rattle.fast_draft.specs.declared.level.Level.{Level}
 
 -- of a map none of whose bits was passed
@@ -53,12 +53,20 @@ pub record IsSound (out : List ℕ) (levels : List Level) (last : Level) : Type 
   pub around : AllStand out levels last.place
   pub inner : Stands out last (length out)
 
+-- the messages that ended stand in front of the first
+abbrev pub outer_at : List ℕ → List Level → ℕ → Outer
+outer_at out ls end = record { ended = take (first_place ls end) out; segments = segments_at out ls end }
+
 abbrev pub segments : List ℕ → List Level → Level → Memory → Segments
 segments out around inner memory = record {
-  around = segments_at out around inner.place;
+  around = outer_at out around inner.place;
   inner = segment_at out inner (length out);
   memory = memory;
 }
+
+-- so many places nearer to the front
+abbrev pub nearer : ℕ → Level → Level
+nearer count l = record { place = l.place - count; size = l.size; asked = l.asked }
 
 abbrev pub memory_of : ℕ → ℕ → ℕ → Memory
 memory_of bytes used levels = record { bytes = bytes; used = used; levels = levels }

@@ -1,16 +1,19 @@
-//! The message that is open.
+//! The message that is open, behind those that ended.
 
-ghost use Rattle.std.specs.Prelude.{◌≡◌, ◌≢◌, ◌≤◌, ◌⊎◌, ◌-◌, ◌∷◌, ◌++◌, [], Bool, List, length, slice_range, if◌then◌else◌, is_ok, OnOk, OnErr, vec_len, vec_capacity};
+ghost use Rattle.std.specs.Prelude.{◌≡◌, ◌≢◌, ◌⊎◌, ◌≤◌, ◌-◌, ◌∷◌, ◌++◌, [], Bool, List, length, slice_range, if◌then◌else◌, is_ok, OnOk, OnErr};
 ghost use Rattle.fast_wire.specs.Entity.{IsEntity};
 ghost use Rattle.fast_wire.specs.PresenceMap.{IsWholeMap};
-ghost use Rattle.fast_draft.specs.Segments.{ClearsNext, EndsBehind, EndsBeyond, GoesOn, IsMapOrNone, Leaves, NoLevelFor, NoRoomFor, Takes, ahead, emptied, fresh, with_more};
+ghost use Rattle.fast_draft.specs.Segments.{ClearsNext, EndsBehind, GoesOn, IsMapOrNone, Leaves, NoLevelFor, NoRoomFor, Takes, ahead, emptied, fresh, with_more, with_segments};
 
-use crate::level::{Level, append_bytes, append_range, clear_next, end, start};
+use crate::level::{
+    Level, append_byte, append_bytes, append_range, clear_next, end, move_nearer, remove, start,
+};
 use std::alloc::{AllocError, Global};
 use std::marker::Model;
 
-/// The segments of a message that is open, each map at its place and behind it what was written. Memory is refused only for
-/// what does not fit. Where it is, a call may have done a part of its work, if it says nothing else.
+/// The messages that ended, and behind them the segments of the one that is open, each map at its place and behind it what was
+/// written. Memory is refused only for what does not fit. Where it is, a call may have done a part of its work, if it says nothing
+/// else.
 #[derive(Drop)]
 pub struct Draft {
     out: Vec<u8>,
@@ -33,13 +36,25 @@ impl Model for Draft {
 impl Draft {
     /// Of nothing. Takes no memory.
     pub fn new(alloc: Global) -> Draft
-        ensures around { result.around ≡ [] }
+        ensures ended { result.around.ended ≡ [] }
+        ensures segments { result.around.segments ≡ [] }
         ensures inner { result.inner ≡ fresh [] }
     {
         Draft {
             out: Vec::new(alloc),
             around: Vec::new(alloc),
             inner: Level::at(0),
+        }
+    }
+
+    // Where the messages that ended end: the first segment begins there.
+    #[inline(always)]
+    fn first_place(&self) -> usize
+        ensures { result ≡ length self.now.around.ended }
+    {
+        match self.around.first() {
+            None => self.inner.place,
+            Some(level) => level.place,
         }
     }
 
@@ -55,16 +70,17 @@ impl Draft {
     ///
     /// # Errors
     ///
-    /// The one growth was refused: the map has more bytes than fit.
+    /// The one growth was refused: the map has more bytes than fit behind the messages that ended.
     #[inline(always)]
     pub fn begin(&mut self, map: &[u8]) -> Result<(), AllocError>
         requires { (bits : List Bool) × IsWholeMap map.now bits }
-        ensures around { OnOk result (self.new.around ≡ []) }
+        ensures around { self.new.around ≡ with_segments self.old.around [] }
         ensures inner { OnOk result (self.new.inner ≡ fresh map.now) }
-        ensures room { OnErr result (NoRoomFor (length map.now) (emptied self.old.memory)) }
-        ensures memory { Takes (length map.now) (emptied self.old.memory) self.new.memory }
+        ensures room { OnErr result (NoRoomFor (length map.now) (emptied self.old)) }
+        ensures memory { Takes (length map.now) (emptied self.old) self.new.memory }
     {
-        self.out.clear();
+        let place = self.first_place();
+        self.out.truncate(place);
         self.around.clear();
         start(&mut self.out, &mut self.inner, map)?;
         Ok(())
@@ -78,7 +94,8 @@ impl Draft {
     #[inline(always)]
     pub fn enter(&mut self, map: &[u8]) -> Result<(), AllocError>
         requires { IsMapOrNone map.now }
-        ensures around { OnOk result (self.new.around ≡ self.old.around ++ self.old.inner ∷ []) }
+        ensures ended { self.new.around.ended ≡ self.old.around.ended }
+        ensures segments { OnOk result (self.new.around.segments ≡ self.old.around.segments ++ self.old.inner ∷ []) }
         ensures inner { OnOk result (self.new.inner ≡ fresh map.now) }
         ensures room { OnErr result (NoLevelFor self.old ⊎ NoRoomFor (length map.now) self.old.memory) }
         ensures memory { Takes (length map.now) self.old.memory self.new.memory }
@@ -91,7 +108,7 @@ impl Draft {
     /// Ends the innermost in the last around it, which goes on.
     #[inline(always)]
     pub fn leave(&mut self)
-        requires { self.now.around ≢ [] }
+        requires { self.now.around.segments ≢ [] }
         ensures left { Leaves self.old self.new }
         ensures memory { Takes 0 self.old.memory self.new.memory }
     {
@@ -109,8 +126,9 @@ impl Draft {
     /// The one growth was refused, for the map.
     #[inline(always)]
     pub fn go_on(&mut self, map: &[u8]) -> Result<(), AllocError>
-        requires some { self.now.around ≢ [] }
+        requires some { self.now.around.segments ≢ [] }
         requires map { IsMapOrNone map.now }
+        ensures ended { self.new.around.ended ≡ self.old.around.ended }
         ensures gone { OnOk result (GoesOn map.now self.old self.new) }
         ensures room { OnErr result (NoRoomFor (length map.now) self.old.memory) }
         ensures memory { Takes (length map.now) self.old.memory self.new.memory }
@@ -121,24 +139,37 @@ impl Draft {
         Ok(())
     }
 
-    /// Ends the message's own segment, and appends it to other bytes. What the draft has then is not told, but its memory.
-    ///
-    /// # Errors
-    ///
-    /// The one growth was refused, of the other bytes, and nothing was appended.
+    /// Ends the message's own segment, and with it the message.
     #[inline(always)]
-    pub fn finish(&mut self, out: &mut Vec<u8>) -> Result<(), AllocError>
-        requires { self.now.around ≡ [] }
-        ensures finished { OnOk result (EndsBehind self.old.inner out.old.items out.new.items) }
-        ensures unchanged { OnErr result (out.new.items ≡ out.old.items) }
-        ensures room { OnErr result (EndsBeyond self.old.inner (vec_capacity out.old) (vec_len out.old)) }
-        ensures capacity { vec_capacity out.old ≤ vec_capacity out.new }
+    pub fn finish(&mut self)
+        requires { self.now.around.segments ≡ [] }
+        ensures ended { EndsBehind self.old.inner self.old.around.ended self.new.around.ended }
+        ensures segments { self.new.around.segments ≡ [] }
         ensures memory { Takes 0 self.old.memory self.new.memory }
     {
         end(&mut self.out, self.inner);
-        let place = self.inner.place;
         self.inner = Level::at(self.out.len());
-        out.extend_from_slice(&self.out[place..])
+    }
+
+    /// The bytes of the messages that ended.
+    #[inline(always)]
+    pub fn ended(&self) -> &[u8]
+        ensures { result.now ≡ self.now.around.ended }
+    {
+        &self.out[..self.first_place()]
+    }
+
+    /// Forgets the bytes of the messages that ended: what is open moves to the front.
+    pub fn forget_ended(&mut self)
+        ensures ended { self.new.around.ended ≡ [] }
+        ensures segments { self.new.around.segments ≡ self.old.around.segments }
+        ensures inner { self.new.inner ≡ self.old.inner }
+        ensures memory { Takes 0 self.old.memory self.new.memory }
+    {
+        let count = self.first_place();
+        remove(&mut self.out, 0, count);
+        move_nearer(&mut self.around, count);
+        self.inner.place -= count;
     }
 
     /// Lets so many bits of the innermost's map stand, as far as there are any.
@@ -175,7 +206,7 @@ impl Draft {
         ensures room { OnErr result (NoRoomFor 1 self.old.memory) }
         ensures memory { Takes (if is_ok result then 1 else 0) self.old.memory self.new.memory }
     {
-        self.out.push(byte)?;
+        append_byte(&mut self.out, byte)?;
         Ok(())
     }
 

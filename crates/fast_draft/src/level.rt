@@ -1,7 +1,7 @@
 //! A segment in the output: where its map stands, and how it ends.
 
-ghost use Rattle.std.specs.Prelude.{◌≡◌, ◌≤◌, ◌<◌, ◌*◌, ◌+◌, ◌-◌, ◌/◌, ◌%◌, ◌^◌, ◌++◌, length, take, drop, slice_index_or, slice_range, true, OnOk, OnErr, vec_len, vec_capacity};
-ghost use Rattle.fast_draft.specs.Standing.{ClearedNext, ClearedThere, CutThere, EndsThere, Stands, level_of, new_at};
+ghost use Rattle.std.specs.Prelude.{◌≡◌, ◌≤◌, ◌<◌, ◌*◌, ◌+◌, ◌-◌, ◌/◌, ◌%◌, ◌^◌, ◌++◌, ◌∷◌, [], length, map, take, drop, slice_index_or, slice_range, true, OnOk, OnErr, vec_len, vec_capacity};
+ghost use Rattle.fast_draft.specs.Standing.{ClearedNext, ClearedThere, CutThere, EndsThere, Stands, level_of, nearer, new_at};
 
 use crate::map::{STOP, clear_bit, cut_map};
 use std::alloc::AllocError;
@@ -28,6 +28,19 @@ impl Level {
             size: 0,
             asked: 0,
         }
+    }
+}
+
+/// Moves segments so many places nearer to the front.
+pub(crate) fn move_nearer(levels: &mut [Level], count: usize)
+    ensures { levels.new ≡ map (nearer count) levels.old }
+{
+    for level in levels.iter_mut() {
+        *level = Level {
+            place: level.place.saturating_sub(count),
+            size: level.size,
+            asked: level.asked,
+        };
     }
 }
 
@@ -183,7 +196,7 @@ fn cut_there(out: &mut Vec<u8>, level: Level) -> usize
 
 /// Takes away the bytes from one place to another. (Those behind move once.)
 #[inline(always)]
-fn remove(out: &mut Vec<u8>, start: usize, end: usize)
+pub(crate) fn remove(out: &mut Vec<u8>, start: usize, end: usize)
     requires start { start ≤ end }
     requires end { end ≤ length out.now.items }
     ensures items { out.new.items ≡ take start out.old.items ++ drop end out.old.items }
@@ -207,8 +220,7 @@ fn append_map(out: &mut Vec<u8>, map: &[u8]) -> Result<(), AllocError>
     ensures capacity { vec_capacity out.old ≤ vec_capacity out.new }
 {
     if map.len() == 1 {
-        out.push(map[0])?;
-        return Ok(());
+        return append_byte(out, map[0]);
     }
     append_other(out, map)
 }
@@ -231,6 +243,22 @@ fn append_other(out: &mut Vec<u8>, map: &[u8]) -> Result<(), AllocError>
         [first, second, third] => out.extend_from_slice(&[*first, *second, *third]),
         _ => append_bytes(out, map),
     }
+}
+
+/// Appends a byte.
+#[inline(always)]
+pub(crate) fn append_byte(out: &mut Vec<u8>, byte: u8) -> Result<(), AllocError>
+    ensures ok { OnOk result (out.new.items ≡ out.old.items ++ byte ∷ []) }
+    ensures err { OnErr result (out.new.items ≡ out.old.items) }
+    ensures room { OnErr result (vec_capacity out.old < vec_len out.old + 1) }
+    ensures capacity { vec_capacity out.old ≤ vec_capacity out.new }
+{
+    // nearly always there is room, and no call is left
+    if out.len() < out.capacity() {
+        out.push_reserved(byte);
+        return Ok(());
+    }
+    append_bytes(out, &[byte])
 }
 
 /// Appends the bytes from one place to another.

@@ -23,13 +23,13 @@ zero_is n h = eqb-true n 0 h
 pub record Awaited (r : Run) (around : List (List Bool)) (b : List Bool) : Type 0 where
   pub none : r.passed ≡ 0
   pub left : r.draft.inner.left ≡ b
-  pub around_is : lefts r.draft.around ≡ around
+  pub around_is : lefts r.draft.around.segments ≡ around
 
 pub awaited : (r : Run) (around : List (List Bool)) (b : List Bool) → IsTrue (run_awaits r around b) → Awaited r around b
 awaited r around b h =
-    let first = and_parts (nat_eq r.passed 0) (same_bits r.draft.inner.left b && same_maps (lefts r.draft.around) around) h in
-    let rest = and_parts (same_bits r.draft.inner.left b) (same_maps (lefts r.draft.around) around) first.1 in
-    record { none = zero_is r.passed first.0; left = bits_are r.draft.inner.left b rest.0; around_is = maps_are (lefts r.draft.around) around rest.1 }
+    let first = and_parts (nat_eq r.passed 0) (same_bits r.draft.inner.left b && same_maps (lefts r.draft.around.segments) around) h in
+    let rest = and_parts (same_bits r.draft.inner.left b) (same_maps (lefts r.draft.around.segments) around) first.1 in
+    record { none = zero_is r.passed first.0; left = bits_are r.draft.inner.left b rest.0; around_is = maps_are (lefts r.draft.around.segments) around rest.1 }
 
 pub awaits : (r : Run) (around : List (List Bool)) (b : List Bool) → Awaited r around b → IsTrue (run_awaits r around b)
 awaits r around b h = rw (h.none, h.left, h.around_is, bits_same b, maps_same around) refl
@@ -37,12 +37,12 @@ awaits r around b h = rw (h.none, h.left, h.around_is, bits_same b, maps_same ar
 -- ---- calls
 
 pub still : (r q : Run) → q.passed ≡ 0 → q.draft.inner.left ≡ r.draft.inner.left → q.draft.around ≡ r.draft.around → StillAwaits (run_awaits r) (run_awaits q)
-still r q none left around_is around b h = let a = awaited r around b h in awaits q around b (record { none = none; left = left ∙ a.left; around_is = ap lefts around_is ∙ a.around_is })
+still r q none left around_is around b h = let a = awaited r around b h in awaits q around b (record { none = none; left = left ∙ a.left; around_is = ap (λ o. lefts o.segments) around_is ∙ a.around_is })
 
 pub behind : (r q : Run) (p : FieldPart) (bit : Bool) → q.passed ≡ 0 → q.draft.inner.left ≡ after_bit (part_needs_bit p) r.draft.inner.left → q.draft.around ≡ r.draft.around → AwaitsBehind bit p (run_awaits r) (run_awaits q)
 behind r q p bit none left around_is around b is h =
     let a = awaited r around b h in
-    awaits q around (after_bit (part_needs_bit p) b) (record { none = none; left = left ∙ ap (after_bit (part_needs_bit p)) a.left; around_is = ap lefts around_is ∙ a.around_is })
+    awaits q around (after_bit (part_needs_bit p) b) (record { none = none; left = left ∙ ap (after_bit (part_needs_bit p)) a.left; around_is = ap (λ o. lefts o.segments) around_is ∙ a.around_is })
 
 pub none_passed : (r : Run) (p : FieldPart) (bit : Bool) → AwaitsBit bit p (run_awaits r) → r.passed ≡ 0
 none_passed r p bit h = (awaited r h.0 h.1 h.3).none
@@ -52,7 +52,7 @@ next_is r p bit h needs = rw needs at h.2 ∙ ap next_bit (sym (awaited r h.0 h.
 
 -- a segment inside these
 pub inside : (q : Run) (bytes : List ℕ) (ss : List Drafted) (s : Drafted) (around : List (List Bool)) (own : Bool) (b bits : List Bool) → IsOwnMap own bytes bits → s.left ≡ b → lefts ss ≡ around
-    → q.passed ≡ 0 → q.draft.around ≡ ss ++ s ∷ [] → q.draft.inner ≡ fresh bytes → IsTrue (run_awaits q (around ++ b ∷ []) bits)
+    → q.passed ≡ 0 → q.draft.around.segments ≡ ss ++ s ∷ [] → q.draft.inner ≡ fresh bytes → IsTrue (run_awaits q (around ++ b ∷ []) bits)
 inside q bytes ss s around own b bits is left around_is none pushed inner = awaits q (around ++ b ∷ []) bits (record {
   none = none;
   left = rw inner (own_bits own bytes bits is);
@@ -71,41 +71,41 @@ pub draft_map : (own : Bool) (bytes : List ℕ) → IsMapped own bytes → IsMap
 draft_map true bytes m = inr (m.0, m.1)
 draft_map false bytes m = inl m.1.0
 
-pub some_around : (r : Run) → AwaitsInside (run_awaits r) → r.draft.around ≢ []
-some_around r h none = let l = last_of r.draft.around h.0 h.1 (awaited r (h.0 ++ h.1 ∷ []) h.2 h.3).around_is in no_last l.fore l.last (sym none ∙ l.all_is)
+pub some_around : (r : Run) → AwaitsInside (run_awaits r) → r.draft.around.segments ≢ []
+some_around r h none = let l = last_of r.draft.around.segments h.0 h.1 (awaited r (h.0 ++ h.1 ∷ []) h.2 h.3).around_is in no_last l.fore l.last (sym none ∙ l.all_is)
   where
     no_last : (xs : List Drafted) (x : Drafted) → [] ≡ xs ++ x ∷ [] → ⊥
     no_last [] x h = cc
     no_last (y ∷ ys) x h = cc
 
 -- the last of those around
-pub last_around : (r : Run) → AwaitsInside (run_awaits r) → (fore : List Drafted) × (last : Drafted) × (r.draft.around ≡ fore ++ last ∷ [])
-last_around r h = let l = last_of r.draft.around h.0 h.1 (awaited r (h.0 ++ h.1 ∷ []) h.2 h.3).around_is in (l.fore, l.last, l.all_is)
+pub last_around : (r : Run) → AwaitsInside (run_awaits r) → (fore : List Drafted) × (last : Drafted) × (r.draft.around.segments ≡ fore ++ last ∷ [])
+last_around r h = let l = last_of r.draft.around.segments h.0 h.1 (awaited r (h.0 ++ h.1 ∷ []) h.2 h.3).around_is in (l.fore, l.last, l.all_is)
 
 -- where the innermost has ended in it
 pub outside : (r q : Run) → q.passed ≡ r.passed → Leaves r.draft q.draft → AwaitsOutside (run_awaits r) (run_awaits q)
 outside r q same leaves around b bits h =
     let a = awaited r (around ++ b ∷ []) bits h in
-    let l = last_of r.draft.around around b a.around_is in
+    let l = last_of r.draft.around.segments around b a.around_is in
     let e = leaves l.fore l.last l.all_is in
-    awaits q around b (record { none = same ∙ a.none; left = ap (λ (s : Drafted). s.left) e.1.is ∙ l.left; around_is = ap lefts e.0 ∙ l.around_is })
+    awaits q around b (record { none = same ∙ a.none; left = ap (λ (s : Drafted). s.left) e.1.is ∙ l.left; around_is = ap (λ o. lefts o.segments) e.0 ∙ l.around_is })
 
 -- and another has begun in it
 pub onwards : (r q : Run) (bytes : List ℕ) (around : List (List Bool)) (own : Bool) (b bits later : List Bool) → q.passed ≡ r.passed → GoesOn bytes r.draft q.draft → IsOwnMap own bytes later
     → IsTrue (run_awaits r (around ++ b ∷ []) bits) → IsTrue (run_awaits q (around ++ b ∷ []) later)
 onwards r q bytes around own b bits later same goes is h =
     let a = awaited r (around ++ b ∷ []) bits h in
-    let l = last_of r.draft.around around b a.around_is in
+    let l = last_of r.draft.around.segments around b a.around_is in
     let e = goes l.fore l.last l.all_is in
-    inside q bytes l.fore e.0 around own b later is (ap (λ (s : Drafted). s.left) e.1.is ∙ l.left) l.around_is (same ∙ a.none) e.2 e.3
+    inside q bytes l.fore e.0 around own b later is (ap (λ (s : Drafted). s.left) e.1.is ∙ l.left) l.around_is (same ∙ a.none) (ap (λ o. o.segments) e.2) e.3
 
 -- what two clauses say of an answer
 pub both : (A B : Type 0) {X F : Type 0} (r : Result X F) → OnOk r A → OnOk r B → OnOk r (A × B)
 both A B (Ok x) a b = (a, b)
 both A B (Err f) a b = tt
 
-pub none_around : (r : Run) (b : List Bool) → IsTrue (run_awaits r [] b) → r.draft.around ≡ []
-none_around r b h = empty r.draft.around (awaited r [] b h).around_is
+pub none_around : (r : Run) (b : List Bool) → IsTrue (run_awaits r [] b) → r.draft.around.segments ≡ []
+none_around r b h = empty r.draft.around.segments (awaited r [] b h).around_is
   where
     empty : (ss : List Drafted) → lefts ss ≡ [] → ss ≡ []
     empty [] h = refl
@@ -118,7 +118,7 @@ mapped_some {map} m none = let some = rw none at (entity_some map m.entity) in a
 
 pub record Begun (r : Run) (bits : List Bool) : Type 0 where
   pub none : r.passed ≡ 0
-  pub around : r.draft.around ≡ []
+  pub around : r.draft.around.segments ≡ []
   pub bytes : r.draft.inner.bytes ≡ []
   pub some : r.draft.inner.map ≢ []
   pub left : r.draft.inner.left ≡ bits
@@ -128,13 +128,13 @@ pub begun_parts : (r : Run) (bits : List Bool) → IsTrue (run_begun r bits) →
 begun_parts r bits h =
     let s = r.draft.inner in
     let a = and_parts (nat_eq r.passed 0) _ h in
-    let b = and_parts (is_none r.draft.around) _ a.1 in
+    let b = and_parts (is_none r.draft.around.segments) _ a.1 in
     let c = and_parts (is_none s.bytes) _ b.1 in
     let d = and_parts _ (same_bits s.left bits && same_bits (bits_of (groups s.map)) bits) c.1 in
     let e = and_parts (same_bits s.left bits) (same_bits (bits_of (groups s.map)) bits) d.1 in
     record {
       none = zero_is r.passed a.0;
-      around = none_is r.draft.around b.0;
+      around = none_is r.draft.around.segments b.0;
       bytes = none_is s.bytes c.0;
       some = some_is s.map d.0;
       left = bits_are s.left bits e.0;

@@ -1,12 +1,14 @@
 -- Fields that are taken one after the other into the segment that is open.
-use Rattle.fast_writer.proofs.Common.{◌≡◌, ◌≤◌, ◌<◌, ◌-◌, ◌+◌, ℕ, suc, ℤ, pos, Bool, false, List, [], ◌∷◌, ◌++◌, length, Option, Some, None, drop, take, refl, sym, ap, ◌∙◌, subst, arith, drop-drop, take_all, is_some, slice_get, Bor, Scalar, I64, Decimal, Presence, FieldPart, Flat, Instruction, Instructions, instruction_of, whole_field, field_in_parts, group_of, sequence_of, then_instruction, list_of, part_needs_bit, Dictionary, entry_at, set_entry, Entry, Level, single, bit_for, after_bit, at_instruction, at_mantissa, cursor, with_item, Took, exponent_of, next_behind, AreServed, IsNextServed, IsServed, Key, passes_field, passes_on, passes_one, count_goes, part_goes, exponent_on, no_exponent_on, mantissa_on_goes, is_instruction, is_mantissa, BeginsWith, Front, Takes, TakesPart, TakesUnder, TookFields, TookUnder, behind, Relayed, RelaysPart, Taken, IsThere, Run, IsFieldPart, KeepScalars}
+use Rattle.fast_writer.proofs.Common.{◌≡◌, ◌≤◌, ◌<◌, ◌-◌, ◌+◌, ℕ, suc, ℤ, pos, Bool, false, List, [], ◌∷◌, ◌++◌, length, Option, Some, None, drop, take, refl, sym, ap, ◌∙◌, subst, arith, drop-drop, take_all, is_some, slice_get, Bor, Scalar, I64, Decimal, Presence, FieldPart, Flat, Instruction, Instructions, instruction_of, whole_field, field_in_parts, group_of, sequence_of, then_instruction, list_of, part_needs_bit, Dictionary, entry_at, set_entry, set_entry-there, Entry, Level, single, bit_for, after_bit, at_instruction, at_mantissa, cursor, with_item, Took, exponent_of, next_behind, AreServed, IsNextServed, IsServed, Key, passes_field, passes_on, passes_one, count_goes, part_goes, exponent_on, no_exponent_on, mantissa_on_goes, is_instruction, is_mantissa, BeginsWith, Front, Takes, TakesPart, TakesUnder, TookFields, TookUnder, behind, Relayed, RelaysPart, Taken, IsThere, Run, IsFieldPart, KeepScalars}
 use Rattle.fast_draft.specs.Segments.{Segment as Drafted}
 use Rattle.fast_writer.specs.Drafts.{Marked, SpeltIn, noted}
 use Rattle.fast_writer.specs.declared.fields.Taken.TheVariants.{Part, Elsewhere, Refused}
 use Rattle.fast_writer.specs.Runs.{IsRun, written}
 use Rattle.fast_writer.specs.Quick.{RelaysEntry}
 use Rattle.fast_writer.specs.Takings.{TookThere}
-use Rattle.fast_writer.proofs.Relays.{passes_relayed, relays_under, still}
+use Rattle.std.proofs.Common.{append-nil, slice_range}
+use Rattle.fast_take.specs.Constants.{StandsAlways}
+use Rattle.fast_writer.proofs.Relays.{judged_relayed, passes_relayed, relays_under, still}
 use Rattle.fast_writer.proofs.Common.{true, Passes as FieldPasses}
 use Rattle.fast_writer.proofs.SpeltParts.{exponent_there, mantissa_taken, spelt_keeps}
 use Rattle.fast_writer.proofs.Opened.{drafts_exponent, drafts_field, drafts_mantissa}
@@ -81,6 +83,18 @@ taken_under level p d e old new bits later bytes at r q (Part there) part kept i
 taken_under level p d e old new bits later bytes at r q Elsewhere part kept is put s =
     record { same = still p is put s.same; segment = s.segment; left = s.left; run = s.run }
 taken_under level p d e old new bits later bytes at r q Refused part kept is put t = tt
+
+-- a constant that is always there leaves all as it is
+pub always_there : (level : Level) (p : FieldPart) (d : Dictionary) (bits : List Bool) (bytes : List ℕ) (r : Run)
+    → IsFieldPart p → KeepScalars d → StandsAlways p → IsRun bytes r.place r → TookUnder level p true d d bits bits bytes r.place r r
+always_there level p d bits bytes r part kept s run =
+    let e = entry_at d p.key in
+    let j = s.stands e bytes r.place run.within in
+    let none : slice_range bytes r.place r.place ≡ [] = let long : r.place - r.place ≡ 0 = omega arith in rw long refl in
+    let written_is : written bytes r ≡ written bytes r ++ slice_range bytes r.place r.place = rw none (sym (append-nil (written bytes r))) in
+    taken_under level p d d e e bits bits bytes r.place r r (Part true) part kept refl (sym (set_entry-there d p.key))
+    (taken {bit = true} {best = true} level true bits bits bytes r.place r.place r r (rw (s.needs) refl) (λ low. low) (omega arith) (j.gives.0, refl, j.gives.1.0)
+    (judged_relayed (s.usual level (drop r.place bytes)) j.gives.1.1 written_is) run (rw (s.needs) (record { left = refl; map = refl })) (rw (s.needs) refl))
 
 -- ---- fields
 

@@ -37,11 +37,11 @@ pub record IsOpenIn (out : List ℕ) (around : List Drafted) (inner : Drafted) (
 -- ---- what a writer has
 
 abbrev pub HasFinished : Writer → List Resolved → List Content → Dictionary → Type 0
-HasFinished w set ms d = IsFinished w.out.items set ms d
+HasFinished w set ms d = IsFinished w.run.draft.around.ended set ms d
 
 -- the messages before, and what is written of the one that is open
 abbrev pub HasWritten : Writer → Received → Dictionary → Type 0
-HasWritten w o d = IsOpenIn w.out.items w.run.draft.around w.run.draft.inner o d
+HasWritten w o d = IsOpenIn w.run.draft.around.ended w.run.draft.around.segments w.run.draft.inner o d
 
 abbrev pub same_bit : Bool → Bool → Bool
 same_bit true b = b
@@ -59,7 +59,7 @@ same_maps xs ys = false
 
 -- these bits are left of the maps around, and of the innermost; and the draft was told of all that were passed
 abbrev pub run_awaits : Run → List (List Bool) → List Bool → Bool
-run_awaits r around left = nat_eq r.passed 0 && (same_bits r.draft.inner.left left && same_maps (map (λ s. s.left) r.draft.around) around)
+run_awaits r around left = nat_eq r.passed 0 && (same_bits r.draft.inner.left left && same_maps (map (λ s. s.left) r.draft.around.segments) around)
 
 abbrev pub is_none : {A : Type 0} → List A → Bool
 is_none [] = true
@@ -67,7 +67,7 @@ is_none (x ∷ xs) = false
 
 -- nothing is open but a message of which only the map was read, which has these bits
 abbrev pub run_begun : Run → List Bool → Bool
-run_begun r bits = nat_eq r.passed 0 && (is_none r.draft.around && (is_none r.draft.inner.bytes && (not (is_none r.draft.inner.map)
+run_begun r bits = nat_eq r.passed 0 && (is_none r.draft.around.segments && (is_none r.draft.inner.bytes && (not (is_none r.draft.inner.map)
     && (same_bits r.draft.inner.left bits && same_bits (bits_of (groups r.draft.inner.map)) bits))))
 
 -- ---- what comes to a segment

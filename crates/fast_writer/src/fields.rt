@@ -27,7 +27,7 @@ ghost use Rattle.fast_value.specs.declared.kind.Part.TheVariants.{Exponent, Whol
 use crate::run::Run;
 use fast_dictionary::{Entries, Entry};
 use fast_field::{FieldFault, Passed};
-use fast_take::{Aside, Judged, judge_sent, pass_quickly, relay_judged};
+use fast_take::{Aside, Judged, is_always_there, judge_sent, pass_quickly, relay_judged};
 use fast_template::{FieldPart, Flat, Part, part_needs_bit};
 use fast_walk::{Fields, Leveled, take_for};
 use fast_wire::{Bits, Level};
@@ -165,7 +165,7 @@ fn take_sent<L: Leveled>(
 
 // Takes a part and its bit.
 #[inline(always)]
-#[tactic(auto, using(fast_walk::proofs::Telling::kept_hold, crate::proofs::Takings::taken_under))]
+#[tactic(auto, using(fast_walk::proofs::Telling::kept_hold, crate::proofs::Takings::taken_under, crate::proofs::Takings::always_there))]
 fn take_part<L: Leveled, E: Entries>(
     which: Part,
     entries: &mut E,
@@ -189,6 +189,10 @@ fn take_part<L: Leveled, E: Entries>(
     ensures few { run.new.passed ≤ run.old.passed + 1 }
     ensures same_keys { E.serves entries.new ≡ E.serves entries.old }
 {
+    // (most constants are: nothing is to be done)
+    if is_always_there(which, part) {
+        return Taken::Part(true);
+    }
     match entries.entry_mut(&part.key) {
         Err(_) => Taken::Refused,
         Ok(entry) => {
@@ -223,7 +227,9 @@ fn first_part(flat: &Flat) -> Option<(&FieldPart, Option<&FieldPart>)>
 }
 
 // Takes fields from the front of a body, up to what is no field, or goes by itself. Answers the instructions behind
-// them, and the mantissa that is next where only the exponent of the last one was taken.
+// them, and the mantissa that is next where only the exponent of the last one was taken. (A call of its own, so that the walk's
+// frames leave it the registers.)
+#[inline(never)]
 fn take_all<'a, L: Leveled, E: Entries>(
     rest: &'a [Flat],
     entries: &mut E,
@@ -300,8 +306,8 @@ fn take_all<'a, L: Leveled, E: Entries>(
 }
 
 // Takes fields from the front of a body, and appends what is noted of them. Answers how many instructions were passed, and puts
-// the mantissa that is next where one is. (A call of its own, whose answer comes back in registers.)
-#[inline(never)]
+// the mantissa that is next where one is. (No call of its own: the walk has one place from which it comes.)
+#[inline(always)]
 fn take_run<'a, L: Leveled, E: Entries>(
     rest: &'a [Flat],
     entries: &mut E,

@@ -28,7 +28,8 @@ impl Run {
     /// Of nothing. Takes no memory.
     #[inline(always)]
     pub(crate) fn new(alloc: Global) -> Run
-        ensures around { result.draft.around ≡ [] }
+        ensures ended { result.draft.around.ended ≡ [] }
+        ensures segments { result.draft.around.segments ≡ [] }
         ensures none { result.passed ≡ 0 }
     {
         Run {

@@ -18,10 +18,8 @@ use std::alloc::{AllocError, Global};
 /// are no part of them.
 #[derive(Drop)]
 pub struct Writer {
-    // of the message that is open
+    // of the messages that are finished and not handed on, and of the one that is open behind them
     run: Run,
-    // of the messages that are finished and not handed on
-    out: Vec<u8>,
     // what is told of a field that was taken
     aside: Aside,
 }
@@ -37,11 +35,10 @@ impl Writer {
     pub fn new(alloc: Global) -> Writer
         ensures stands { (set : List Resolved)
             → ⟦<Writer as Receiver>⟧.stands result set (handed_on [] ∷ []) finite.empty }
-        ensures empty { result.out.items ≡ [] }
+        ensures empty { result.run.draft.around.ended ≡ [] }
     {
         Writer {
             run: Run::new(alloc),
-            out: Vec::new(alloc),
             aside: Aside::new(alloc),
         }
     }
@@ -97,7 +94,7 @@ impl Receiver for Writer {
 
     #[inline(always)]
     fn finish(&mut self, _alloc: Global) -> Result<(), AllocError> {
-        self.run.draft.finish(&mut self.out)?;
+        self.run.draft.finish();
         Ok(())
     }
 
@@ -106,7 +103,7 @@ impl Receiver for Writer {
 
     #[inline(always)]
     fn is_full(&self) -> bool {
-        self.out.len() >= MANY
+        self.run.draft.ended().len() >= MANY
     }
 
     #[inline(always)]
@@ -279,9 +276,9 @@ impl Output for Writer {
     ghost use Rattle.std.proofs.Common.{inl, inr};
     ghost use Rattle.fast_writer.specs.Canonical.{IsCanonical};
 
-    ghost waiting = { λ w. w.out.items };
+    ghost waiting = { λ w. w.run.draft.around.ended };
 
-    ghost ready = { λ w. w.out.items };
+    ghost ready = { λ w. w.run.draft.around.ended };
 
     ghost left = { λ w. 0 };
 
@@ -289,12 +286,12 @@ impl Output for Writer {
 
     #[inline(always)]
     fn finished(&self) -> &[u8] {
-        &self.out
+        self.run.draft.ended()
     }
 
     #[inline(always)]
     fn hand_on(&mut self, _alloc: Global) -> Result<bool, AllocError> {
-        self.out.clear();
+        self.run.draft.forget_ended();
         Ok(false)
     }
 

@@ -6,7 +6,6 @@ use std::alloc::AllocError;
 
 #[test]
 fn segments_end_mended(rt: HostRuntime) -> Result<(), AllocError> {
-    let mut out = [0xAA].to_vec(rt.alloc())?;
     let mut draft = Draft::new(rt.alloc());
     for _ in 0..2 {
         // bits 1 0 1 0 0 0 0: the third is needless
@@ -36,14 +35,14 @@ fn segments_end_mended(rt: HostRuntime) -> Result<(), AllocError> {
         draft.push(9)?;
         draft.leave();
         draft.push(0x22)?;
-        draft.finish(&mut out)?;
+        draft.finish();
     }
     same(
         &rt,
-        out.as_slice(),
+        draft.ended(),
         &[
-            0xAA, 0xC0, 0x81, 0xC0, 1, 2, 3, 0xC0, 8, 7, 0x80, 9, 0x22, 0xC0, 0x81, 0xC0, 1, 2, 3,
-            0xC0, 8, 7, 0x80, 9, 0x22,
+            0xC0, 0x81, 0xC0, 1, 2, 3, 0xC0, 8, 7, 0x80, 9, 0x22, 0xC0, 0x81, 0xC0, 1, 2, 3, 0xC0,
+            8, 7, 0x80, 9, 0x22,
         ],
     );
     Ok(())
@@ -51,23 +50,22 @@ fn segments_end_mended(rt: HostRuntime) -> Result<(), AllocError> {
 
 #[test]
 fn long_maps_end_mended(rt: HostRuntime) -> Result<(), AllocError> {
-    let mut out = Vec::new(rt.alloc());
     let mut draft = Draft::new(rt.alloc());
     // the last bit that is 1 is the nineteenth
     draft.begin(&[0x01, 0x00, 0x84])?;
     draft.pass(19);
     draft.push(5)?;
-    draft.finish(&mut out)?;
+    draft.finish();
     // the same where that was not asked for
     draft.begin(&[0x01, 0x00, 0x84])?;
     draft.pass(18);
     draft.push(6)?;
-    draft.finish(&mut out)?;
+    draft.finish();
     // a group of zeros behind the bits asked for
     draft.begin(&[0x40, 0x80])?;
     draft.pass(9);
     draft.append_slice(&[7, 8])?;
-    draft.finish(&mut out)?;
+    draft.finish();
     // the eighth bit is needless, and the third group was not asked for
     draft.begin(&[0x40, 0x41, 0xC0])?;
     draft.pass(7);
@@ -75,19 +73,54 @@ fn long_maps_end_mended(rt: HostRuntime) -> Result<(), AllocError> {
     draft.pass(6);
     draft.append(&[0; 40], 1, 2)?;
     draft.append(&[9; 40], 0, 17)?;
-    draft.finish(&mut out)?;
+    draft.finish();
     // no more bits than the map has
     draft.begin(&[0xFF])?;
     draft.pass(100);
     draft.clear();
-    draft.finish(&mut out)?;
+    draft.finish();
     same(
         &rt,
-        out.as_slice(),
+        draft.ended(),
         &[
             0x01, 0x00, 0x84, 5, 0x81, 6, 0xC0, 7, 8, 0x40, 0x81, 0, 9, 9, 9, 9, 9, 9, 9, 9, 9, 9,
             9, 9, 9, 9, 9, 9, 9, 0xFF,
         ],
     );
+    Ok(())
+}
+
+#[test]
+fn what_is_open_outlasts_what_ended(rt: HostRuntime) -> Result<(), AllocError> {
+    let mut draft = Draft::new(rt.alloc());
+    draft.begin(&[0x80])?;
+    draft.append_slice(&[1, 2, 3])?;
+    draft.finish();
+    draft.begin(&[0xFF])?;
+    draft.pass(1);
+    draft.push(4)?;
+    draft.enter(&[0xE0])?;
+    draft.push(5)?;
+    same(&rt, draft.ended(), &[0x80, 1, 2, 3]);
+    draft.forget_ended();
+    same(&rt, draft.ended(), &[]);
+    // the maps are mended where they stand now
+    draft.pass(1);
+    draft.clear();
+    draft.leave();
+    draft.push(6)?;
+    // nothing ended meanwhile
+    draft.forget_ended();
+    draft.finish();
+    same(&rt, draft.ended(), &[0xC0, 4, 0xC0, 5, 6]);
+    // one that is begun and not ended is no part of them
+    draft.begin(&[0x80])?;
+    draft.push(7)?;
+    draft.begin(&[0x81])?;
+    draft.push(8)?;
+    same(&rt, draft.ended(), &[0xC0, 4, 0xC0, 5, 6]);
+    draft.pass(7);
+    draft.finish();
+    same(&rt, draft.ended(), &[0xC0, 4, 0xC0, 5, 6, 0x81, 8]);
     Ok(())
 }

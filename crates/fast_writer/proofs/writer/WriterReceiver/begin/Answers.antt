@@ -9,7 +9,7 @@ returns-clause-goes g c =
     let h = begun_parts c.args.self.now.run c.requires.begun.0 c.requires.begun.2 in
     let relays = rw (c.in-Some.is) at c.in_ok-id.ensures.relays in (
       relays.took,
-      λ set ms members. drafts_opened (c.relay_identifier.ensures.around ∙ h.around) (begun_drafted h c.is_sound.ensures) (rw (named) at relays.took.entry) (rw (named) at relays.spelt),
+      λ set ms members. rw (c.relay_identifier.ensures.around) (drafts_opened h.around (begun_drafted h c.is_sound.ensures) (rw (named) at relays.took.entry) (rw (named) at relays.spelt)),
     )
 
 pub returns-clause-awaits : goal.returns-clause-awaits
@@ -18,5 +18,5 @@ returns-clause-awaits g c = λ b is was.
     awaits c.relay_identifier.new.run [] (after_bit (part_needs_bit c.args.identifier.now) b) (record {
       none = c.relay_identifier.ensures.none;
       left = c.in_ok-id.ensures.relays.spelt.marked.left ∙ ap (after_bit (part_needs_bit c.args.identifier.now)) h.left;
-      around_is = ap lefts (c.relay_identifier.ensures.around ∙ h.around);
+      around_is = ap lefts (ap (λ o. o.segments) c.relay_identifier.ensures.around ∙ h.around);
     })

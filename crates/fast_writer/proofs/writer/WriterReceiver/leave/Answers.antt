@@ -13,3 +13,9 @@ pub returns-clause-awaits : goal.returns-clause-awaits
 returns-clause-awaits c =
     let r = c.args.self.now.run in
     outside r (record { draft = c.leave.new.self; from = r.from; place = r.place; passed = r.passed }) refl c.leave.ensures.left
+
+pub returns-clause-keeps : goal.returns-clause-keeps
+returns-clause-keeps c = λ set ms d h.
+    let l = last_around c.args.self.now.run c.requires.awaits in
+    let e = c.leave.ensures.left l.0 l.1 l.2 in
+    rw (e.0) h
