@@ -127,10 +127,10 @@ was_judged (Behind n) p some h = h
 was_judged (BehindTwo n) p some h = h
 
 -- what was judged, laid aside and told
-pub told_took : (level : Level) (i : FieldPart) (old new : Entry) (bytes : List ℕ) (at : ℕ) (j : Judged) (a : Aside) (r : Option Took) → ReadsAsUsual level i (drop at bytes) → IsJudged i old new bytes at j → IfJudged j (LaysAside i old bytes at a.unkept)
+pub told_took : (level : Level) (i : FieldPart) (old new : Entry) (bytes : List ℕ) (at : ℕ) (j : Judged) (a : Aside) (r : Option Took) → (j ≢ Elsewhere → ReadsAsUsual level i (drop at bytes)) → IsJudged i old new bytes at j → IfJudged j (LaysAside i old bytes at a.unkept)
     → MatchOption r (j ≡ Elsewhere) (λ t. j ≢ Elsewhere) → IfSome r (λ t. (v : Scalar) × IsTakenAs Usual i old new true bytes at a t (Some v)) → MatchOption r (new ≡ old) (IsTook level i old new true bytes at a)
 told_took level i old new bytes at j a None usual was lays is taken = rw is at was
-told_took level i old new bytes at j a (Some t) usual was lays some taken = usually_took usual (lies_took i old new bytes at a t taken.0 (was_judged j _ some lays) taken.1)
+told_took level i old new bytes at j a (Some t) usual was lays some taken = usually_took (usual some) (lies_took i old new bytes at a t taken.0 (was_judged j _ some lays) taken.1)
 
 -- ---- whatever its value is
 
@@ -151,7 +151,7 @@ unfolding row_at
 constant_row level Operator.Constant i e bytes is = refl
 constant_row level o i e bytes is = absurd cc
 
-constant_usual : (level : Level) (i : FieldPart) (bytes : List ℕ) → i.operator ≡ Operator.Constant → ReadsAsUsual level i bytes
+pub constant_usual : (level : Level) (i : FieldPart) (bytes : List ℕ) → i.operator ≡ Operator.Constant → ReadsAsUsual level i bytes
 unfolding field_at
 constant_usual level i bytes is = λ e more. rw (constant_row level i.operator i e (bytes ++ more) is) refl
 

@@ -29,4 +29,4 @@ pub mod Telling
 mod Cleared
 pub mod Within
 mod AtOnce
-mod Beginnings
+mod LevelsAlike

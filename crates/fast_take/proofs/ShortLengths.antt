@@ -1,5 +1,6 @@
 -- A length in one byte that no entry keeps, and a number that its entry has afterwards.
-use Rattle.fast_take.proofs.Common.{◌≡◌, ℕ, pos, ◌+◌, ◌<◌, true, false, List, ◌∷◌, [], length, drop, get_or, refl, sym, subst, arith, Some, None, UInt32, Entry, Assigned, Plain, Copy, Length, Presence, Mandatory, Optional, FieldPart, IsFieldNumber, LeavesWhole, zero_byte, RelaysByte, StandsByte, left_out_of, Judges, of_integer, Kind, le-leb}
+use Rattle.fast_take.proofs.Common.{◌≡◌, ℕ, false_from_ne_true, scalar_eq-exact, pos, ◌+◌, ◌<◌, true, false, List, ◌∷◌, [], length, drop, get_or, refl, sym, subst, arith, Some, None, UInt32, Entry, Assigned, Plain, Copy, Length, Presence, Mandatory, Optional, FieldPart, IsFieldNumber, LeavesWhole, zero_byte, RelaysByte, StandsByte, left_out_of, Judges, of_integer, Kind, le-leb}
+use Rattle.fast_value.specs.contracts.scalar.ScalarPartialEq.TheImpl as scalar_eq
 use Rattle.fast_value.specs.declared.kind.Part.TheVariants.{Whole}
 use Rattle.fast_value.specs.declared.scalar.Scalar.TheVariants.{U32}
 use Rattle.fast_field.proofs.FieldsWithin.{uint_in_range}
@@ -25,6 +26,16 @@ length_relays i bytes at n fits there operator kind part is e =
 pub null_length_relays : (i : FieldPart) (bytes : List ℕ) (at : ℕ) → at < length bytes → i.operator ≡ Plain → i.presence ≡ Optional → drop at bytes ≡ 128 ∷ drop (at + 1) bytes → RelaysByte i None bytes at
 null_length_relays i bytes at there operator optional null e =
     rw (null_byte bytes at there null, null) (null_judges true i e e (drop (at + 1) bytes) optional (λ none. absurd cc) (record { entry = rw (operator) refl; left_out = rw (operator) refl }))
+
+differ : (m n : ℕ) → (m ≡ n → ⊥) → (scalar_eq.eq-value).it (U32 m) (U32 n) ≡ false
+differ m n apart = false_from_ne_true _ (λ e. apart (same_number m n (scalar_eq-exact (U32 m) (U32 n) e)))
+  where
+    same_number : (m n : ℕ) → U32 m ≡ U32 n → m ≡ n
+    same_number m n e = cc
+
+-- bit 0 gives another number than the one that comes
+pub other_number : (i : FieldPart) (old : Entry) (m n : ℕ) → i.operator ≡ Copy → i.kind ≡ UInt32 → old ≡ Assigned (U32 m) → (m ≡ n → ⊥) → left_out_of i.operator i old (Some (U32 n)) ≡ false
+other_number i old m n operator kind is apart = rw (operator, kind, is) (differ m n apart)
 
 pub number_stands : (i : FieldPart) (old new : Entry) (bytes : List ℕ) (at n : ℕ) → ((k : ℕ) → get_or bytes k 0 < 256) → at < length bytes → i.operator ≡ Copy → i.kind ≡ UInt32 → i.part ≡ Whole → i.presence ≡ Mandatory
     → get_or bytes at 0 ≡ 128 + n → left_out_of i.operator i old (Some (U32 n)) ≡ false → new ≡ Assigned (U32 n) → StandsByte i old new n bytes at

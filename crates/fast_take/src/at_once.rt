@@ -4,7 +4,7 @@
 ghost use Rattle.std.specs.Prelude.{◌≡◌, ◌≢◌, ◌≤◌, [], ℕ, List, Some, false, true, length, drop, IfSome, IsTrue, MatchOption};
 ghost use Rattle.fast_value.specs.Scalar.{is_integer, of_integer};
 ghost use Rattle.fast_value.specs.declared.kind.Kind as kind_type;
-ghost use Rattle.fast_value.specs.declared.kind.Kind.TheVariants.{Ascii, Decimal};
+ghost use Rattle.fast_value.specs.declared.kind.Kind.TheVariants.{Ascii};
 ghost use Rattle.fast_value.specs.declared.kind.Part.TheVariants as part_type;
 ghost use Rattle.fast_value.specs.declared.scalar.Scalar.{Scalar as ScalarOf};
 ghost use Rattle.fast_template.specs.declared.resolved.FieldPart.{FieldPart as PartOf};
@@ -17,25 +17,20 @@ ghost use Rattle.fast_field.specs.Within.{HoldsScalar};
 ghost use Rattle.fast_take.specs.Best.{HasBest, form_of};
 ghost use Rattle.fast_take.specs.Judged.{IsJudged};
 ghost use Rattle.fast_take.specs.Numbers.{KeepsNothing};
-ghost use Rattle.fast_take.specs.Texts.{IsVectorKind};
 ghost use Rattle.fast_take.specs.LaidAside.{IfJudged, LaysAside};
 ghost use Rattle.fast_take.specs.Takes.{IsTakenAs, IsTook, best_bit, best_form, first_of, is_there, place_of, value_aside};
 ghost use Rattle.fast_take.specs.declared.took.Took.TheVariants as took_type;
-ghost use Rattle.fast_take.specs.declared.took.Unkept.{Unkept as UnkeptOf};
 
 use crate::best::{Best, judge_other};
 use crate::characters::find_plain;
 use crate::general::keeps_nothing;
-use crate::judged::{Judged, is_sent_unsigned, judge_spelt, read_number};
-use crate::judged_decimal::judge_decimal;
-use crate::judged_string::{judge_characters, judge_string};
-use crate::judged_vector::judge_vector;
+use crate::judged::{Judged, is_refused, is_sent_unsigned, judge_long, judge_spelt, read_number};
+use crate::judged_string::judge_characters;
 use crate::null::judge_null;
-use crate::strictly::is_read_as_usual;
 use crate::took::{Aside, Took, Unkept};
 use fast_dictionary::{Entry, Spare};
 use fast_field::{is_field_number, reads_as_usual};
-use fast_template::{FieldPart, Kind, Operator};
+use fast_template::{FieldPart, Kind, Operator, Part};
 use fast_wire::{Level, Span};
 
 /// A number of an integer type, as it lies aside.
@@ -82,6 +77,7 @@ fn judge_as(
     kind: Kind,
     instr: &FieldPart,
     entry: &mut Entry,
+    level: Level,
     bytes: &[u8],
     at: usize,
     aside: &mut Aside,
@@ -89,7 +85,9 @@ fn judge_as(
     requires place { at ≤ length bytes.now }
     requires kind { kind ≡ instr.now.kind }
     requires integer { IsTrue (is_integer kind) }
+    requires part { IsFieldPart instr.now }
     ensures judged { IsJudged instr.now entry.old entry.new bytes.now at result }
+    ensures usual { result ≢ Judged.Elsewhere → ReadsAsUsual level instr.now (drop at bytes.now) }
     ensures aside { IfJudged result (LaysAside instr.now entry.old bytes.now at aside.new.unkept) }
 {
     let unsigned = is_sent_unsigned(kind, instr.operator);
@@ -100,7 +98,7 @@ fn judge_as(
         return Judged::Elsewhere;
     }
     judge_spelt(
-        unsigned, instr.part, kind, instr, entry, number, bytes, at, next,
+        unsigned, instr.part, kind, instr, entry, number, level, bytes, at, next,
     )
 }
 
@@ -109,19 +107,22 @@ fn judge_as(
 fn judge_integer(
     instr: &FieldPart,
     entry: &mut Entry,
+    level: Level,
     bytes: &[u8],
     at: usize,
     aside: &mut Aside,
 ) -> Judged
     requires place { at ≤ length bytes.now }
+    requires part { IsFieldPart instr.now }
     ensures judged { IsJudged instr.now entry.old entry.new bytes.now at result }
+    ensures usual { result ≢ Judged.Elsewhere → ReadsAsUsual level instr.now (drop at bytes.now) }
     ensures aside { IfJudged result (LaysAside instr.now entry.old bytes.now at aside.new.unkept) }
 {
     match instr.kind {
-        Kind::UInt32 => judge_as(Kind::UInt32, instr, entry, bytes, at, aside),
-        Kind::Int32 => judge_as(Kind::Int32, instr, entry, bytes, at, aside),
-        Kind::UInt64 => judge_as(Kind::UInt64, instr, entry, bytes, at, aside),
-        Kind::Int64 => judge_as(Kind::Int64, instr, entry, bytes, at, aside),
+        Kind::UInt32 => judge_as(Kind::UInt32, instr, entry, level, bytes, at, aside),
+        Kind::Int32 => judge_as(Kind::Int32, instr, entry, level, bytes, at, aside),
+        Kind::UInt64 => judge_as(Kind::UInt64, instr, entry, level, bytes, at, aside),
+        Kind::Int64 => judge_as(Kind::Int64, instr, entry, level, bytes, at, aside),
         Kind::Decimal | Kind::Ascii | Kind::Unicode | Kind::Bytes => Judged::Elsewhere,
     }
 }
@@ -131,6 +132,7 @@ fn judge_integer(
 fn judge_text_aside(
     instr: &FieldPart,
     entry: &mut Entry,
+    level: Level,
     bytes: &[u8],
     at: usize,
     aside: &mut Aside,
@@ -140,98 +142,82 @@ fn judge_text_aside(
     requires kind { instr.now.kind ≡ Ascii }
     requires keeps { KeepsNothing instr.now.operator }
     ensures judged { IsJudged instr.now entry.old entry.new bytes.now at result }
+    ensures usual { result ≢ Judged.Elsewhere → ReadsAsUsual level instr.now (drop at bytes.now) }
     ensures aside { IfJudged result (LaysAside instr.now entry.old bytes.now at aside.new.unkept) }
 {
-    match find_plain(bytes, at) {
-        Some((first, next)) => {
-            aside.unkept = Unkept::Units(Span {
-                start: first,
-                end: next,
-            });
-            judge_characters(&mut aside.spare, instr, entry, bytes, at, first, next)
-        }
-        None => Judged::Elsewhere,
+    let Some((first, next)) = find_plain(bytes, at) else {
+        return Judged::Elsewhere;
+    };
+    if is_refused(level, at, first) {
+        return Judged::Elsewhere;
     }
+    aside.unkept = Unkept::Units(Span {
+        start: first,
+        end: next,
+    });
+    judge_characters(&mut aside.spare, instr, entry, bytes, at, first, next)
 }
 
-/// Judges an ASCII string, and lays it aside where no entry keeps it.
+/// Judges a string, a vector or a decimal, and lays aside an ASCII string that no entry keeps.
 #[inline(always)]
-fn judge_text(
+fn judge_other_kind(
     instr: &FieldPart,
     entry: &mut Entry,
+    level: Level,
     bytes: &[u8],
     at: usize,
     aside: &mut Aside,
 ) -> Judged
     requires place { at ≤ length bytes.now }
-    requires part { instr.now.part ≡ part_type.Whole }
-    requires kind { instr.now.kind ≡ Ascii }
+    requires part { IsFieldPart instr.now }
+    requires whole { instr.now.part ≡ part_type.Whole }
     requires entry { HoldsScalar entry.old }
     ensures judged { IsJudged instr.now entry.old entry.new bytes.now at result }
+    ensures usual { result ≢ Judged.Elsewhere → ReadsAsUsual level instr.now (drop at bytes.now) }
     ensures aside { IfJudged result (LaysAside instr.now entry.old bytes.now at aside.new.unkept) }
 {
-    if keeps_nothing(instr.operator) {
-        judge_text_aside(instr, entry, bytes, at, aside)
-    } else {
-        judge_string(&mut aside.spare, instr, entry, bytes, at)
+    if !keeps_nothing(instr.operator) {
+        return judge_long(
+            Part::Whole,
+            &mut aside.spare,
+            instr,
+            entry,
+            level,
+            bytes,
+            at,
+        );
+    }
+    match instr.kind {
+        Kind::Ascii => judge_text_aside(instr, entry, level, bytes, at, aside),
+        _ => Judged::Elsewhere,
     }
 }
 
-/// Judges a decimal that its entry keeps.
+/// Judges what was sent, by its type, and lays its value aside where no entry keeps it. Elsewhere: nothing has changed, and
+/// another way tells; so it is at the strict level where a group is needless.
 #[inline(always)]
-fn judge_kept_decimal(instr: &FieldPart, entry: &mut Entry, bytes: &[u8], at: usize) -> Judged
-    requires place { at ≤ length bytes.now }
-    requires part { instr.now.part ≡ part_type.Whole }
-    requires kind { instr.now.kind ≡ Decimal }
-    ensures judged { IsJudged instr.now entry.old entry.new bytes.now at result }
-    ensures aside { (u : UnkeptOf) → IfJudged result (LaysAside instr.now entry.old bytes.now at u) }
-{
-    if keeps_nothing(instr.operator) {
-        Judged::Elsewhere
-    } else {
-        judge_decimal(instr, entry, bytes, at)
-    }
-}
-
-/// Judges a Unicode string or a byte vector that its entry keeps.
-#[inline(always)]
-fn judge_kept_vector(
-    spare: &mut Spare,
+fn judge(
     instr: &FieldPart,
     entry: &mut Entry,
+    level: Level,
     bytes: &[u8],
     at: usize,
+    aside: &mut Aside,
 ) -> Judged
-    requires place { at ≤ length bytes.now }
-    requires part { instr.now.part ≡ part_type.Whole }
-    requires kind { IsVectorKind instr.now.kind }
-    requires entry { HoldsScalar entry.old }
-    ensures judged { IsJudged instr.now entry.old entry.new bytes.now at result }
-    ensures aside { (u : UnkeptOf) → IfJudged result (LaysAside instr.now entry.old bytes.now at u) }
-{
-    if keeps_nothing(instr.operator) {
-        Judged::Elsewhere
-    } else {
-        judge_vector(spare, instr, entry, bytes, at)
-    }
-}
-
-/// Judges what was sent, by its type, and lays its value aside where no entry keeps it.
-#[inline(always)]
-fn judge(instr: &FieldPart, entry: &mut Entry, bytes: &[u8], at: usize, aside: &mut Aside) -> Judged
     requires place { at ≤ length bytes.now }
     requires part { IsFieldPart instr.now }
     requires entry { HoldsScalar entry.old }
     ensures judged { IsJudged instr.now entry.old entry.new bytes.now at result }
+    ensures usual { result ≢ Judged.Elsewhere → ReadsAsUsual level instr.now (drop at bytes.now) }
     ensures aside { IfJudged result (LaysAside instr.now entry.old bytes.now at aside.new.unkept) }
 {
     match instr.kind {
         Kind::UInt32 | Kind::Int32 | Kind::UInt64 | Kind::Int64 => {
-            judge_integer(instr, entry, bytes, at, aside)
+            judge_integer(instr, entry, level, bytes, at, aside)
         }
-        Kind::Ascii => judge_text(instr, entry, bytes, at, aside),
-        Kind::Decimal => judge_kept_decimal(instr, entry, bytes, at),
-        Kind::Unicode | Kind::Bytes => judge_kept_vector(&mut aside.spare, instr, entry, bytes, at),
+        Kind::Decimal | Kind::Ascii | Kind::Unicode | Kind::Bytes => {
+            judge_other_kind(instr, entry, level, bytes, at, aside)
+        }
     }
 }
 
@@ -344,10 +330,7 @@ pub(crate) fn take_judged(
     ensures { MatchOption result (entry.new ≡ entry.old)
         (IsTook level instr.now entry.old entry.new true bytes.now at aside.new) }
 {
-    if !is_read_as_usual(level, instr, bytes, at) {
-        return None;
-    }
-    let judged = judge(instr, entry, bytes, at, aside);
+    let judged = judge(instr, entry, level, bytes, at, aside);
     tell_judged(judged, bytes, at, aside)
 }
 

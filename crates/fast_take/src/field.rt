@@ -16,7 +16,6 @@ ghost use Rattle.fast_take.specs.Takes.{IsFaulted, IsStopped, IsTakenAs, IsTook}
 use crate::at_once::{take_judged, take_respelled, tell_judged};
 use crate::general::{take_generally, take_left_out};
 use crate::judged::{Judged, judge_constant, judge_field};
-use crate::strictly::is_read_as_usual;
 use crate::taken_decimal::take_decimal;
 use crate::taken_integer::take_integer;
 use crate::taken_vector::take_vector;
@@ -186,11 +185,7 @@ pub fn judge_sent(
     ensures judged { IsJudged instr.now entry.old entry.new bytes.now at result }
     ensures usual { result ≢ Judged.Elsewhere → ReadsAsUsual level instr.now (drop at bytes.now) }
 {
-    if is_read_as_usual(level, instr, bytes, at) {
-        judge_field(which, spare, instr, entry, bytes, at)
-    } else {
-        Judged::Elsewhere
-    }
+    judge_field(which, spare, instr, entry, level, bytes, at)
 }
 
 /// What became of a field that was sent and judged; one that was not is taken now, in the way that takes any, and its entry

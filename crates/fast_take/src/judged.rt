@@ -2,11 +2,13 @@
 //! and nothing is written. Here are integers and constants, and the way to the others; what is not judged here goes by
 //! `judge_other`, or the general way.
 
-ghost use Rattle.std.specs.Prelude.{◌≡◌, ◌≤◌, ◌+◌, Some, true, false, not, length, drop, slice_range, IfSome, ⊤};
-ghost use Rattle.fast_value.specs.Scalar.{of_integer};
+ghost use Rattle.std.specs.Prelude.{◌≡◌, ◌≢◌, ◌≤◌, ◌+◌, Some, true, false, not, length, drop, slice_range, IfSome, IsTrue, ⊤};
+ghost use Rattle.fast_value.specs.Scalar.{is_integer, of_integer};
 ghost use Rattle.fast_value.specs.declared.kind.Operator.TheVariants as operator_type;
 ghost use Rattle.fast_value.specs.declared.kind.Part.TheVariants as part_type;
 ghost use Rattle.fast_wire.specs.Entity.{IsEntity};
+ghost use Rattle.fast_wire.specs.declared.level.Level.TheVariants.{Strict};
+ghost use Rattle.fast_field.specs.AsUsual.{ReadsAsUsual};
 ghost use Rattle.fast_field.specs.Numbers.{IsFieldNumber, IsNumber, Predicts};
 ghost use Rattle.fast_field.specs.Parts.{IsFieldPart};
 ghost use Rattle.fast_field.specs.Planning.{is_same};
@@ -18,14 +20,14 @@ ghost use Rattle.fast_take.specs.Numbers.{SpellsWhole, Spelt};
 
 use crate::integers::{is_overlong, is_unsigned, read_signed, read_unsigned};
 use crate::judged_decimal::judge_decimal;
-use crate::judged_string::judge_string;
-use crate::judged_vector::judge_vector;
+use crate::judged_string::{judge_string, judge_string_strictly};
+use crate::judged_vector::{judge_vector, judge_vector_strictly};
 use crate::passed::can_begin;
 use crate::short_number::ShortInteger;
 use fast_dictionary::{Entry, Spare};
 use fast_field::set_number;
 use fast_template::{FieldPart, Kind, Operator, Part, Presence};
-use fast_wire::{overlong_signed, overlong_unsigned};
+use fast_wire::{Level, overlong_signed, overlong_unsigned};
 
 /// What the best form is of a field that was read under bit 1, and the place behind what was read.
 #[derive(Clone, Copy, Debug, PartialEq, Eq, Drop)]
@@ -459,6 +461,14 @@ fn behind(at: usize, first: usize, next: usize) -> Judged
     }
 }
 
+/// Whether a level refuses what stands in front of the best form: the strict one refuses any needless group.
+#[inline(always)]
+pub(crate) fn is_refused(level: Level, at: usize, first: usize) -> bool
+    ensures { result ≡ false → level ≡ Strict → first ≡ at }
+{
+    level == Level::Strict && first != at
+}
+
 /// What is answered of a field by the bit of its best form: with bit 1 that begins at `first`.
 #[inline(always)]
 pub(crate) fn answer(bit: Option<bool>, at: usize, first: usize, next: usize) -> Judged
@@ -529,7 +539,7 @@ fn kind_of(which: Part, instr: &FieldPart) -> Kind
 }
 
 /// Judges an integer that was read under bit 1, from one place to another, and makes the entry the one afterwards. Elsewhere:
-/// nothing has changed, and another way tells.
+/// nothing has changed, and another way tells; so it is at the strict level where a group is needless.
 #[inline(always)]
 pub(crate) fn judge_spelt(
     unsigned: bool,
@@ -538,6 +548,7 @@ pub(crate) fn judge_spelt(
     instr: &FieldPart,
     entry: &mut Entry,
     number: i64,
+    level: Level,
     bytes: &[u8],
     at: usize,
     next: usize,
@@ -548,12 +559,16 @@ pub(crate) fn judge_spelt(
     requires kind { kind ≡ instr.now.kind }
     requires sign { unsigned ≡ sent_unsigned instr.now.operator kind }
     requires spelt { Spelt unsigned instr.now.presence (drop at bytes.now) number (drop next bytes.now) }
-    ensures { IsJudged instr.now entry.old entry.new bytes.now at result }
+    ensures judged { IsJudged instr.now entry.old entry.new bytes.now at result }
+    ensures short { result ≢ Judged.Elsewhere → level ≡ Strict
+        → overlong_number unsigned (slice_range bytes.now at next) ≡ false }
 {
     if stands_shortest(unsigned, instr.presence, number, bytes, at, next) {
-        judge_number(kind, which, instr, entry, number, next)
-    } else {
-        judge_behind(unsigned, which, kind, instr, entry, number, bytes, at, next)
+        return judge_number(kind, which, instr, entry, number, next);
+    }
+    match level {
+        Level::Usual => judge_behind(unsigned, which, kind, instr, entry, number, bytes, at, next),
+        Level::Strict => Judged::Elsewhere,
     }
 }
 
@@ -564,20 +579,26 @@ fn judge_integer(
     kind: Kind,
     instr: &FieldPart,
     entry: &mut Entry,
+    level: Level,
     bytes: &[u8],
     at: usize,
 ) -> Judged
     requires place { at ≤ length bytes.now }
-    requires part { which ≡ instr.now.part }
+    requires which { which ≡ instr.now.part }
     requires kind { kind ≡ instr.now.kind }
-    ensures { IsJudged instr.now entry.old entry.new bytes.now at result }
+    requires integer { IsTrue (is_integer kind) }
+    requires part { IsFieldPart instr.now }
+    ensures judged { IsJudged instr.now entry.old entry.new bytes.now at result }
+    ensures usual { result ≢ Judged.Elsewhere → ReadsAsUsual level instr.now (drop at bytes.now) }
 {
     // read once for all operators, so that the whole is small enough to be inlined
     let unsigned = is_sent_unsigned(kind, instr.operator);
     let Some((number, next)) = read_number(unsigned, instr.presence, bytes, at) else {
         return Judged::Elsewhere;
     };
-    judge_spelt(unsigned, which, kind, instr, entry, number, bytes, at, next)
+    judge_spelt(
+        unsigned, which, kind, instr, entry, number, level, bytes, at, next,
+    )
 }
 
 /// Judges a string, a vector or a decimal, which is no part of another field.
@@ -587,19 +608,28 @@ pub(crate) fn judge_long(
     spare: &mut Spare,
     instr: &FieldPart,
     entry: &mut Entry,
+    level: Level,
     bytes: &[u8],
     at: usize,
 ) -> Judged
     requires place { at ≤ length bytes.now }
-    requires part { which ≡ instr.now.part }
+    requires which { which ≡ instr.now.part }
+    requires part { IsFieldPart instr.now }
     requires kept { HoldsScalar entry.now }
-    ensures { IsJudged instr.now entry.old entry.new bytes.now at result }
+    ensures judged { IsJudged instr.now entry.old entry.new bytes.now at result }
+    ensures usual { result ≢ Judged.Elsewhere → ReadsAsUsual level instr.now (drop at bytes.now) }
 {
     match which {
         Part::Whole => match instr.kind {
-            Kind::Ascii => judge_string(spare, instr, entry, bytes, at),
-            Kind::Unicode | Kind::Bytes => judge_vector(spare, instr, entry, bytes, at),
-            Kind::Decimal => judge_decimal(instr, entry, bytes, at),
+            Kind::Ascii => match level {
+                Level::Usual => judge_string(spare, instr, entry, bytes, at),
+                Level::Strict => judge_string_strictly(spare, instr, entry, bytes, at),
+            },
+            Kind::Unicode | Kind::Bytes => match level {
+                Level::Usual => judge_vector(spare, instr, entry, bytes, at),
+                Level::Strict => judge_vector_strictly(spare, instr, entry, bytes, at),
+            },
+            Kind::Decimal => judge_decimal(instr, entry, level, bytes, at),
             Kind::UInt32 | Kind::Int32 | Kind::UInt64 | Kind::Int64 => Judged::Elsewhere,
         },
         Part::Exponent | Part::Mantissa | Part::Length => Judged::Elsewhere,
@@ -614,6 +644,7 @@ pub(crate) fn judge_field(
     spare: &mut Spare,
     instr: &FieldPart,
     entry: &mut Entry,
+    level: Level,
     bytes: &[u8],
     at: usize,
 ) -> Judged
@@ -621,17 +652,18 @@ pub(crate) fn judge_field(
     requires which { which ≡ instr.now.part }
     requires part { IsFieldPart instr.now }
     requires kept { HoldsScalar entry.now }
-    ensures { IsJudged instr.now entry.old entry.new bytes.now at result }
+    ensures judged { IsJudged instr.now entry.old entry.new bytes.now at result }
+    ensures usual { result ≢ Judged.Elsewhere → ReadsAsUsual level instr.now (drop at bytes.now) }
 {
     if instr.operator == Operator::Constant {
         return judge_constant(which, instr, entry, bytes, at);
     }
     match kind_of(which, instr) {
         kind @ (Kind::UInt32 | Kind::Int32 | Kind::UInt64 | Kind::Int64) => {
-            judge_integer(which, kind, instr, entry, bytes, at)
+            judge_integer(which, kind, instr, entry, level, bytes, at)
         }
         Kind::Decimal | Kind::Ascii | Kind::Unicode | Kind::Bytes => {
-            judge_long(which, spare, instr, entry, bytes, at)
+            judge_long(which, spare, instr, entry, level, bytes, at)
         }
     }
 }

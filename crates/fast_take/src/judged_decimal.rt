@@ -1,13 +1,15 @@
 //! Decimals that are judged as they stand: whether their bytes are the best form of the value, or bit 0 is. The entry goes
 //! on, and nothing is written. What is not served here goes the general way.
 
-ghost use Rattle.std.specs.Prelude.{◌≡◌, ◌≤◌, ◌+◌, ◌+ℤ◌, true, false, length, IfNone, IfSome};
+ghost use Rattle.std.specs.Prelude.{◌≡◌, ◌≢◌, ◌≤◌, ◌+◌, ◌+ℤ◌, true, false, drop, length, IfNone, IfSome};
 ghost use Rattle.fast_value.specs.Scalar.{exponent_in_range, in_range};
 ghost use Rattle.fast_value.specs.declared.kind.Kind.TheVariants as kind_type;
 ghost use Rattle.fast_value.specs.declared.kind.Operator.TheVariants as operator_type;
 ghost use Rattle.fast_value.specs.declared.kind.Part.TheVariants as part_type;
 ghost use Rattle.fast_value.specs.declared.scalar.Scalar.TheVariants as scalar;
 ghost use Rattle.fast_dictionary.specs.declared.entry.Entry.TheVariants as entry_type;
+ghost use Rattle.fast_field.specs.AsUsual.{ReadsAsUsual};
+ghost use Rattle.fast_field.specs.Parts.{IsFieldPart};
 ghost use Rattle.fast_take.specs.Judged.{IsJudged, Leaves, PairGives, PairStandsFrom, StandsAt};
 ghost use Rattle.fast_take.specs.Numbers.{SpellsWhole};
 
@@ -15,6 +17,7 @@ use crate::judged::{Judged, answer, read_behind, read_shortest};
 use crate::one_byte::read_removal;
 use fast_dictionary::Entry;
 use fast_template::{FieldPart, Operator, Presence, Scalar};
+use fast_wire::Level;
 
 /// The numbers of a decimal.
 #[derive(Clone, Copy, PartialEq, Eq, Drop)]
@@ -203,16 +206,27 @@ fn judge_pair(instr: &FieldPart, entry: &mut Entry, exponent: i64, mantissa: i64
 }
 
 /// Judges a decimal in one piece that is read under bit 1, and makes the entry the one afterwards. It takes no memory.
-/// Elsewhere: nothing has changed, and another way tells.
+/// Elsewhere: nothing has changed, and another way tells; so it is at the strict level where a group is needless.
 #[inline(never)]
-pub(crate) fn judge_decimal(instr: &FieldPart, entry: &mut Entry, bytes: &[u8], at: usize) -> Judged
+pub(crate) fn judge_decimal(
+    instr: &FieldPart,
+    entry: &mut Entry,
+    level: Level,
+    bytes: &[u8],
+    at: usize,
+) -> Judged
     requires place { at ≤ length bytes.now }
     requires part { instr.now.part ≡ part_type.Whole }
     requires kind { instr.now.kind ≡ kind_type.Decimal }
-    ensures { IsJudged instr.now entry.old entry.new bytes.now at result }
+    requires typed { IsFieldPart instr.now }
+    ensures judged { IsJudged instr.now entry.old entry.new bytes.now at result }
+    ensures usual { result ≢ Judged.Elsewhere → ReadsAsUsual level instr.now (drop at bytes.now) }
 {
     if let Some((exponent, mantissa, next)) = read_pair(instr.presence, bytes, at) {
         return answer(judge_pair(instr, entry, exponent, mantissa), at, at, next);
+    }
+    if level == Level::Strict {
+        return Judged::Elsewhere;
     }
     match read_pair_behind(instr.presence, bytes, at) {
         Some((exponent, mantissa, first, next)) => {

@@ -24,6 +24,7 @@
 mod at_once;
 mod best;
 mod characters;
+mod constant;
 mod copied;
 mod cut;
 mod field;
@@ -40,7 +41,6 @@ mod passed;
 mod plain;
 mod respelled;
 mod short_number;
-mod strictly;
 mod taken_decimal;
 mod taken_integer;
 mod taken_vector;
@@ -50,6 +50,7 @@ mod value;
 mod vector_units;
 mod words;
 
+pub use constant::is_always_there;
 pub use field::{judge_sent, relay_judged, take, take_sent};
 pub use general::take_left_out;
 pub use judged::Judged;

@@ -1,6 +1,8 @@
 //! Lengths and removals in one byte, as most are, which is their shortest form; and those behind one needless group or two.
 
-ghost use Rattle.std.specs.Prelude.{◌≡◌, ◌+◌, ◌<◌, ◌≤◌, ◌∷◌, [], pos, true, false, length, drop, IfNone, IfSome};
+ghost use Rattle.std.specs.Prelude.{◌≡◌, ◌≢◌, ℕ, ◌+◌, ◌<◌, ◌≤◌, ◌∷◌, [], pos, true, false, length, drop, IfNone, IfSome};
+ghost use Rattle.fast_dictionary.specs.declared.entry.Entry.TheVariants.{Assigned};
+ghost use Rattle.fast_value.specs.declared.scalar.Scalar.TheVariants.{U32};
 ghost use Rattle.fast_field.specs.Chosen.{ShortestSigned};
 ghost use Rattle.fast_take.specs.Judged.{StandsAt, StandsFrom, zero_byte};
 ghost use Rattle.fast_take.specs.Numbers.{Spelt};
@@ -204,6 +206,25 @@ pub fn read_short_length(instr: &FieldPart, bytes: &[u8], at: usize) -> Option<O
     }
 }
 
+/// Puts a number in the place of another one that an entry has; answers whether it did.
+#[inline(always)]
+fn put_other(entry: &mut Entry, number: u32) -> bool
+    ensures put { result ≡ true → (before : ℕ) × (entry.old ≡ Assigned (U32 before)) × (before ≢ number)
+        × (entry.new ≡ Assigned (U32 number)) }
+    ensures unchanged { result ≡ false → entry.new ≡ entry.old }
+{
+    match entry {
+        Entry::Assigned(Scalar::U32(before)) => {
+            if *before == number {
+                return false;
+            }
+            *before = number;
+            true
+        }
+        _ => false,
+    }
+}
+
 /// Takes a number without sign that is always there and kept, that stands in one byte and that bit 0 does not give: the byte is its
 /// best form. The entry is the one afterwards. None: nothing has changed, and another way tells.
 #[inline(always)]
@@ -227,6 +248,10 @@ pub fn take_short_number(
         return None;
     }
     let number = u32::from(bytes[at] - ZERO);
+    // most have a number before, which is another one
+    if put_other(entry, number) {
+        return Some(number);
+    }
     if is_left_out(instr, entry.view(), Some(&Scalar::U32(number))) {
         return None;
     }

@@ -64,58 +64,40 @@ fn put_text<E: Entries>(rt: &impl Abort, alloc: Global, entries: &mut E, key: &K
 }
 
 // Puts the text under two keys, and an empty entry in place of the first.
-fn fill<E: Entries>(
-    rt: &impl Abort,
-    alloc: Global,
-    entries: &mut E,
-    first: &Key,
-    second: &Key,
-) -> Tried
-    requires first { IsTrue (E.serves entries.old first.now) }
-    requires second { IsTrue (E.serves entries.old second.now) }
+fn fill<E: Entries>(rt: &impl Abort, alloc: Global, entries: &mut E, one: &Key, two: &Key) -> Tried
+    requires one { IsTrue (E.serves entries.old one.now) }
+    requires two { IsTrue (E.serves entries.old two.now) }
     ensures { E.serves entries.new ≡ E.serves entries.old }
 {
-    is(rt, entries, first, Wanted::Undefined);
-    put_text(rt, alloc, entries, first)?;
-    put_text(rt, alloc, entries, second)?;
-    same(rt, entries.put(first, Entry::Empty).is_ok(), true);
-    is(rt, entries, first, Wanted::Empty);
-    is(rt, entries, second, Wanted::Text);
+    is(rt, entries, one, Wanted::Undefined);
+    put_text(rt, alloc, entries, one)?;
+    put_text(rt, alloc, entries, two)?;
+    same(rt, entries.put(one, Entry::Empty).is_ok(), true);
+    is(rt, entries, one, Wanted::Empty);
+    is(rt, entries, two, Wanted::Text);
     Ok(())
 }
 
 // Changes the second entry and then resets all, beside a copy from before.
-fn change<E: Entries>(
-    rt: &impl Abort,
-    alloc: Global,
-    entries: &mut E,
-    first: &Key,
-    second: &Key,
-) -> Tried
-    requires first { IsTrue (E.serves entries.old first.now) }
-    requires second { IsTrue (E.serves entries.old second.now) }
+fn edit<E: Entries>(rt: &impl Abort, alloc: Global, entries: &mut E, one: &Key, two: &Key) -> Tried
+    requires one { IsTrue (E.serves entries.old one.now) }
+    requires two { IsTrue (E.serves entries.old two.now) }
     ensures { E.serves entries.new ≡ E.serves entries.old }
 {
     let copy = entries.copy(alloc)?;
-    *entries.entry_mut(second)? = Entry::Undefined;
-    is(rt, entries, first, Wanted::Empty);
-    is(rt, entries, second, Wanted::Undefined);
-    is(rt, &copy, first, Wanted::Empty);
-    is(rt, &copy, second, Wanted::Text);
+    *entries.entry_mut(two)? = Entry::Undefined;
+    is(rt, entries, one, Wanted::Empty);
+    is(rt, entries, two, Wanted::Undefined);
+    is(rt, &copy, one, Wanted::Empty);
+    is(rt, &copy, two, Wanted::Text);
     entries.reset();
-    is(rt, entries, first, Wanted::Undefined);
-    is(rt, &copy, second, Wanted::Text);
+    is(rt, entries, one, Wanted::Undefined);
+    is(rt, &copy, two, Wanted::Text);
     Ok(())
 }
 
 // Resets a text into spare memory, and asks whether a vector is taken from it that has the text's.
-fn spare<E: Entries>(
-    rt: &impl Abort,
-    alloc: Global,
-    entries: &mut E,
-    key: &Key,
-    is_kept: bool,
-) -> Tried
+fn free<E: Entries>(rt: &impl Abort, alloc: Global, entries: &mut E, key: &Key, kept: bool) -> Tried
     requires { IsTrue (E.serves entries.old key.now) }
     ensures { E.serves entries.new ≡ E.serves entries.old }
 {
@@ -125,11 +107,11 @@ fn spare<E: Entries>(
     is(rt, entries, key, Wanted::Undefined);
     let vector = spare.take();
     same(rt, vector.len(), 0);
-    if is_kept && vector.capacity() < TEXT.len() {
+    if kept && vector.capacity() < TEXT.len() {
         // there was no memory to keep it in
         return Err(AllocError);
     }
-    same(rt, vector.capacity() > 0, is_kept);
+    same(rt, vector.capacity() > 0, kept);
     same(rt, spare.take().capacity(), 0);
     Ok(())
 }
@@ -139,16 +121,16 @@ fn walk<E: Entries>(
     rt: &impl Abort,
     alloc: Global,
     mut entries: E,
-    first: &Key,
-    second: &Key,
+    one: &Key,
+    two: &Key,
     is_kept: bool,
 ) -> Tried
-    requires first { IsTrue (E.serves entries first.now) }
-    requires second { IsTrue (E.serves entries second.now) }
+    requires one { IsTrue (E.serves entries one.now) }
+    requires two { IsTrue (E.serves entries two.now) }
 {
-    fill(rt, alloc, &mut entries, first, second)?;
-    change(rt, alloc, &mut entries, first, second)?;
-    spare(rt, alloc, &mut entries, first, is_kept)
+    fill(rt, alloc, &mut entries, one, two)?;
+    edit(rt, alloc, &mut entries, one, two)?;
+    free(rt, alloc, &mut entries, one, is_kept)
 }
 
 #[test]

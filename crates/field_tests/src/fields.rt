@@ -157,7 +157,7 @@ pub(crate) fn scalar_of(alloc: Global, value: Option<Value>) -> Tried<Option<Sca
 pub(crate) enum Kept {
     Undefined,
     Empty,
-    Assigned(Value),
+    Has(Value),
 }
 
 impl Kept {
@@ -165,7 +165,7 @@ impl Kept {
         match self {
             Kept::Undefined => Ok(Entry::Undefined),
             Kept::Empty => Ok(Entry::Empty),
-            Kept::Assigned(value) => Ok(Entry::Assigned(value.scalar(alloc)?)),
+            Kept::Has(value) => Ok(Entry::Assigned(value.scalar(alloc)?)),
         }
     }
 }

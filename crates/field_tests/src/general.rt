@@ -1,7 +1,7 @@
 //! Fields that go the general way: what is read of their bytes, and the best form that is written of it.
 
 use crate::base::*;
-use crate::fields::Kept::{Assigned, Empty, Undefined};
+use crate::fields::Kept::{Empty, Has, Undefined};
 use crate::fields::Shape::{Mandatory, Optional};
 use crate::fields::Value::{Ascii, Bytes, Decimal, U32, U64, Unicode};
 use crate::fields::{Kept, Shape, are_such, is_kept};
@@ -62,40 +62,35 @@ fn all_rewritten(rt: &impl Abort, alloc: Global, rows: &[Row]) -> Tried {
 fn fields_that_are_spelled_at_length(rt: HostRuntime) -> Tried {
     const ROWS: &[Row] = rows! { Row:
         // an overlong mantissa
-        Mandatory(Kind::Decimal, Delta), Assigned(Decimal(-2, 7)), b"\x80\x00\x81", (true, b"\x80\x81"),
-            Assigned(Decimal(-2, 8));
+        Mandatory(Kind::Decimal, Delta), Has(Decimal(-2, 7)), b"\x80\x00\x81", (true, b"\x80\x81"), Has(Decimal(-2, 8));
         // behind a nullable exponent
-        Optional(Kind::Decimal, Copy), Empty, b"\x82\x7f\xfe", (true, b"\x82\xfe"), Assigned(Decimal(1, -2));
+        Optional(Kind::Decimal, Copy), Empty, b"\x82\x7f\xfe", (true, b"\x82\xfe"), Has(Decimal(1, -2));
         // an overlong NULL
-        Optional(UInt32, Copy), Assigned(U32(7)), b"\x00\x80", (true, b"\x80"), Empty;
+        Optional(UInt32, Copy), Has(U32(7)), b"\x00\x80", (true, b"\x80"), Empty;
         // a preamble in front of a letter, and an empty string
-        Mandatory(Kind::Ascii, Copy), Assigned(Ascii(b"AB")), b"\x00\x43\xc4", (true, b"\x43\xc4"),
-            Assigned(Ascii(b"CD"));
-        Optional(Kind::Ascii, Copy), Assigned(Ascii(b"AB")), b"\x00\x80", (true, b"\x00\x80"), Assigned(Ascii(b""));
+        Mandatory(Kind::Ascii, Copy), Has(Ascii(b"AB")), b"\x00\x43\xc4", (true, b"\x43\xc4"), Has(Ascii(b"CD"));
+        Optional(Kind::Ascii, Copy), Has(Ascii(b"AB")), b"\x00\x80", (true, b"\x00\x80"), Has(Ascii(b""));
         // of another type is what the entry has
-        Optional(Kind::Bytes, Copy), Assigned(Unicode("ab")), b"\x83\x61\x63", (true, b"\x83\x61\x63"),
-            Assigned(Bytes(b"ac"));
+        Optional(Kind::Bytes, Copy), Has(Unicode("ab")), b"\x83\x61\x63", (true, b"\x83\x61\x63"), Has(Bytes(b"ac"));
         // tails that are longer than need be, and that begin within a character
-        Mandatory(Kind::Unicode, Tail), Assigned(Unicode("üab")), b"\x82\x61\x63", (true, b"\x81\x63"),
-            Assigned(Unicode("üac"));
-        Mandatory(Kind::Unicode, Tail), Assigned(Unicode("xü")), b"\x81\xb6", (true, b"\x81\xb6"),
-            Assigned(Unicode("xö"));
+        Mandatory(Kind::Unicode, Tail), Has(Unicode("üab")), b"\x82\x61\x63", (true, b"\x81\x63"), Has(Unicode("üac"));
+        Mandatory(Kind::Unicode, Tail), Has(Unicode("xü")), b"\x81\xb6", (true, b"\x81\xb6"), Has(Unicode("xö"));
         // of what is removed the first byte is put there again
-        Optional(Kind::Unicode, Delta), Assigned(Unicode("abü")), b"\x83\x82\xc3\xb6", (true, b"\x82\x81\xb6"),
-            Assigned(Unicode("abö"));
+        Optional(Kind::Unicode, Delta), Has(Unicode("abü")), b"\x83\x82\xc3\xb6", (true, b"\x82\x81\xb6"),
+            Has(Unicode("abö"));
         // the same end: removed in front are fewer
-        Mandatory(Kind::Ascii, Delta), Assigned(Ascii(b"0012")), b"\x84\x31\x30\x31\xb2", (true, b"\xfe\xb1"),
-            Assigned(Ascii(b"1012"));
-        Mandatory(Kind::Bytes, Delta), Assigned(Bytes(b"ESM6")), b"\x84\x84\x58\x53\x4d\x36", (true, b"\xfe\x81\x58"),
-            Assigned(Bytes(b"XSM6"));
+        Mandatory(Kind::Ascii, Delta), Has(Ascii(b"0012")), b"\x84\x31\x30\x31\xb2", (true, b"\xfe\xb1"),
+            Has(Ascii(b"1012"));
+        Mandatory(Kind::Bytes, Delta), Has(Bytes(b"ESM6")), b"\x84\x84\x58\x53\x4d\x36", (true, b"\xfe\x81\x58"),
+            Has(Bytes(b"XSM6"));
         // numbers as identifiers and lengths are
-        Mandatory(UInt32, Copy), Assigned(U32(5)), b"\x01\x80", (true, b"\x01\x80"), Assigned(U32(128));
-        Optional(UInt32, Increment), Assigned(U32(5)), b"\x88", (true, b"\x88"), Assigned(U32(7));
+        Mandatory(UInt32, Copy), Has(U32(5)), b"\x01\x80", (true, b"\x01\x80"), Has(U32(128));
+        Optional(UInt32, Increment), Has(U32(5)), b"\x88", (true, b"\x88"), Has(U32(7));
         // behind needless groups
-        Mandatory(UInt32, Copy), Assigned(U32(5)), b"\x00\x00\x87", (true, b"\x87"), Assigned(U32(7));
+        Mandatory(UInt32, Copy), Has(U32(5)), b"\x00\x00\x87", (true, b"\x87"), Has(U32(7));
         // no value before, and of another type
-        Mandatory(UInt32, Copy), Undefined, b"\x87", (true, b"\x87"), Assigned(U32(7));
-        Mandatory(UInt64, Copy), Undefined, b"\x87", (true, b"\x87"), Assigned(U64(7));
+        Mandatory(UInt32, Copy), Undefined, b"\x87", (true, b"\x87"), Has(U32(7));
+        Mandatory(UInt64, Copy), Undefined, b"\x87", (true, b"\x87"), Has(U64(7));
     };
     all_rewritten(&rt, rt.alloc(), ROWS)
 }
@@ -105,15 +100,15 @@ fn fields_that_bit_0_gives(rt: HostRuntime) -> Tried {
     const ROWS: &[Row] = rows! { Row:
         // an overlong NULL
         Optional(UInt32, Copy), Empty, b"\x00\x80", (false, b""), Empty;
-        Mandatory(Kind::Decimal, Copy), Assigned(Decimal(1, -2)), b"\x81\xfe", (false, b""), Assigned(Decimal(1, -2));
-        Mandatory(Kind::Ascii, Copy), Assigned(Ascii(b"AB")), b"\x00\x41\xc2", (false, b""), Assigned(Ascii(b"AB"));
-        Mandatory(Kind::Unicode, Copy), Assigned(Unicode("ü")), b"\x82\xc3\xbc", (false, b""), Assigned(Unicode("ü"));
+        Mandatory(Kind::Decimal, Copy), Has(Decimal(1, -2)), b"\x81\xfe", (false, b""), Has(Decimal(1, -2));
+        Mandatory(Kind::Ascii, Copy), Has(Ascii(b"AB")), b"\x00\x41\xc2", (false, b""), Has(Ascii(b"AB"));
+        Mandatory(Kind::Unicode, Copy), Has(Unicode("ü")), b"\x82\xc3\xbc", (false, b""), Has(Unicode("ü"));
         // tails that put back what was there
-        Mandatory(Kind::Ascii, Tail), Assigned(Ascii(b"xab")), b"\xe2", (false, b""), Assigned(Ascii(b"xab"));
-        Mandatory(Kind::Bytes, Tail), Assigned(Bytes(b"ab")), b"\x81\x62", (false, b""), Assigned(Bytes(b"ab"));
+        Mandatory(Kind::Ascii, Tail), Has(Ascii(b"xab")), b"\xe2", (false, b""), Has(Ascii(b"xab"));
+        Mandatory(Kind::Bytes, Tail), Has(Bytes(b"ab")), b"\x81\x62", (false, b""), Has(Bytes(b"ab"));
         // numbers as identifiers and lengths are
-        Mandatory(UInt32, Copy), Assigned(U32(7)), b"\x87", (false, b""), Assigned(U32(7));
-        Optional(UInt32, Increment), Assigned(U32(6)), b"\x00\x88", (false, b""), Assigned(U32(7));
+        Mandatory(UInt32, Copy), Has(U32(7)), b"\x87", (false, b""), Has(U32(7));
+        Optional(UInt32, Increment), Has(U32(6)), b"\x00\x88", (false, b""), Has(U32(7));
         // NULL of no value before
         Optional(UInt32, Copy), Undefined, b"\x80", (false, b""), Empty;
     };

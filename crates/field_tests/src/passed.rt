@@ -2,7 +2,7 @@
 //! value that is made at a call makes its proof longer.
 
 use crate::base::*;
-use crate::fields::Kept::{Assigned, Empty, Undefined};
+use crate::fields::Kept::{Empty, Has, Undefined};
 use crate::fields::Shape::{Exponent, Initial, Length, Mandatory, Optional};
 use crate::fields::Value::{Ascii, I32, I64, U32, U64};
 use crate::fields::{Kept, Shape, are_such, is_kept};
@@ -28,23 +28,23 @@ fn passes(rt: &impl Abort, alloc: Global, row: &Row) -> Tried {
 fn fields_that_are_passed(rt: HostRuntime) -> Tried {
     const ROWS: &[Row] = rows! { Row:
         // kept values are passed
-        Mandatory(UInt32, Copy), Assigned(U32(5)), Present, Assigned(U32(5));
-        Mandatory(UInt32, Copy), Assigned(U64(5)), Elsewhere, Assigned(U64(5));
+        Mandatory(UInt32, Copy), Has(U32(5)), Present, Has(U32(5));
+        Mandatory(UInt32, Copy), Has(U64(5)), Elsewhere, Has(U64(5));
         Mandatory(UInt32, Copy), Undefined, Elsewhere, Undefined;
         // kept texts are passed
-        Optional(Kind::Ascii, Tail), Assigned(Ascii(b"AB")), Present, Assigned(Ascii(b"AB"));
+        Optional(Kind::Ascii, Tail), Has(Ascii(b"AB")), Present, Has(Ascii(b"AB"));
         // uint32 increments are passed
-        Mandatory(UInt32, Increment), Assigned(U32(5)), Present, Assigned(U32(6));
-        Mandatory(UInt32, Increment), Assigned(U32(u32::MAX)), Present, Assigned(U32(0));
-        Mandatory(UInt32, Increment), Assigned(U64(5)), Elsewhere, Assigned(U64(5));
+        Mandatory(UInt32, Increment), Has(U32(5)), Present, Has(U32(6));
+        Mandatory(UInt32, Increment), Has(U32(u32::MAX)), Present, Has(U32(0));
+        Mandatory(UInt32, Increment), Has(U64(5)), Elsewhere, Has(U64(5));
         Mandatory(UInt32, Increment), Undefined, Elsewhere, Undefined;
         // increments of 64 bits are passed
-        Optional(UInt64, Increment), Assigned(U64(u64::MAX)), Present, Assigned(U64(0));
-        Optional(Int64, Increment), Assigned(I64(-1)), Present, Assigned(I64(0));
-        Optional(Int64, Increment), Assigned(I64(i64::MAX)), Present, Assigned(I64(i64::MIN));
+        Optional(UInt64, Increment), Has(U64(u64::MAX)), Present, Has(U64(0));
+        Optional(Int64, Increment), Has(I64(-1)), Present, Has(I64(0));
+        Optional(Int64, Increment), Has(I64(i64::MAX)), Present, Has(I64(i64::MIN));
         // int32 increments are passed
-        Mandatory(Int32, Increment), Assigned(I32(i32::MAX)), Present, Assigned(I32(i32::MIN));
-        Mandatory(Int32, Increment), Assigned(I32(-1)), Present, Assigned(I32(0));
+        Mandatory(Int32, Increment), Has(I32(i32::MAX)), Present, Has(I32(i32::MIN));
+        Mandatory(Int32, Increment), Has(I32(-1)), Present, Has(I32(0));
         // initial values are passed
         Initial(Presence::Mandatory, Default, 7), Undefined, Present, Undefined;
         Optional(UInt32, Default), Undefined, Absent, Undefined;
@@ -58,15 +58,15 @@ fn fields_that_are_passed(rt: HostRuntime) -> Tried {
         Mandatory(UInt32, Increment), Empty, Elsewhere, Empty;
         Initial(Presence::Mandatory, Constant, 7), Undefined, Elsewhere, Undefined;
         // fields without a bit are not passed
-        Optional(UInt32, Plain), Assigned(U32(5)), Elsewhere, Assigned(U32(5));
-        Optional(UInt32, Delta), Assigned(U32(5)), Elsewhere, Assigned(U32(5));
+        Optional(UInt32, Plain), Has(U32(5)), Elsewhere, Has(U32(5));
+        Optional(UInt32, Delta), Has(U32(5)), Elsewhere, Has(U32(5));
         // lengths are passed
-        Length(Increment), Assigned(U32(65_534)), Present, Assigned(U32(65_535));
-        Length(Increment), Assigned(U32(65_535)), Elsewhere, Assigned(U32(65_535));
-        Length(Copy), Assigned(U32(65_536)), Elsewhere, Assigned(U32(65_536));
+        Length(Increment), Has(U32(65_534)), Present, Has(U32(65_535));
+        Length(Increment), Has(U32(65_535)), Elsewhere, Has(U32(65_535));
+        Length(Copy), Has(U32(65_536)), Elsewhere, Has(U32(65_536));
         // exponents are passed
-        Exponent(Presence::Mandatory, Increment, None), Assigned(I32(62)), Present, Assigned(I32(63));
-        Exponent(Presence::Mandatory, Increment, None), Assigned(I32(63)), Elsewhere, Assigned(I32(63));
+        Exponent(Presence::Mandatory, Increment, None), Has(I32(62)), Present, Has(I32(63));
+        Exponent(Presence::Mandatory, Increment, None), Has(I32(63)), Elsewhere, Has(I32(63));
         Exponent(Presence::Mandatory, Default, Some(64)), Undefined, Elsewhere, Undefined;
     };
     for row in ROWS {
@@ -97,9 +97,9 @@ fn what_undefined_entries_give(rt: HostRuntime) -> Tried {
         Optional(Kind::Ascii, Tail), Absent, Empty;
         Mandatory(UInt32, Copy), Elsewhere, Undefined;
         // the initial value, which is not increased
-        Initial(Presence::Mandatory, Copy, 7), Present, Assigned(U32(7));
-        Initial(Presence::Optional, Increment, 7), Present, Assigned(U32(7));
-        Initial(Presence::Mandatory, Increment, u32::MAX), Present, Assigned(U32(u32::MAX));
+        Initial(Presence::Mandatory, Copy, 7), Present, Has(U32(7));
+        Initial(Presence::Optional, Increment, 7), Present, Has(U32(7));
+        Initial(Presence::Mandatory, Increment, u32::MAX), Present, Has(U32(u32::MAX));
     };
     for row in ROWS {
         passes_first(&rt, rt.alloc(), row)?;
@@ -127,22 +127,22 @@ fn numbers_in_one_byte(rt: HostRuntime) -> Tried {
     const FIRST: Shape = Initial(Presence::Mandatory, Copy, 7);
     const ROWS: &[Short] = rows! { Short:
         // another one than the entry has
-        COPY, Undefined, b"\x85", Some(5), Assigned(U32(5));
-        COPY, Empty, b"\x80", Some(0), Assigned(U32(0));
-        COPY, Assigned(U32(4)), b"\xff\x80", Some(127), Assigned(U32(127));
-        FIRST, Undefined, b"\x88", Some(8), Assigned(U32(8));
-        FIRST, Assigned(U32(8)), b"\x87", Some(7), Assigned(U32(7));
+        COPY, Undefined, b"\x85", Some(5), Has(U32(5));
+        COPY, Empty, b"\x80", Some(0), Has(U32(0));
+        COPY, Has(U32(4)), b"\xff\x80", Some(127), Has(U32(127));
+        FIRST, Undefined, b"\x88", Some(8), Has(U32(8));
+        FIRST, Has(U32(8)), b"\x87", Some(7), Has(U32(7));
         // the same one, which bit 0 gives
-        COPY, Assigned(U32(5)), b"\x85", None, Assigned(U32(5));
+        COPY, Has(U32(5)), b"\x85", None, Has(U32(5));
         FIRST, Undefined, b"\x87", None, Undefined;
         // more than a byte, or none
         COPY, Undefined, b"\x01\x80", None, Undefined;
-        COPY, Assigned(U32(4)), b"\x00\x85", None, Assigned(U32(4));
+        COPY, Has(U32(4)), b"\x00\x85", None, Has(U32(4));
         COPY, Empty, b"", None, Empty;
         // one that may be absent, or is not kept
         Optional(UInt32, Copy), Undefined, b"\x85", None, Undefined;
         Mandatory(UInt32, Plain), Undefined, b"\x85", None, Undefined;
-        Mandatory(UInt32, Delta), Assigned(U32(4)), b"\x85", None, Assigned(U32(4));
+        Mandatory(UInt32, Delta), Has(U32(4)), b"\x85", None, Has(U32(4));
     };
     for row in ROWS {
         is_taken(&rt, rt.alloc(), row)?;

@@ -3,7 +3,7 @@
 
 use self::Wanted::{Absent, Fault, Keeps, Present};
 use crate::base::*;
-use crate::fields::Kept::{Assigned, Empty, Undefined};
+use crate::fields::Kept::{Empty, Has, Undefined};
 use crate::fields::Shape::{Exponent, Initial, Length, Mandatory, Optional};
 use crate::fields::Value::{Ascii, Bytes, Decimal, I32, I64, Letters, U32, Unicode};
 use crate::fields::{Kept, Shape, Value, is_kept, scalar_of};
@@ -37,7 +37,7 @@ impl Wanted {
         match self {
             Wanted::Absent(after, next) => Ok(Ok((None, after.entry(alloc)?, next))),
             Wanted::Present(value, after, next) => read_value(alloc, value, after, next),
-            Wanted::Keeps(value, next) => read_value(alloc, value, Kept::Assigned(value), next),
+            Wanted::Keeps(value, next) => read_value(alloc, value, Kept::Has(value), next),
             Wanted::Fault(fault) => Ok(Err(fault)),
         }
     }
@@ -95,15 +95,15 @@ fn read_so(rt: &impl Abort, alloc: Global, level: Level, row: &Row) -> Tried {
 fn fields_that_are_read(rt: HostRuntime) -> Tried {
     const ROWS: &[Row] = rows! { Row:
         // increments go past the greatest
-        Mandatory(UInt32, Increment), Assigned(U32(4_294_967_295)), false, b"", Keeps(U32(0), 0);
-        Mandatory(Int32, Increment), Assigned(I32(i32::MAX)), false, b"", Keeps(I32(i32::MIN), 0);
+        Mandatory(UInt32, Increment), Has(U32(4_294_967_295)), false, b"", Keeps(U32(0), 0);
+        Mandatory(Int32, Increment), Has(I32(i32::MAX)), false, b"", Keeps(I32(i32::MIN), 0);
         // copies of no value
         Mandatory(Kind::Ascii, Copy), Undefined, false, b"", Fault(D5);
         Mandatory(Kind::Ascii, Copy), Empty, false, b"", Fault(D6);
         Optional(UInt32, Copy), Undefined, false, b"", Absent(Empty, 0);
         // copies on another type
-        Mandatory(UInt32, Copy), Assigned(Ascii(b"A")), false, b"", Fault(D4);
-        Mandatory(UInt32, Copy), Assigned(Ascii(b"A")), true, b"\x86", Keeps(U32(6), 1);
+        Mandatory(UInt32, Copy), Has(Ascii(b"A")), false, b"", Fault(D4);
+        Mandatory(UInt32, Copy), Has(Ascii(b"A")), true, b"\x86", Keeps(U32(6), 1);
         // defaults
         Initial(Presence::Mandatory, Default, 3), Undefined, true, b"\x10\x00\x00\x00\x80", Fault(D2);
         Initial(Presence::Mandatory, Default, 3), Undefined, true, b"\x10\x00\x00\x00", Fault(NeedMore);
@@ -117,29 +117,29 @@ fn fields_that_are_read(rt: HostRuntime) -> Tried {
         Initial(Presence::Optional, Constant, 9), Undefined, false, b"", Absent(Undefined, 0);
         Initial(Presence::Optional, Constant, 9), Undefined, true, b"", Present(U32(9), Undefined, 0);
         // string deltas
-        Mandatory(Kind::Ascii, Delta), Assigned(Ascii(b"ESM6")), true, b"\xff\x80", Keeps(Ascii(b"ESM6"), 2);
-        Mandatory(Kind::Ascii, Delta), Assigned(Ascii(b"GEM6")), true, b"\xfd\x45\xd3", Keeps(Ascii(b"ESM6"), 3);
-        Mandatory(Kind::Ascii, Delta), Assigned(Ascii(b"ESM6")), true, b"\x82\x5a\xb6", Keeps(Ascii(b"ESZ6"), 3);
+        Mandatory(Kind::Ascii, Delta), Has(Ascii(b"ESM6")), true, b"\xff\x80", Keeps(Ascii(b"ESM6"), 2);
+        Mandatory(Kind::Ascii, Delta), Has(Ascii(b"GEM6")), true, b"\xfd\x45\xd3", Keeps(Ascii(b"ESM6"), 3);
+        Mandatory(Kind::Ascii, Delta), Has(Ascii(b"ESM6")), true, b"\x82\x5a\xb6", Keeps(Ascii(b"ESZ6"), 3);
         // deltas that remove too much
-        Mandatory(Kind::Ascii, Delta), Assigned(Ascii(b"ESM6")), true, b"\x85\x80", Fault(D7);
+        Mandatory(Kind::Ascii, Delta), Has(Ascii(b"ESM6")), true, b"\x85\x80", Fault(D7);
         // number deltas
-        Mandatory(UInt32, Delta), Assigned(U32(4_294_967_295)), true, b"\x81", Fault(D2);
+        Mandatory(UInt32, Delta), Has(U32(4_294_967_295)), true, b"\x81", Fault(D2);
         Mandatory(UInt32, Delta), Empty, true, b"\x81", Fault(D6);
         // absent deltas
         Optional(UInt32, Delta), Empty, true, b"\x80", Absent(Empty, 1);
-        Optional(UInt32, Delta), Assigned(U32(5)), true, b"\x80", Absent(Assigned(U32(5)), 1);
+        Optional(UInt32, Delta), Has(U32(5)), true, b"\x80", Absent(Has(U32(5)), 1);
         // tails
-        Optional(Kind::Ascii, Tail), Assigned(Ascii(b"xab")), true, b"\x00\x00\x00\xe2", Keeps(Ascii(b"x\0b"), 4);
+        Optional(Kind::Ascii, Tail), Has(Ascii(b"xab")), true, b"\x00\x00\x00\xe2", Keeps(Ascii(b"x\0b"), 4);
         // tails of text
-        Mandatory(Kind::Unicode, Tail), Assigned(Unicode("é")), true, b"\x81\xa8", Keeps(Unicode("è"), 2);
-        Mandatory(Kind::Unicode, Tail), Assigned(Unicode("è")), true, b"\x81\x41", Fault(R2);
+        Mandatory(Kind::Unicode, Tail), Has(Unicode("é")), true, b"\x81\xa8", Keeps(Unicode("è"), 2);
+        Mandatory(Kind::Unicode, Tail), Has(Unicode("è")), true, b"\x81\x41", Fault(R2);
         // a result that is too long before one that is no UTF-8
-        Mandatory(Kind::Unicode, Delta), Assigned(Letters(65_535)), true, b"\x80\x81\xff", Fault(Limit);
-        Mandatory(Kind::Unicode, Delta), Assigned(Letters(65_535)), true, b"\xff\x81\xff", Fault(Limit);
-        Mandatory(Kind::Unicode, Delta), Assigned(Letters(65_534)), true, b"\x80\x81\xff", Fault(R2);
-        Mandatory(Kind::Unicode, Delta), Assigned(Letters(65_535)), true, b"\x81\x81\xff", Fault(R2);
-        Mandatory(Kind::Unicode, Tail), Assigned(Letters(65_535)), true, b"\x81\xff", Fault(R2);
-        Mandatory(Kind::Unicode, Tail), Assigned(Letters(65_535)), true, b"\x04\x00\x80", Fault(Limit);
+        Mandatory(Kind::Unicode, Delta), Has(Letters(65_535)), true, b"\x80\x81\xff", Fault(Limit);
+        Mandatory(Kind::Unicode, Delta), Has(Letters(65_535)), true, b"\xff\x81\xff", Fault(Limit);
+        Mandatory(Kind::Unicode, Delta), Has(Letters(65_534)), true, b"\x80\x81\xff", Fault(R2);
+        Mandatory(Kind::Unicode, Delta), Has(Letters(65_535)), true, b"\x81\x81\xff", Fault(R2);
+        Mandatory(Kind::Unicode, Tail), Has(Letters(65_535)), true, b"\x81\xff", Fault(R2);
+        Mandatory(Kind::Unicode, Tail), Has(Letters(65_535)), true, b"\x04\x00\x80", Fault(Limit);
         // exponents
         Exponent(Presence::Optional, Default, Some(2)), Undefined, true, b"\x80", Absent(Undefined, 1);
         Exponent(Presence::Optional, Default, Some(2)), Undefined, true, b"\x00\xc0", Present(I32(63), Undefined, 2);
@@ -147,11 +147,11 @@ fn fields_that_are_read(rt: HostRuntime) -> Tried {
         // whole decimals
         Mandatory(Kind::Decimal, Copy), Undefined, true, b"\xfe\x39\x45\xa3", Keeps(Decimal(-2, 942_755), 4);
         // decimal deltas
-        Mandatory(Kind::Decimal, Delta), Assigned(Decimal(-2, 7)), true, b"\x81\xfe", Keeps(Decimal(-1, 5), 2);
+        Mandatory(Kind::Decimal, Delta), Has(Decimal(-2, 7)), true, b"\x81\xfe", Keeps(Decimal(-1, 5), 2);
         // an exponent out of range is refused before a mantissa has come
         Mandatory(Kind::Decimal, Delta), Undefined, true, b"\x00\xc0", Fault(R1);
         // lengths
-        Length(Copy), Assigned(U32(65_536)), false, b"", Fault(Limit);
+        Length(Copy), Has(U32(65_536)), false, b"", Fault(Limit);
     };
     for row in ROWS {
         read_so(&rt, rt.alloc(), Level::Usual, row)?;
@@ -194,7 +194,7 @@ fn fields_at_the_strict_level(rt: HostRuntime) -> Tried {
         Mandatory(Kind::Decimal, Plain), Undefined, true, b"\x82\x00\x40\x81", Present(Decimal(2, 8193), Undefined, 4);
         Optional(UInt32, Copy), Undefined, true, b"\x80", Absent(Empty, 1);
         // bit 0 reads no byte
-        Mandatory(UInt32, Copy), Assigned(U32(7)), false, b"\x00\x80", Keeps(U32(7), 0);
+        Mandatory(UInt32, Copy), Has(U32(7)), false, b"\x00\x80", Keeps(U32(7), 0);
         // overlong before other faults
         Mandatory(UInt32, Plain), Undefined, true, b"\x00\x10\x00\x00\x00\x80", Fault(R6);
         Mandatory(UInt32, Plain), Undefined, true, b"\x10\x00\x00\x00\x80", Fault(D2);
@@ -205,8 +205,8 @@ fn fields_at_the_strict_level(rt: HostRuntime) -> Tried {
         Mandatory(Kind::Ascii, Delta), Empty, true, b"\x00\x80\x80", Fault(R6);
         // the base before the new part
         Mandatory(Kind::Ascii, Delta), Empty, true, b"\x80\x00\xc1", Fault(D6);
-        Mandatory(Kind::Ascii, Tail), Assigned(U32(7)), true, b"\x00\xc1", Fault(R9);
-        Mandatory(Kind::Ascii, Tail), Assigned(U32(7)), true, b"\xc1", Fault(D4);
+        Mandatory(Kind::Ascii, Tail), Has(U32(7)), true, b"\x00\xc1", Fault(R9);
+        Mandatory(Kind::Ascii, Tail), Has(U32(7)), true, b"\xc1", Fault(D4);
         // before the bytes have come
         Mandatory(Kind::Bytes, Plain), Undefined, true, b"\x00\x82\x41", Fault(R6);
         Mandatory(Kind::Unicode, Plain), Undefined, true, b"\x00\x81\xff", Fault(R6);
@@ -233,10 +233,10 @@ fn leaves(rt: &impl Abort, alloc: Global, row: &Next) -> Tried {
 #[test]
 fn entries_after_values(rt: HostRuntime) -> Tried {
     const ROWS: &[Next] = rows! { Next:
-        Mandatory(Kind::Ascii, Delta), Assigned(Ascii(b"GEM6")), Some(Ascii(b"ESM6")), Assigned(Ascii(b"ESM6"));
+        Mandatory(Kind::Ascii, Delta), Has(Ascii(b"GEM6")), Some(Ascii(b"ESM6")), Has(Ascii(b"ESM6"));
         // no value
-        Mandatory(Kind::Ascii, Delta), Assigned(Ascii(b"GEM6")), None, Assigned(Ascii(b"GEM6"));
-        Optional(Kind::Ascii, Copy), Assigned(Ascii(b"GEM6")), None, Empty;
+        Mandatory(Kind::Ascii, Delta), Has(Ascii(b"GEM6")), None, Has(Ascii(b"GEM6"));
+        Optional(Kind::Ascii, Copy), Has(Ascii(b"GEM6")), None, Empty;
     };
     for row in ROWS {
         leaves(&rt, rt.alloc(), row)?;
@@ -261,7 +261,7 @@ fn copy_in(alloc: Global, kept: Kept) -> Tried<Option<Scalar>> {
 
 #[test]
 fn values_that_lie_in_the_entry(rt: HostRuntime) -> Tried {
-    let value = copy_in(rt.alloc(), Assigned(Ascii(b"GEM6")))?;
+    let value = copy_in(rt.alloc(), Has(Ascii(b"GEM6")))?;
     same(&rt, value, Some(Ascii(b"GEM6").scalar(rt.alloc())?));
     Ok(())
 }

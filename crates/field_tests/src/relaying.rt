@@ -3,7 +3,7 @@
 ghost use Rattle.fast_field.specs.Parts.{IsFieldPart};
 
 use crate::base::*;
-use crate::fields::Kept::{Assigned, Empty, Undefined};
+use crate::fields::Kept::{Empty, Has, Undefined};
 use crate::fields::Shape::{Initial, Mandatory, Optional};
 use crate::fields::Value::{Ascii, Bytes, Decimal, U32, Unicode};
 use crate::fields::{Kept, Shape, are_such, is_kept};
@@ -107,31 +107,29 @@ fn all_as_read(rt: &impl Abort, alloc: Global, rows: &[Left]) -> Tried {
 fn texts_that_are_relayed(rt: HostRuntime) -> Tried {
     const RELAYED: &[Relayed] = rows! { Relayed:
         // deltas
-        Mandatory(Kind::Ascii, Delta), Assigned(Ascii(b"ESM6")), b"\x00\x81\xb7", b"\x81\xb7", Assigned(Ascii(b"ESM7"));
+        Mandatory(Kind::Ascii, Delta), Has(Ascii(b"ESM6")), b"\x00\x81\xb7", b"\x81\xb7", Has(Ascii(b"ESM7"));
         // the same end, and as short a removal
-        Mandatory(Kind::Ascii, Delta), Assigned(Ascii(b"0012")), b"\x00\x82\x32\xb2", b"\x82\x32\xb2",
-            Assigned(Ascii(b"0022"));
+        Mandatory(Kind::Ascii, Delta), Has(Ascii(b"0012")), b"\x00\x82\x32\xb2", b"\x82\x32\xb2", Has(Ascii(b"0022"));
         // one more is removed than need be
-        Mandatory(Kind::Ascii, Delta), Assigned(Ascii(b"ESM6")), b"\x00\x82\x4d\xb7", b"\x81\xb7",
-            Assigned(Ascii(b"ESM7"));
+        Mandatory(Kind::Ascii, Delta), Has(Ascii(b"ESM6")), b"\x00\x82\x4d\xb7", b"\x81\xb7", Has(Ascii(b"ESM7"));
         // two more, behind an overlong removal, and a preamble stands in front of the part
-        Mandatory(Kind::Ascii, Delta), Assigned(Ascii(b"ESM6")), b"\x00\x00\x83\x00\x53\x4d\xb7", b"\x81\xb7",
-            Assigned(Ascii(b"ESM7"));
+        Mandatory(Kind::Ascii, Delta), Has(Ascii(b"ESM6")), b"\x00\x00\x83\x00\x53\x4d\xb7", b"\x81\xb7",
+            Has(Ascii(b"ESM7"));
     };
     const OTHERS: &[Left] = rows! { Left:
         // the rest goes the general way
         // removed in front are fewer
-        Mandatory(Kind::Ascii, Delta), Assigned(Ascii(b"0012")), b"\x00\x84\x31\x30\x31\xb2";
+        Mandatory(Kind::Ascii, Delta), Has(Ascii(b"0012")), b"\x00\x84\x31\x30\x31\xb2";
         // more is removed than there is
-        Mandatory(Kind::Ascii, Delta), Assigned(Ascii(b"ESM6")), b"\x00\x85\xb7";
+        Mandatory(Kind::Ascii, Delta), Has(Ascii(b"ESM6")), b"\x00\x85\xb7";
         // a tail
-        Mandatory(Kind::Ascii, Tail), Assigned(Ascii(b"xab")), b"\x00\xe2";
+        Mandatory(Kind::Ascii, Tail), Has(Ascii(b"xab")), b"\x00\xe2";
         // what is spelled whole: an empty string, and one with no stop bit
-        Optional(Kind::Ascii, Copy), Assigned(Ascii(b"AB")), b"\x00\x00\x80";
-        Mandatory(Kind::Ascii, Copy), Assigned(Ascii(b"AB")), b"\x00\x41";
+        Optional(Kind::Ascii, Copy), Has(Ascii(b"AB")), b"\x00\x00\x80";
+        Mandatory(Kind::Ascii, Copy), Has(Ascii(b"AB")), b"\x00\x41";
         // Unicode strings and byte vectors
-        Mandatory(Kind::Unicode, Tail), Assigned(Unicode("üab")), b"\x00\x82\x61\x63";
-        Mandatory(Kind::Bytes, Delta), Assigned(Bytes(b"ESM6")), b"\x00\x84\x84\x58\x53\x4d\x36";
+        Mandatory(Kind::Unicode, Tail), Has(Unicode("üab")), b"\x00\x82\x61\x63";
+        Mandatory(Kind::Bytes, Delta), Has(Bytes(b"ESM6")), b"\x00\x84\x84\x58\x53\x4d\x36";
     };
     all_relayed(&rt, rt.alloc(), true, RELAYED)?;
     all_as_read(&rt, rt.alloc(), OTHERS)
@@ -141,19 +139,19 @@ fn texts_that_are_relayed(rt: HostRuntime) -> Tried {
 fn nulls_that_are_relayed(rt: HostRuntime) -> Tried {
     const RELAYED: &[Relayed] = rows! { Relayed:
         // null empties an entry
-        Optional(UInt32, Copy), Assigned(U32(7)), b"\xff\x80", b"\x80", Empty;
-        Optional(Kind::Ascii, Copy), Assigned(Ascii(b"AB")), b"\xff\x80", b"\x80", Empty;
-        Optional(Kind::Unicode, Tail), Assigned(Unicode("ü")), b"\xff\x80", b"\x80", Empty;
+        Optional(UInt32, Copy), Has(U32(7)), b"\xff\x80", b"\x80", Empty;
+        Optional(Kind::Ascii, Copy), Has(Ascii(b"AB")), b"\xff\x80", b"\x80", Empty;
+        Optional(Kind::Unicode, Tail), Has(Unicode("ü")), b"\xff\x80", b"\x80", Empty;
         // bit 0 gives the initial value
         Initial(Presence::Optional, Increment, 5), Undefined, b"\xff\x80", b"\x80", Empty;
         // null leaves an entry
-        Optional(Kind::Decimal, Delta), Assigned(Decimal(-2, 7)), b"\xff\x80", b"\x80", Assigned(Decimal(-2, 7));
-        Optional(Kind::Bytes, Plain), Assigned(Bytes(b"AB")), b"\xff\x80", b"\x80", Assigned(Bytes(b"AB"));
+        Optional(Kind::Decimal, Delta), Has(Decimal(-2, 7)), b"\xff\x80", b"\x80", Has(Decimal(-2, 7));
+        Optional(Kind::Bytes, Plain), Has(Bytes(b"AB")), b"\xff\x80", b"\x80", Has(Bytes(b"AB"));
         // bit 0 gives the initial value
         Initial(Presence::Optional, Default, 5), Undefined, b"\xff\x80", b"\x80", Undefined;
         // bit 0 gives null
         Optional(UInt32, Copy), Empty, b"\xff\x80", b"", Empty;
-        Optional(UInt32, Default), Assigned(U32(7)), b"\xff\x80", b"", Assigned(U32(7));
+        Optional(UInt32, Default), Has(U32(7)), b"\xff\x80", b"", Has(U32(7));
         Optional(Kind::Ascii, Default), Undefined, b"\xff\x80", b"", Undefined;
     };
     const OTHERS: &[Left] = rows! { Left:
@@ -161,17 +159,17 @@ fn nulls_that_are_relayed(rt: HostRuntime) -> Tried {
         Optional(UInt32, Increment), Undefined, b"\xff\x80";
         // the rest is no null
         // the number 0
-        Mandatory(UInt32, Copy), Assigned(U32(7)), b"\xff\x80";
+        Mandatory(UInt32, Copy), Has(U32(7)), b"\xff\x80";
         // a constant has no bytes
         Initial(Presence::Optional, Constant, 5), Undefined, b"\xff\x80";
         // an overlong NULL of a number
-        Optional(UInt32, Copy), Assigned(U32(7)), b"\xff\x00\x80";
+        Optional(UInt32, Copy), Has(U32(7)), b"\xff\x00\x80";
         // an overlong NULL of a string
-        Optional(Kind::Unicode, Copy), Assigned(Unicode("ü")), b"\xff\x00\x80";
+        Optional(Kind::Unicode, Copy), Has(Unicode("ü")), b"\xff\x00\x80";
         // a value
-        Optional(UInt32, Copy), Assigned(U32(7)), b"\xff\x81";
+        Optional(UInt32, Copy), Has(U32(7)), b"\xff\x81";
         // no byte
-        Optional(UInt32, Copy), Assigned(U32(7)), b"\xff";
+        Optional(UInt32, Copy), Has(U32(7)), b"\xff";
     };
     all_relayed(&rt, rt.alloc(), false, RELAYED)?;
     all_as_read(&rt, rt.alloc(), OTHERS)

@@ -7,7 +7,7 @@ ghost use Rattle.fast_field.specs.Parts.{IsBitOf, IsFieldPart};
 
 use crate::base::*;
 use crate::judged::holds_scalar;
-use crate::ways::{generated, instructions, is_part};
+use crate::ways::{instructions, is_part, made};
 use fast_dictionary::Entry;
 use fast_field::{FieldFault, FieldRefusal, Level, read_field, units, write_in_place};
 use fast_take::{Aside, Took, Unkept, take};
@@ -144,7 +144,7 @@ fn all_taken(
     }
     for _ in 0..FIELDS {
         let bit = !part_needs_bit(instr) || numbers.below(3) > 0;
-        let bytes = generated(alloc, instr, bit, numbers)?;
+        let bytes = made(alloc, instr, bit, numbers)?;
         let at = bytes.len().min(1);
         let (after, next) = is_taken(rt, alloc, instr, &entry, bit, level, &bytes, at, &mut aside)?;
         let end = next.unwrap_or(bytes.len()).min(bytes.len());

@@ -79,19 +79,14 @@ pub(crate) fn instructions(alloc: Global) -> Tried<Vec<FieldPart>> {
 const FIELDS: u32 = 96;
 
 // A field behind one byte, and bytes behind it.
-pub(crate) fn generated(
-    alloc: Global,
-    instr: &FieldPart,
-    bit: bool,
-    numbers: &mut Numbers,
-) -> Tried<Vec<u8>> {
+pub(crate) fn made(alloc: Global, of: &FieldPart, bit: bool, from: &mut Numbers) -> Tried<Vec<u8>> {
     let mut bytes = Vec::new(alloc);
-    bytes.push(numbers.below(128))?;
+    bytes.push(from.below(128))?;
     if bit {
-        put_sent(instr, numbers, &mut bytes)?;
+        put_sent(of, from, &mut bytes)?;
     }
-    for _ in 0..numbers.below(4) {
-        bytes.push(numbers.below(255))?;
+    for _ in 0..from.below(4) {
+        bytes.push(from.below(255))?;
     }
     Ok(bytes)
 }
@@ -294,18 +289,13 @@ fn goes_both_ways(
 }
 
 // Fields of an instruction, one after the other, go the same both ways, and some of them the quick way.
-fn all_go_both_ways(
-    rt: &impl Abort,
-    alloc: Global,
-    numbers: &mut Numbers,
-    instr: &FieldPart,
-) -> Tried {
+fn all_go_both_ways(rt: &impl Abort, alloc: Global, from: &mut Numbers, of: &FieldPart) -> Tried {
     let mut entry = Entry::Undefined;
     let mut served = false;
     for _ in 0..FIELDS {
-        let bit = !part_needs_bit(instr) || numbers.below(3) > 0;
-        let bytes = generated(alloc, instr, bit, numbers)?;
-        served |= goes_both_ways(rt, alloc, instr, &mut entry, bit, &bytes)?;
+        let bit = !part_needs_bit(of) || from.below(3) > 0;
+        let bytes = made(alloc, of, bit, from)?;
+        served |= goes_both_ways(rt, alloc, of, &mut entry, bit, &bytes)?;
     }
     same(rt, served, true);
     Ok(())

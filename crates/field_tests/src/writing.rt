@@ -8,7 +8,7 @@ ghost use Rattle.fast_field.specs.Parts.{IsFieldPart};
 ghost use Rattle.fast_field.specs.Within.{HoldsScalar};
 
 use crate::base::*;
-use crate::fields::Kept::{Assigned, Empty, Undefined};
+use crate::fields::Kept::{Empty, Has, Undefined};
 use crate::fields::Shape::{Exponent, Initial, Mandatory, Optional};
 use crate::fields::Value::{Ascii, Bytes, Decimal, I32, Letters, U32, U64, Unicode, Wide};
 use crate::fields::{Kept, Shape, Value, are_such, scalar_of};
@@ -222,26 +222,26 @@ fn fields_that_are_written(rt: HostRuntime) -> Tried {
         Initial(Presence::Optional, Default, 3), Undefined, None, Ok((true, b"\x80"));
         Initial(Presence::Optional, Default, 3), Undefined, Some(U32(4)), Ok((true, b"\x85"));
         // copies
-        Mandatory(Kind::Ascii, Copy), Assigned(Ascii(b"AB")), Some(Ascii(b"AB")), Ok((false, b""));
-        Mandatory(Kind::Ascii, Copy), Assigned(Ascii(b"AB")), Some(Ascii(b"C")), Ok((true, b"\xc3"));
+        Mandatory(Kind::Ascii, Copy), Has(Ascii(b"AB")), Some(Ascii(b"AB")), Ok((false, b""));
+        Mandatory(Kind::Ascii, Copy), Has(Ascii(b"AB")), Some(Ascii(b"C")), Ok((true, b"\xc3"));
         Mandatory(Kind::Bytes, Copy), Undefined, Some(Bytes(b"")), Ok((true, b"\x80"));
         // increments
-        Mandatory(UInt32, Increment), Assigned(U32(1)), Some(U32(2)), Ok((false, b""));
-        Mandatory(UInt32, Increment), Assigned(U32(u32::MAX)), Some(U32(0)), Ok((false, b""));
-        Mandatory(UInt32, Increment), Assigned(U32(1)), Some(U32(3)), Ok((true, b"\x83"));
+        Mandatory(UInt32, Increment), Has(U32(1)), Some(U32(2)), Ok((false, b""));
+        Mandatory(UInt32, Increment), Has(U32(u32::MAX)), Some(U32(0)), Ok((false, b""));
+        Mandatory(UInt32, Increment), Has(U32(1)), Some(U32(3)), Ok((true, b"\x83"));
         // deltas of numbers: a difference of 65 bits
-        Optional(UInt64, Delta), Assigned(U64(u64::MAX)), Some(U64(0)),
+        Optional(UInt64, Delta), Has(U64(u64::MAX)), Some(U64(0)),
             Ok((true, b"\x7e\x00\x00\x00\x00\x00\x00\x00\x00\x81"));
         Optional(UInt64, Delta), Empty, None, Ok((true, b"\x80"));
-        Mandatory(Kind::Decimal, Delta), Assigned(Decimal(-2, 7)), Some(Decimal(-1, 5)), Ok((true, b"\x81\xfe"));
+        Mandatory(Kind::Decimal, Delta), Has(Decimal(-2, 7)), Some(Decimal(-1, 5)), Ok((true, b"\x81\xfe"));
         // an exponent out of its range
         Mandatory(Kind::Decimal, Delta), Undefined, Some(Decimal(64, 1)), Err(R1);
         // fewer bytes with removal in front
-        Mandatory(Kind::Ascii, Delta), Assigned(Ascii(b"GEM6")), Some(Ascii(b"ESM6")), Ok((true, b"\xfd\x45\xd3"));
+        Mandatory(Kind::Ascii, Delta), Has(Ascii(b"GEM6")), Some(Ascii(b"ESM6")), Ok((true, b"\xfd\x45\xd3"));
         // as many bytes on both sides: removal at the end
-        Mandatory(Kind::Ascii, Delta), Assigned(Ascii(b"ESM6")), Some(Ascii(b"ESM6")), Ok((true, b"\x80\x80"));
+        Mandatory(Kind::Ascii, Delta), Has(Ascii(b"ESM6")), Some(Ascii(b"ESM6")), Ok((true, b"\x80\x80"));
         // a character beyond ASCII
-        Mandatory(Kind::Ascii, Delta), Assigned(Ascii(b"A")), Some(Ascii(b"A\x80")), Err(Mismatch);
+        Mandatory(Kind::Ascii, Delta), Has(Ascii(b"A")), Some(Ascii(b"A\x80")), Err(Mismatch);
         // too many characters, and another type or a character beyond ASCII, which comes first
         Mandatory(Kind::Unicode, Copy), Undefined, Some(Letters(65_536)), Err(Limit);
         Mandatory(Kind::Ascii, Copy), Undefined, Some(Letters(65_536)), Err(Mismatch);
@@ -251,12 +251,12 @@ fn fields_that_are_written(rt: HostRuntime) -> Tried {
         // a delta on an empty entry
         Mandatory(Kind::Ascii, Delta), Empty, Some(Ascii(b"A")), Err(D6);
         // the shortest tail begins with NUL, and would have four bytes
-        Optional(Kind::Ascii, Tail), Assigned(Ascii(b"xab")), Some(Ascii(b"x\0b")), Ok((true, b"\x78\x00\xe2"));
-        Optional(Kind::Ascii, Tail), Assigned(Ascii(b"xab")), Some(Ascii(b"xab")), Ok((false, b""));
-        Optional(Kind::Ascii, Tail), Assigned(Ascii(b"xab")), None, Ok((true, b"\x80"));
-        Optional(Kind::Ascii, Tail), Assigned(Ascii(b"xab")), Some(Ascii(b"x")), Err(TooShort);
+        Optional(Kind::Ascii, Tail), Has(Ascii(b"xab")), Some(Ascii(b"x\0b")), Ok((true, b"\x78\x00\xe2"));
+        Optional(Kind::Ascii, Tail), Has(Ascii(b"xab")), Some(Ascii(b"xab")), Ok((false, b""));
+        Optional(Kind::Ascii, Tail), Has(Ascii(b"xab")), None, Ok((true, b"\x80"));
+        Optional(Kind::Ascii, Tail), Has(Ascii(b"xab")), Some(Ascii(b"x")), Err(TooShort);
         // a tail on another type
-        Mandatory(Kind::Unicode, Tail), Assigned(Ascii(b"xab")), Some(Unicode("é")), Err(D4);
+        Mandatory(Kind::Unicode, Tail), Has(Ascii(b"xab")), Some(Unicode("é")), Err(D4);
         // tails of an initial value: the shortest one is empty, and would have two bytes
         Shape::Tail(b"ab"), Empty, Some(Ascii(b"ab")), Ok((true, b"\xe2"));
         // a longer value stands whole

@@ -10,5 +10,5 @@ returns c =
     let new = judge.new.entry in
     let bytes = c.args.bytes.now in
     let at = c.args.at in
-    told_took c.args.level i old new bytes at judge.result tell.new.aside tell.result (c.is_read_as_usual.ensures c.if-not-is_read_as_usual.false) judge.ensures.judged
+    told_took c.args.level i old new bytes at judge.result tell.new.aside tell.result judge.ensures.usual judge.ensures.judged
     (rw (tell.ensures.unkept) judge.ensures.aside) tell.ensures.judged (tell.ensures.taken i old new judge.ensures.judged)

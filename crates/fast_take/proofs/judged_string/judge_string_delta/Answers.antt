@@ -1,4 +1,5 @@
 use Rattle.fast_take.proofs.Common.{◌+◌, ◌-◌, ◌++◌, length, take, slice_range, arith, groups, Ascii}
+use Rattle.fast_take.proofs.LevelsAlike.{text_cut_as_usual}
 use Rattle.fast_take.proofs.StringJudging.{cut_stands}
 use Rattle.fast_take.proofs.judged_string.judge_string_delta.Goals as goal
 
@@ -18,4 +19,8 @@ returns-then-replace_end c =
     c.in-Some.ensures.few many.0 (omega arith) (omega (arith, place))
     (omega (arith, many, c.requires.kept.0)) c.in-Some.ensures.stands c.in-Some-short_plain_end.ensures.plain
     (rw put at c.replace_end.ensures.prefix c.if-replace_end.true) (rw put at c.replace_end.ensures.end c.if-replace_end.true) in
-    rw put (record { place = omega (arith, place); within = place.1; gives = (value, stands) })
+    rw put
+    (record {
+      judged = record { place = omega (arith, place); within = place.1; gives = (value, stands) };
+      usual = λ found level. text_cut_as_usual level c.args.instr.now _ bytes c.args.at first next _ _ c.requires.kind c.requires.operator (omega arith) (omega (arith, place)) c.in-Some.ensures.stands c.in-Some-short_plain_end.ensures.plain;
+    })
