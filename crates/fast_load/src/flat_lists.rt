@@ -44,7 +44,7 @@ pub(crate) fn flat_templates(
     let mut flats = without_members(alloc, templates)?;
     for place in order {
         let template = &templates[*place];
-        let mut members = Vec::new(alloc);
+        let mut members = Vec::with_capacity(alloc, template.members.len())?;
         let around = directly_in(template, *place as u32 + 1);
         let mut links = Links {
             rest: &checked.links[*place],
@@ -169,7 +169,7 @@ fn append_one(
             members,
         } => {
             let around = inside(around, dictionary, type_ref);
-            let mut inner = Vec::new(alloc);
+            let mut inner = Vec::with_capacity(alloc, members.len())?;
             append_all(members, around, lists, links, initials, alloc, &mut inner)?;
             let group = group_flat(alloc, name, *presence, inner)?;
             flats.push(group)?;
@@ -187,7 +187,7 @@ fn append_one(
             let around = inside(around, dictionary, type_ref);
             let initial = initials.take_next()?;
             let length = length_of(alloc, around, name, *presence, length_name, length, initial)?;
-            let mut inner = Vec::new(alloc);
+            let mut inner = Vec::with_capacity(alloc, members.len())?;
             append_all(members, around, lists, links, initials, alloc, &mut inner)?;
             let sequence = sequence_flat(alloc, name, *presence, length, inner)?;
             flats.push(sequence)?;
@@ -238,9 +238,10 @@ fn field_flat(
         (field_part (context_in around.entry) name.now kind presence
         (operation_of operation.now))) }
 {
-    let key = key_of(alloc, around, operation, name, Part::Whole)?;
+    let name = Name::of(alloc, name)?;
+    let key = key_of(alloc, around, operation, &name, Part::Whole)?;
     Ok(Flat::Field {
-        name: Name::of(alloc, name)?,
+        name,
         number: 0,
         presence,
         whole: part_of(Part::Whole, kind, presence, operation, key, initial),
@@ -263,12 +264,13 @@ fn parts_flat(
         (exponent_part (context_in around.entry) name.now presence (operation_of exponent.now))
         (mantissa_part (context_in around.entry) name.now (operation_of mantissa.now))) }
 {
-    let exponent_key = key_of(alloc, around, exponent, name, Part::Exponent)?;
+    let name = Name::of(alloc, name)?;
+    let exponent_key = key_of(alloc, around, exponent, &name, Part::Exponent)?;
     let exponent_initial = initials.take_next()?;
-    let mantissa_key = key_of(alloc, around, mantissa, name, Part::Mantissa)?;
+    let mantissa_key = key_of(alloc, around, mantissa, &name, Part::Mantissa)?;
     let mantissa_initial = initials.take_next()?;
     Ok(Flat::Parts {
-        name: Name::of(alloc, name)?,
+        name,
         number: 0,
         presence,
         exponent: part_of(
@@ -362,8 +364,14 @@ fn key_of_length(
         (option_map string_bytes length_name.now) (operation_of operation.now)) }
 {
     match length_name {
-        Some(length_name) => key_of(alloc, around, operation, length_name, Part::Whole),
-        None => key_of(alloc, around, operation, name, Part::Length),
+        Some(length_name) => {
+            let length_name = Name::of(alloc, length_name)?;
+            key_of(alloc, around, operation, &length_name, Part::Whole)
+        }
+        None => {
+            let name = Name::of(alloc, name)?;
+            key_of(alloc, around, operation, &name, Part::Length)
+        }
     }
 }
 

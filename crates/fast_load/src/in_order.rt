@@ -36,7 +36,7 @@ pub(crate) fn in_order<'a>(
     ensures listed { IfOk result (λ list. map found_of list.items
         ≡ listed (written_list (map written_of members.now))) }
 {
-    let mut list = Vec::new(alloc);
+    let mut list = Vec::with_capacity(alloc, members.len())?;
     let mut pile = Vec::new(alloc);
     pile.push(Level { level: 0, members })?;
     while let Some(front) = pile.pop() {

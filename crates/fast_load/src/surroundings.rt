@@ -100,7 +100,7 @@ fn scope_of(alloc: Global, around: Around<'_>, operation: &Operation) -> Result<
     }
 }
 
-/// The key of an operator's entry, its slot still to be given.
+/// The key of an operator's entry, its slot still to be given. It shares the field's name, where it has that.
 ///
 /// # Errors
 ///
@@ -109,7 +109,7 @@ pub(crate) fn key_of(
     alloc: Global,
     around: Around<'_>,
     operation: &Operation,
-    name: &str,
+    name: &Name,
     part: Part,
 ) -> Result<Key, AllocError>
     ensures { IfOk result (λ key. key
@@ -126,7 +126,7 @@ pub(crate) fn key_of(
         None => Ok(Key {
             slot: 0,
             scope,
-            name: Name::of(alloc, name)?,
+            name: name.copy()?,
             part,
         }),
     }

@@ -1,3 +1,5 @@
 mod Common
+mod DataLaws
+mod Fitting
 pub mod JsonReading
 pub mod WorkedTemplates

@@ -15,10 +15,10 @@ use Rattle.fast_value.specs.declared.kind.Presence.TheVariants.{Mandatory, Optio
 use Rattle.fast_value.specs.declared.kind.Operator.{Operator}
 use Rattle.fast_written.specs.declared.profile.Word.{Word}
 use Rattle.fast_written.specs.declared.profile.Row.{Row}
-use Rattle.fast_written.specs.declared.json.Form.{Form}
+use Rattle.fast_written.specs.declared.from_data.Form.{Form}
 use Rattle.fast_written.specs.Written.{written_template_of}
 use Rattle.fast_written.specs.declared.written.Template.{Template}
-use Rattle.fast_written.specs.declared.json.Unread.{Unread}
+use Rattle.fast_written.specs.declared.from_data.Unread.{Unread}
 use Rattle.fast_written.specs.Written.{WrittenTemplate, WrittenOperation, Surroundings, WrittenInstruction, WrittenInstructions, written_field, written_parts, written_group, written_sequence, written_reference, no_written, then_written}
 use Rattle.fast_written.specs.LoadFaults.{fault_at}
 use Rattle.fast_written.specs.Names.{is_name}

@@ -4,3 +4,4 @@ pub mod Written
 pub mod JsonTemplates
 pub mod Profile
 pub mod CauseNames
+pub mod JsonData

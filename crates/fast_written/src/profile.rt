@@ -1,10 +1,14 @@
 //! What the objects of a template text may hold: a table with a row for each kind of object.
 
 ghost use Rattle.std.specs.Prelude.{◌≡◌};
-ghost use Rattle.serde_json.specs.View.{members_view, view};
-ghost use Rattle.fast_written.specs.Profile.{all_allowed, allows as allows_of, fits as fits_of, has_needed, is_needed as is_needed_of, is_of, row_of, word_text};
+ghost use Rattle.json.specs.Value.{members_view};
+ghost use Rattle.serde_json.specs.View.{view};
+ghost use Rattle.fast_written.specs.JsonData.{all_known, all_met, data_in, knows as knows_of, meets as meets_of};
+ghost use Rattle.fast_written.specs.Profile.{allows as allows_of, fits as fits_of, is_needed as is_needed_of, is_of, row_of, word_text};
 
-use serde_json::{Map, Value};
+use crate::data::{member, text, whole_number};
+use json::Value as Json;
+use serde_json::Value;
 
 /// How many identifiers there are: each is below it.
 pub(crate) const IDENTIFIERS: u64 = 1 << 32;
@@ -200,17 +204,42 @@ pub fn is_shape(shape: Shape, value: &Value) -> bool
     }
 }
 
-fn allows(row: Row, key: &str, value: &Value) -> bool
-    ensures { result ≡ allows_of row key.now (view value.now) }
+// Whether JSON has a shape.
+fn has_shape(shape: Shape, value: &Json<'_>) -> bool
+    ensures { result ≡ is_of shape (data_in value.now) }
 {
-    row_keys(row).iter().any(|rule| text_of_word(rule.0) == key && is_shape(rule.1, value))
+    match shape {
+        Shape::Text => text(value).is_some(),
+        Shape::Whole => whole_number(value).is_some_and(|number| number < IDENTIFIERS),
+        Shape::Array => match value {
+            Json::Array(_) => true,
+            _ => false,
+        },
+        Shape::Object => match value {
+            Json::Object(_) => true,
+            _ => false,
+        },
+    }
 }
 
-fn allows_all(row: Row, members: &Map<String, Value>) -> bool
-    ensures { result ≡ all_allowed row (members_view members.now.entries) }
+fn allows(row: Row, key: &str, value: &Json<'_>) -> bool
+    ensures { result ≡ allows_of row key.now (data_in value.now) }
 {
-    for (key, value) in members.iter() {
-        if !allows(row, key.as_str(), value) {
+    row_keys(row).iter().any(|rule| text_of_word(rule.0) == key && has_shape(rule.1, value))
+}
+
+fn knows(row: Row, key: &str) -> bool
+    ensures { result ≡ knows_of row key.now }
+{
+    row_keys(row).iter().any(|rule| text_of_word(rule.0) == key)
+}
+
+// Whether a row has each key of an object.
+fn knows_all(row: Row, members: &[(&str, Json<'_>)]) -> bool
+    ensures { result ≡ all_known row (members_view members.now) }
+{
+    for member in members {
+        if !knows(row, member.0) {
             return false;
         }
     }
@@ -226,20 +255,31 @@ fn is_needed(need: Need) -> bool
     }
 }
 
-fn has_all(row: Row, object: &Value) -> bool
-    ensures { result ≡ has_needed row (view object.now) }
+// Whether what stands under a key of a row may stand there; of a key that stands twice in an object the last counts.
+fn meets(row: Row, word: Word, need: Need, object: &Json<'_>) -> bool
+    ensures { result ≡ meets_of row word need (data_in object.now) }
 {
-    row_keys(row).iter().all(|rule| !is_needed(rule.2)
-        || object.get(text_of_word(rule.0)).is_some())
+    match member(object, word) {
+        Some(value) => allows(row, text_of_word(word), value),
+        None => !is_needed(need),
+    }
 }
 
-/// Whether a value is an object with the keys of its row: none that the row has not, each of its type, and those that
+fn meets_all(row: Row, object: &Json<'_>) -> bool
+    ensures { result ≡ all_met row (data_in object.now) }
+{
+    row_keys(row)
+        .iter()
+        .all(|rule| meets(row, rule.0, rule.2, object))
+}
+
+/// Whether JSON is an object with the keys of its row: none that the row has not, each of its type, and those that
 /// are needed.
-pub(crate) fn fits(row: Row, value: &Value) -> bool
-    ensures { result ≡ fits_of row (view value.now) }
+pub(crate) fn fits(row: Row, value: &Json<'_>) -> bool
+    ensures { result ≡ fits_of row (data_in value.now) }
 {
     match value {
-        Value::Object(members) => allows_all(row, members) && has_all(row, value),
+        Json::Object(members) => knows_all(row, members) && meets_all(row, value),
         _ => false,
     }
 }

@@ -3,7 +3,7 @@
 ghost use Rattle.std.specs.Prelude.{◌<◌};
 
 use fast_template::{FieldPart, Kind, Operator};
-use std::alloc::AllocError;
+use test_rows::Tried;
 
 /// Numbers without a pattern, the same in each run.
 #[derive(Drop)]
@@ -31,7 +31,7 @@ impl Numbers {
 }
 
 // A number of a few groups, often with needless ones in front.
-fn put_number(numbers: &mut Numbers, bytes: &mut Vec<u8>) -> Result<(), AllocError> {
+fn put_number(numbers: &mut Numbers, bytes: &mut Vec<u8>) -> Tried {
     match numbers.below(8) {
         0 => bytes.push(0)?,
         1 => bytes.push(127)?,
@@ -50,7 +50,7 @@ fn put_number(numbers: &mut Numbers, bytes: &mut Vec<u8>) -> Result<(), AllocErr
 }
 
 // A count of few, or few less than none.
-fn put_few(numbers: &mut Numbers, bytes: &mut Vec<u8>) -> Result<(), AllocError> {
+fn put_few(numbers: &mut Numbers, bytes: &mut Vec<u8>) -> Tried {
     match numbers.below(12) {
         0 => bytes.push(0)?,
         1 => return Ok(bytes.push(255 - numbers.below(2))?),
@@ -61,7 +61,7 @@ fn put_few(numbers: &mut Numbers, bytes: &mut Vec<u8>) -> Result<(), AllocError>
 }
 
 // Characters, of few so that texts are often alike.
-fn put_characters(numbers: &mut Numbers, bytes: &mut Vec<u8>) -> Result<(), AllocError> {
+fn put_characters(numbers: &mut Numbers, bytes: &mut Vec<u8>) -> Tried {
     for _ in 0..numbers.below(6) {
         bytes.push(b'A' + numbers.below(3))?;
     }
@@ -69,7 +69,7 @@ fn put_characters(numbers: &mut Numbers, bytes: &mut Vec<u8>) -> Result<(), Allo
 }
 
 // A string with its stop bit, at times behind zeros.
-fn put_string(numbers: &mut Numbers, bytes: &mut Vec<u8>) -> Result<(), AllocError> {
+fn put_string(numbers: &mut Numbers, bytes: &mut Vec<u8>) -> Tried {
     match numbers.below(8) {
         0 => bytes.push(0)?,
         1 => bytes.extend_from_slice(&[0, 0])?,
@@ -82,7 +82,7 @@ fn put_string(numbers: &mut Numbers, bytes: &mut Vec<u8>) -> Result<(), AllocErr
 }
 
 // What a value of a type is spelled by.
-fn put_value(kind: Kind, numbers: &mut Numbers, bytes: &mut Vec<u8>) -> Result<(), AllocError> {
+fn put_value(kind: Kind, numbers: &mut Numbers, bytes: &mut Vec<u8>) -> Tried {
     match kind {
         Kind::UInt32 | Kind::Int32 | Kind::UInt64 | Kind::Int64 => put_number(numbers, bytes),
         Kind::Decimal => {
@@ -101,11 +101,7 @@ fn put_value(kind: Kind, numbers: &mut Numbers, bytes: &mut Vec<u8>) -> Result<(
 }
 
 /// What is sent of a field under bit 1: most has a reading, though not on each entry.
-pub fn put_sent(
-    instr: &FieldPart,
-    numbers: &mut Numbers,
-    bytes: &mut Vec<u8>,
-) -> Result<(), AllocError> {
+pub fn put_sent(instr: &FieldPart, numbers: &mut Numbers, bytes: &mut Vec<u8>) -> Tried {
     match (instr.operator, instr.kind) {
         (Operator::Constant, _) => Ok(()),
         (Operator::Delta, Kind::Ascii | Kind::Unicode | Kind::Bytes) => {

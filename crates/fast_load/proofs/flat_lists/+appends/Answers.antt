@@ -29,7 +29,7 @@ pub append_one-returns-in_ok-push-in-Group-clause-appended : goal.append_one-ret
 append_one-returns-in_ok-push-in-Group-clause-appended t c =
     let inner : list_of c.append_all.new.flats.items ≡ flat_list (list_named c.args.lists.now) (context_in c.inside-around.result) (written_list (map written_of c.in-Group.members.items)) =
     c.in_ok-append_all-in-Group.ensures.appended
-    ∙ ap (λ fs. joined (list_of fs) (flat_list (list_named c.args.lists.now) (context_in c.inside-around.result) (written_list (map written_of c.deref-in-Group.result.now)))) c.new-inner.ensures.items
+    ∙ ap (λ fs. joined (list_of fs) (flat_list (list_named c.args.lists.now) (context_in c.inside-around.result) (written_list (map written_of c.deref-in-Group.result.now)))) c.in_ok-inner-in-Group.ensures.items
     ∙ ap (λ is. flat_list (list_named c.args.lists.now) (context_in c.inside-around.result) (written_list (map written_of is))) c.deref-in-Group.ensures.value in
     group_put (list_named c.args.lists.now) (context_in c.args.around) (context_in c.inside-around.result) c.args.flats.now.items c.push-in-Group.new.self.items c.append_all.new.flats.items c.in_ok-group-in-Group.group c.args.member.now c.in-Group.name c.deref-in-Group-2.result.now c.in-Group.presence c.in-Group.dictionary c.in-Group.type_ref c.in-Group.members c.in-Group.is c.deref-in-Group-2.ensures c.inside-around.ensures inner c.in_ok-group-in-Group.ensures c.in_ok-push-in-Group.ensures.items
 
@@ -37,6 +37,6 @@ pub append_one-returns-in_ok-push-in-Sequence-clause-appended : goal.append_one-
 append_one-returns-in_ok-push-in-Sequence-clause-appended t c =
     let inner : list_of c.append_all-in-Sequence.new.flats.items ≡ flat_list (list_named c.args.lists.now) (context_in c.inside-around-in-Sequence.result) (written_list (map written_of c.in-Sequence.members.items)) =
     c.in_ok-append_all-in-Sequence.ensures.appended
-    ∙ ap (λ fs. joined (list_of fs) (flat_list (list_named c.args.lists.now) (context_in c.inside-around-in-Sequence.result) (written_list (map written_of c.deref-in-Sequence-2.result.now)))) c.new-inner-in-Sequence.ensures.items
+    ∙ ap (λ fs. joined (list_of fs) (flat_list (list_named c.args.lists.now) (context_in c.inside-around-in-Sequence.result) (written_list (map written_of c.deref-in-Sequence-2.result.now)))) c.in_ok-inner-in-Sequence.ensures.items
     ∙ ap (λ is. flat_list (list_named c.args.lists.now) (context_in c.inside-around-in-Sequence.result) (written_list (map written_of is))) c.deref-in-Sequence-2.ensures.value in
     sequence_put (list_named c.args.lists.now) (context_in c.args.around) (context_in c.inside-around-in-Sequence.result) c.args.flats.now.items c.push-in-Sequence.new.self.items c.append_all-in-Sequence.new.flats.items c.in_ok-sequence-in-Sequence.sequence c.args.member.now c.in-Sequence.name c.deref-in-Sequence.result.now c.in-Sequence.presence c.in-Sequence.dictionary c.in-Sequence.type_ref c.in-Sequence.length_name c.in-Sequence.length c.in_ok-length-in-Sequence.length c.in-Sequence.members c.in-Sequence.is c.deref-in-Sequence.ensures c.inside-around-in-Sequence.ensures inner (subst (λ n. c.in_ok-length-in-Sequence.length ≡ length_part (context_in c.inside-around-in-Sequence.result) n c.in-Sequence.presence (option_map string_bytes c.in-Sequence.length_name) (operation_of c.in-Sequence.length)) (c.deref-in-Sequence.ensures ∙ sym c.deref-in-Sequence.ensures) c.in_ok-length-in-Sequence.ensures) (subst (λ n. instruction_of c.in_ok-sequence-in-Sequence.sequence ≡ sequence_of n 0 c.in-Sequence.presence c.in_ok-length-in-Sequence.length (list_of c.append_all-in-Sequence.new.flats.items)) (c.deref-in-Sequence-3.ensures ∙ sym c.deref-in-Sequence.ensures) c.in_ok-sequence-in-Sequence.ensures) c.in_ok-push-in-Sequence.ensures.items

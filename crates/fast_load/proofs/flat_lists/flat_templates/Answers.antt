@@ -49,7 +49,7 @@ loop-place-preserved c =
     let list : Instructions = list_of c.append_all.new.flats.items in
     let made : list ≡ flat_list (list_named flats) (context_of (a + 1) (written_template_of t)) (written_template_of t).members =
     c.in_ok-append_all.ensures.appended
-    ∙ ap (λ fs. joined (list_of fs) (flat_list (list_named c.deref-in-loop-place-3.result.now) (context_in c.directly_in-around.result) (written_list (map written_of c.deref-in-loop-place-2.result.now)))) c.new-members.ensures.items
+    ∙ ap (λ fs. joined (list_of fs) (flat_list (list_named c.deref-in-loop-place-3.result.now) (context_in c.directly_in-around.result) (written_list (map written_of c.deref-in-loop-place-2.result.now)))) c.in_ok-members.ensures.items
     ∙ ap (λ is. flat_list (list_named c.deref-in-loop-place-3.result.now) (context_in c.directly_in-around.result) (written_list (map written_of is))) c.deref-in-loop-place-2.ensures.value
     ∙ ap (λ fs. flat_list (list_named fs) (context_in c.directly_in-around.result) (written_template_of t).members) c.deref-in-loop-place-3.ensures.value
     ∙ ap (λ x. flat_list (list_named flats) x (written_template_of t).members) c.directly_in-around.ensures in

@@ -1,22 +1,23 @@
 //! Templates from the data of a template text.
 
 ghost use Rattle.std.specs.Prelude.{◌≡◌, IfOk, length, map, min, option_and_then, option_map, option_to_list, string_bytes};
-ghost use Rattle.serde_json.specs.View.{items_view, view};
 ghost use Rattle.fast_written.specs.JsonTemplates.{ReadsAs, ReadsTemplate, ReadsTemplates, fault_of_unread, read_templates as read_templates_of, templates_of, templates_under, id_in, read_template as read_template_of, template_with, around_in, group_in, members_in, read_all as read_all_of, read_items, one_of, sequence_in, charset_in, charset_named, decimal_in, field_in, form_in, form_named, has as has_of, leaf_in, length_name_in, name_in, operation_in, operator_named as operator_named_of, part_in, parts_in, plain, presence_in, presence_named, row_of_form as row_of_form_of, says_more as says_more_of, text_at as text_at_of};
 ghost use Rattle.std.specs.List.{list_all};
 ghost use Rattle.std.specs.Option.{option_or};
 ghost use Rattle.fast_written.specs.Names.{is_name as is_name_of};
 ghost use Rattle.fast_written.specs.declared.profile.Word.TheVariants as word_variants;
+ghost use Rattle.fast_written.specs.JsonData.{data_in, items_in};
 ghost use Rattle.fast_written.specs.LoadFaults.{next_number as next_number_of};
 ghost use Rattle.fast_written.specs.Written.{operation_of, written_group, written_list, written_of, written_sequence, written_template_of};
-ghost use Rattle.fast_written.specs.declared.json.Unread.TheVariants as unread_variants;
+ghost use Rattle.fast_written.specs.declared.from_data.Unread.TheVariants as unread_variants;
 
+use crate::data::{member, text, whole_number};
 use crate::fault::{LoadCause, LoadFault, fault_at, want_of_memory};
 use crate::name::is_name;
-use crate::profile::{IDENTIFIERS, Row, Word, fits, text_of_word};
+use crate::profile::{IDENTIFIERS, Row, Word, fits};
 use crate::written::{Instruction, Operation, Template};
 use fast_value::{Kind, Operator, Presence};
-use serde_json::Value;
+use json::Value;
 use std::alloc::{AllocError, Global};
 
 /// What an instruction's `kind` says.
@@ -51,20 +52,23 @@ impl From<AllocError> for Unread {
     }
 }
 
-fn text_at<'a>(object: &'a Value, word: Word) -> Option<&'a str>
-    ensures { option_map (λ s. s.now) result ≡ text_at_of word (view object.now) }
+fn text_at<'a>(object: &'a Value<'_>, word: Word) -> Option<&'a str>
+    ensures { option_map (λ s. s.now) result ≡ text_at_of word (data_in object.now) }
 {
-    object.get(text_of_word(word)).and_then(Value::as_str)
+    match member(object, word) {
+        Some(value) => text(value),
+        None => None,
+    }
 }
 
-fn has(object: &Value, word: Word) -> bool
-    ensures { result ≡ has_of word (view object.now) }
+fn has(object: &Value<'_>, word: Word) -> bool
+    ensures { result ≡ has_of word (data_in object.now) }
 {
-    object.get(text_of_word(word)).is_some()
+    member(object, word).is_some()
 }
 
-fn string_at(alloc: Global, object: &Value, word: Word) -> Result<Option<String>, AllocError>
-    ensures { IfOk result (λ o. option_map string_bytes o ≡ text_at_of word (view object.now)) }
+fn string_at(alloc: Global, object: &Value<'_>, word: Word) -> Result<Option<String>, AllocError>
+    ensures { IfOk result (λ o. option_map string_bytes o ≡ text_at_of word (data_in object.now)) }
 {
     match text_at(object, word) {
         Some(text) => Ok(Some(String::from_str(alloc, text)?)),
@@ -72,8 +76,8 @@ fn string_at(alloc: Global, object: &Value, word: Word) -> Result<Option<String>
     }
 }
 
-fn name_at(alloc: Global, object: &Value) -> Result<String, AllocError>
-    ensures { IfOk result (λ name. string_bytes name ≡ name_in (view object.now)) }
+fn name_at(alloc: Global, object: &Value<'_>) -> Result<String, AllocError>
+    ensures { IfOk result (λ name. string_bytes name ≡ name_in (data_in object.now)) }
 {
     match text_at(object, Word::Name) {
         Some(name) => String::from_str(alloc, name),
@@ -114,8 +118,8 @@ pub fn form_of_kind(text: &str) -> Option<Form>
     }
 }
 
-fn form_at(object: &Value) -> Option<Form>
-    ensures { result ≡ form_in (view object.now) }
+fn form_at(object: &Value<'_>) -> Option<Form>
+    ensures { result ≡ form_in (data_in object.now) }
 {
     match text_at(object, Word::Kind) {
         Some(text) => form_of_kind(text),
@@ -137,8 +141,8 @@ pub fn presence_of_word(text: &str) -> Option<Presence>
     }
 }
 
-fn presence_at(object: &Value) -> Option<Presence>
-    ensures { result ≡ presence_in (view object.now) }
+fn presence_at(object: &Value<'_>) -> Option<Presence>
+    ensures { result ≡ presence_in (data_in object.now) }
 {
     match text_at(object, Word::Presence) {
         Some(text) => presence_of_word(text),
@@ -160,8 +164,8 @@ pub fn kind_of_charset(text: &str) -> Option<Kind>
     }
 }
 
-fn charset_at(object: &Value) -> Option<Kind>
-    ensures { result ≡ charset_in (view object.now) }
+fn charset_at(object: &Value<'_>) -> Option<Kind>
+    ensures { result ≡ charset_in (data_in object.now) }
 {
     match text_at(object, Word::Charset) {
         Some(text) => kind_of_charset(text),
@@ -187,8 +191,8 @@ pub fn operator_named(text: &str) -> Option<Operator>
     }
 }
 
-fn says_more(object: &Value) -> bool
-    ensures { result ≡ says_more_of (view object.now) }
+fn says_more(object: &Value<'_>) -> bool
+    ensures { result ≡ says_more_of (data_in object.now) }
 {
     has(object, Word::Value) || has(object, Word::Dictionary) || has(object, Word::Key)
 }
@@ -204,8 +208,8 @@ fn plain_operation() -> Operation
     }
 }
 
-fn operation_at(alloc: Global, object: &Value) -> Result<Option<Operation>, AllocError>
-    ensures { IfOk result (λ o. option_map operation_of o ≡ operation_in (view object.now)) }
+fn operation_at(alloc: Global, object: &Value<'_>) -> Result<Option<Operation>, AllocError>
+    ensures { IfOk result (λ o. option_map operation_of o ≡ operation_in (data_in object.now)) }
 {
     let Some(text) = text_at(object, Word::Operator) else {
         return if says_more(object) {
@@ -230,11 +234,11 @@ fn part_at(
     alloc: Global,
     row: Row,
     word: Word,
-    object: &Value,
+    object: &Value<'_>,
 ) -> Result<Option<Operation>, AllocError>
-    ensures { IfOk result (λ o. option_map operation_of o ≡ part_in row word (view object.now)) }
+    ensures { IfOk result (λ o. option_map operation_of o ≡ part_in row word (data_in object.now)) }
 {
-    match object.get(text_of_word(word)) {
+    match member(object, word) {
         Some(inner) => {
             if fits(row, inner) {
                 operation_at(alloc, inner)
@@ -246,17 +250,21 @@ fn part_at(
     }
 }
 
-fn length_name_at(alloc: Global, object: &Value) -> Result<Option<String>, AllocError>
-    ensures { IfOk result (λ o. option_map string_bytes o ≡ length_name_in (view object.now)) }
+fn length_name_at(alloc: Global, object: &Value<'_>) -> Result<Option<String>, AllocError>
+    ensures { IfOk result (λ o. option_map string_bytes o ≡ length_name_in (data_in object.now)) }
 {
-    match object.get(text_of_word(Word::Length)) {
+    match member(object, Word::Length) {
         Some(length) => string_at(alloc, length, Word::Name),
         None => Ok(None),
     }
 }
 
-fn field_at(alloc: Global, kind: Kind, object: &Value) -> Result<Option<Instruction>, AllocError>
-    ensures { IfOk result (λ o. option_map written_of o ≡ field_in kind (view object.now)) }
+fn field_at(
+    alloc: Global,
+    kind: Kind,
+    object: &Value<'_>,
+) -> Result<Option<Instruction>, AllocError>
+    ensures { IfOk result (λ o. option_map written_of o ≡ field_in kind (data_in object.now)) }
 {
     let Some(presence) = presence_at(object) else {
         return Ok(None);
@@ -272,8 +280,8 @@ fn field_at(alloc: Global, kind: Kind, object: &Value) -> Result<Option<Instruct
     }
 }
 
-fn parts_at(alloc: Global, object: &Value) -> Result<Option<Instruction>, AllocError>
-    ensures { IfOk result (λ o. option_map written_of o ≡ parts_in (view object.now)) }
+fn parts_at(alloc: Global, object: &Value<'_>) -> Result<Option<Instruction>, AllocError>
+    ensures { IfOk result (λ o. option_map written_of o ≡ parts_in (data_in object.now)) }
 {
     if has(object, Word::Operator) || says_more(object) {
         return Ok(None);
@@ -295,8 +303,8 @@ fn parts_at(alloc: Global, object: &Value) -> Result<Option<Instruction>, AllocE
     }
 }
 
-fn decimal_at(alloc: Global, object: &Value) -> Result<Option<Instruction>, AllocError>
-    ensures { IfOk result (λ o. option_map written_of o ≡ decimal_in (view object.now)) }
+fn decimal_at(alloc: Global, object: &Value<'_>) -> Result<Option<Instruction>, AllocError>
+    ensures { IfOk result (λ o. option_map written_of o ≡ decimal_in (data_in object.now)) }
 {
     if has(object, Word::Exponent) || has(object, Word::Mantissa) {
         parts_at(alloc, object)
@@ -305,9 +313,9 @@ fn decimal_at(alloc: Global, object: &Value) -> Result<Option<Instruction>, Allo
     }
 }
 
-fn text_field_at(alloc: Global, object: &Value) -> Result<Option<Instruction>, AllocError>
+fn text_field_at(alloc: Global, object: &Value<'_>) -> Result<Option<Instruction>, AllocError>
     ensures { IfOk result (λ o. option_map written_of o
-        ≡ option_and_then (λ k. field_in k (view object.now)) (charset_in (view object.now))) }
+        ≡ option_and_then (λ k. field_in k (data_in object.now)) (charset_in (data_in object.now))) }
 {
     match charset_at(object) {
         Some(kind) => field_at(alloc, kind, object),
@@ -316,8 +324,8 @@ fn text_field_at(alloc: Global, object: &Value) -> Result<Option<Instruction>, A
 }
 
 // An instruction that has no members.
-fn leaf_at(alloc: Global, form: Form, object: &Value) -> Result<Option<Instruction>, AllocError>
-    ensures { IfOk result (λ o. option_map written_of o ≡ leaf_in form (view object.now)) }
+fn leaf_at(alloc: Global, form: Form, object: &Value<'_>) -> Result<Option<Instruction>, AllocError>
+    ensures { IfOk result (λ o. option_map written_of o ≡ leaf_in form (data_in object.now)) }
 {
     match form {
         Form::Int32 => field_at(alloc, Kind::Int32, object),
@@ -356,13 +364,13 @@ fn next_number(number: u32) -> u32
 
 fn group_of(
     alloc: Global,
-    object: &Value,
+    object: &Value<'_>,
     presence: Presence,
     members: Vec<Instruction>,
 ) -> Result<Instruction, AllocError>
     ensures { IfOk result (λ group. written_of group
-        ≡ written_group (name_in (view object.now)) presence
-        (around_in (view object.now)) (written_list (map written_of members.items))) }
+        ≡ written_group (name_in (data_in object.now)) presence
+        (around_in (data_in object.now)) (written_list (map written_of members.items))) }
 {
     Ok(Instruction::Group {
         name: name_at(alloc, object)?,
@@ -375,14 +383,14 @@ fn group_of(
 
 fn sequence_of(
     alloc: Global,
-    object: &Value,
+    object: &Value<'_>,
     presence: Presence,
     length: Operation,
     members: Vec<Instruction>,
 ) -> Result<Instruction, AllocError>
     ensures { IfOk result (λ sequence. written_of sequence
-        ≡ written_sequence (name_in (view object.now)) presence
-        (around_in (view object.now)) (length_name_in (view object.now)) (operation_of length)
+        ≡ written_sequence (name_in (data_in object.now)) presence
+        (around_in (data_in object.now)) (length_name_in (data_in object.now)) (operation_of length)
         (written_list (map written_of members.items))) }
 {
     Ok(Instruction::Sequence {
@@ -397,9 +405,9 @@ fn sequence_of(
 }
 
 #[cycle(reads)]
-fn read_group(alloc: Global, object: &Value, number: u32) -> Result<(Instruction, u32), Unread>
-    ensures { ReadsAs written_of result (group_in (view object.now) number (members_in
-        (view object.now) (next_number_of number))) }
+fn read_group(alloc: Global, object: &Value<'_>, number: u32) -> Result<(Instruction, u32), Unread>
+    ensures { ReadsAs written_of result (group_in (data_in object.now) number (members_in
+        (data_in object.now) (next_number_of number))) }
 {
     let Some(presence) = presence_at(object) else {
         return Err(Unread::At(number));
@@ -410,9 +418,13 @@ fn read_group(alloc: Global, object: &Value, number: u32) -> Result<(Instruction
 }
 
 #[cycle(reads)]
-fn read_sequence(alloc: Global, object: &Value, number: u32) -> Result<(Instruction, u32), Unread>
-    ensures { ReadsAs written_of result (sequence_in (view object.now) number (members_in
-        (view object.now) (next_number_of number))) }
+fn read_sequence(
+    alloc: Global,
+    object: &Value<'_>,
+    number: u32,
+) -> Result<(Instruction, u32), Unread>
+    ensures { ReadsAs written_of result (sequence_in (data_in object.now) number (members_in
+        (data_in object.now) (next_number_of number))) }
 {
     let Some(presence) = presence_at(object) else {
         return Err(Unread::At(number));
@@ -426,9 +438,9 @@ fn read_sequence(alloc: Global, object: &Value, number: u32) -> Result<(Instruct
 }
 
 #[cycle(reads)]
-fn read_one(alloc: Global, value: &Value, number: u32) -> Result<(Instruction, u32), Unread>
-    ensures { ReadsAs written_of result (one_of (view value.now) number (members_in
-        (view value.now) (next_number_of number))) }
+fn read_one(alloc: Global, value: &Value<'_>, number: u32) -> Result<(Instruction, u32), Unread>
+    ensures { ReadsAs written_of result (one_of (data_in value.now) number (members_in
+        (data_in value.now) (next_number_of number))) }
 {
     let Some(form) = form_at(value) else {
         return Err(Unread::At(number));
@@ -450,25 +462,22 @@ fn read_one(alloc: Global, value: &Value, number: u32) -> Result<(Instruction, u
 #[cycle(reads)]
 fn read_members(
     alloc: Global,
-    object: &Value,
+    object: &Value<'_>,
     number: u32,
 ) -> Result<(Vec<Instruction>, u32), Unread>
     ensures { ReadsAs (λ instructions. written_list (map written_of instructions.items)) result
-        (members_in (view object.now) number) }
+        (members_in (data_in object.now) number) }
 {
-    match object {
-        Value::Object(members) => match members.get(text_of_word(Word::Instructions)) {
-            Some(list) => read_all(alloc, list, number),
-            None => Ok((Vec::new(alloc), number)),
-        },
-        _ => Ok((Vec::new(alloc), number)),
+    match member(object, Word::Instructions) {
+        Some(list) => read_all(alloc, list, number),
+        None => Ok((Vec::new(alloc), number)),
     }
 }
 
 #[cycle(reads)]
-fn read_all(alloc: Global, list: &Value, number: u32) -> Result<(Vec<Instruction>, u32), Unread>
+fn read_all(alloc: Global, list: &Value<'_>, number: u32) -> Result<(Vec<Instruction>, u32), Unread>
     ensures { ReadsAs (λ instructions. written_list (map written_of instructions.items)) result
-        (read_all_of (view list.now) number) }
+        (read_all_of (data_in list.now) number) }
 {
     match list {
         Value::Array(values) => read_values(alloc, values, number),
@@ -477,7 +486,7 @@ fn read_all(alloc: Global, list: &Value, number: u32) -> Result<(Vec<Instruction
 }
 
 // How much room a list of a text is given at once: as much as it needs, or the most that a set may have.
-fn room_for(values: &[Value]) -> usize
+fn room_for(values: &[Value<'_>]) -> usize
     ensures { result ≡ min (length values.now) 65535 }
 {
     values.len().min(65_535)
@@ -486,11 +495,11 @@ fn room_for(values: &[Value]) -> usize
 #[cycle(reads)]
 fn read_values(
     alloc: Global,
-    values: &[Value],
+    values: &[Value<'_>],
     number: u32,
 ) -> Result<(Vec<Instruction>, u32), Unread>
     ensures { ReadsAs (λ instructions. written_list (map written_of instructions.items)) result
-        (read_items (items_view values.now) number) }
+        (read_items (items_in values.now) number) }
 {
     let mut instructions = Vec::with_capacity(alloc, room_for(values))?;
     let mut next = number;
@@ -502,10 +511,10 @@ fn read_values(
     Ok((instructions, next))
 }
 
-fn id_at(object: &Value) -> Option<u32>
-    ensures { result ≡ id_in (view object.now) }
+fn id_at(object: &Value<'_>) -> Option<u32>
+    ensures { result ≡ id_in (data_in object.now) }
 {
-    match object.get(text_of_word(Word::Id)).and_then(Value::as_u64) {
+    match member(object, Word::Id).and_then(whole_number) {
         Some(id) if id < IDENTIFIERS => Some(id as u32),
         _ => None,
     }
@@ -514,11 +523,11 @@ fn id_at(object: &Value) -> Option<u32>
 // The dictionary of a template, or else that of the text.
 fn dictionary_or(
     alloc: Global,
-    object: &Value,
+    object: &Value<'_>,
     default: Option<&str>,
 ) -> Result<Option<String>, AllocError>
     ensures { IfOk result (λ o. option_map string_bytes o
-        ≡ option_or (text_at_of word_variants.Dictionary (view object.now)) (option_map
+        ≡ option_or (text_at_of word_variants.Dictionary (data_in object.now)) (option_map
         (λ s. s.now) default.entry)) }
 {
     match text_at(object, Word::Dictionary).or(default) {
@@ -529,13 +538,13 @@ fn dictionary_or(
 
 fn template_of(
     alloc: Global,
-    object: &Value,
+    object: &Value<'_>,
     default: Option<&str>,
     members: Vec<Instruction>,
 ) -> Result<Template, AllocError>
     ensures { IfOk result (λ template. written_template_of template
         ≡ template_with (option_map (λ s. s.now) default.entry)
-        (view object.now) (written_list (map written_of members.items))) }
+        (data_in object.now) (written_list (map written_of members.items))) }
 {
     Ok(Template {
         name: name_at(alloc, object)?,
@@ -546,9 +555,13 @@ fn template_of(
     })
 }
 
-fn read_template(alloc: Global, value: &Value, default: Option<&str>) -> Result<Template, Unread>
+fn read_template(
+    alloc: Global,
+    value: &Value<'_>,
+    default: Option<&str>,
+) -> Result<Template, Unread>
     ensures { ReadsTemplate result (read_template_of (option_map (λ s. s.now) default.entry)
-        (view value.now)) }
+        (data_in value.now)) }
 {
     if !fits(Row::Template, value) {
         return Err(Unread::At(0));
@@ -569,11 +582,11 @@ fn fault_in(unread: Unread, place: u32) -> LoadFault
 
 fn read_templates(
     alloc: Global,
-    values: &[Value],
+    values: &[Value<'_>],
     default: Option<&str>,
 ) -> Result<Vec<Template>, LoadFault>
     ensures { ReadsTemplates result
-        (read_templates_of (option_map (λ s. s.now) default.entry) (items_view values.now) 1) }
+        (read_templates_of (option_map (λ s. s.now) default.entry) (items_in values.now) 1) }
 {
     let Ok(mut templates) = Vec::with_capacity(alloc, room_for(values)) else {
         return Err(want_of_memory());
@@ -594,12 +607,12 @@ fn read_templates(
 
 fn read_list(
     alloc: Global,
-    list: Option<&Value>,
+    list: Option<&Value<'_>>,
     default: Option<&str>,
 ) -> Result<Vec<Template>, LoadFault>
     ensures { ReadsTemplates result
         (templates_under (option_map (λ s. s.now) default.entry) (option_map
-        (λ v. view v.now) list.entry)) }
+        (λ v. data_in v.now) list.entry)) }
 {
     match list {
         Some(Value::Array(values)) => read_templates(alloc, values, default),
@@ -607,13 +620,13 @@ fn read_list(
     }
 }
 
-/// The templates that a template text's data stands for.
+/// The templates that the data of a template text's JSON stands for.
 ///
 /// # Errors
 ///
 /// S1 with its place, where the shape of the text, of a template or of an instruction is at fault; or want of memory.
-pub fn templates_in_data(alloc: Global, data: &Value) -> Result<Vec<Template>, LoadFault>
-    ensures { ReadsTemplates result (templates_of (view data.now)) }
+pub fn templates_in_data(alloc: Global, data: &Value<'_>) -> Result<Vec<Template>, LoadFault>
+    ensures { ReadsTemplates result (templates_of (data_in data.now)) }
 {
     if !fits(Row::Top, data) {
         return Err(fault_at(LoadCause::S1, 0, 0));
@@ -622,7 +635,7 @@ pub fn templates_in_data(alloc: Global, data: &Value) -> Result<Vec<Template>, L
     if !is_name_or_none(default) {
         return Err(fault_at(LoadCause::S1, 0, 0));
     }
-    read_list(alloc, data.get(text_of_word(Word::Templates)), default)
+    read_list(alloc, member(data, Word::Templates), default)
 }
 
 fn is_name_or_none(name: Option<&str>) -> bool
