@@ -1,5 +1,5 @@
 -- What is laid out in bytes behind the first so many.
-use Rattle.fast_lines.proofs.Common.{◌≡◌, ◌≤◌, ◌+◌, ℕ, List, [], ◌∷◌, ◌++◌, length, take, drop, sym, ap, ap₂, ◌∙◌, arith, length-drop, append_assoc, take-take, length-take-le, take-append-drop, take-append-le, take_all, take-append-add, length-chunk, length-put_chunk, chunk, put_chunk}
+use Rattle.fast_lines.proofs.Common.{◌≡◌, ◌≤◌, ◌+◌, ℕ, List, [], ◌∷◌, ◌++◌, length, take, drop, refl, sym, ap, ap₂, ◌∙◌, arith, length-drop, append_assoc, take-take, length-take-le, take-append-drop, take-append-le, take_all, take-append-add, length-chunk, length-put_chunk, chunk, put_chunk}
 use Rattle.fast_lines.proofs.Written.{appended_more}
 use Rattle.std.proofs.lemmas.Simd.{take_more_put_chunk}
 
@@ -12,6 +12,17 @@ before_laid old new s at next from within is =
 -- the same of what stands in front of that
 pub shorter : (xs ys : List ℕ) (at next : ℕ) → at ≤ next → take next xs ≡ take next ys → take at xs ≡ take at ys
 shorter xs ys at next from is = sym (take-take at next xs from) ∙ ap (take at) is ∙ take-take at next ys from
+
+-- and where that was laid out behind more
+pub kept_laid : (old new s : List ℕ) (at from next : ℕ) → at ≤ from → from ≤ next → from ≤ length old → take next new ≡ take from old ++ s
+    → take at new ≡ take at old
+kept_laid old new s at from next a b within is = shorter new old at from a (before_laid old new s from next b within is)
+
+-- what stands in front of what was stored stays
+pub stored_before : (xs ys : List ℕ) (at : ℕ) → at + length ys ≤ length xs → take at (put_chunk at xs ys) ≡ take at xs
+stored_before xs ys at room =
+    before_laid xs (put_chunk at xs ys) ys at (at + length ys) (omega arith) (omega (arith, room))
+    (take_more_put_chunk at xs ys (at + length ys) refl room)
 
 -- a text that is laid out by its first and its last word
 pub ends_laid : (xs t : List ℕ) (at n last : ℕ) → last + n ≡ length t → last ≤ n → at + length t ≤ length xs

@@ -1,5 +1,6 @@
 -- From the masks of bytes that are looked at in one step to the bytes that stand as they are.
-use Rattle.fast_lines.proofs.Common.{◌≡◌, ℕ, ◌+◌, ◌%◌, ◌^◌, ◌<◌, ◌≤◌, suc, [], ◌∷◌, cases_lt, eqb, cond, Bool, true, false, List, map, length, get_or, replicate, refl, sym, ap, ◌∙◌, arith, slice_index, inl, inr, nat_tests, zip2_splat, zip2_splat_left, bitmask_splat, length-chunk, none_from_empty_mask, list_all, is_plain, ltb, chunk, zip2, mask_l, top, w8}
+use Rattle.fast_lines.proofs.Common.{◌≡◌, ℕ, ◌+◌, ◌++◌, take, ◌%◌, ◌^◌, ◌<◌, ◌≤◌, suc, [], ◌∷◌, cases_lt, eqb, cond, Bool, true, false, List, map, length, get_or, replicate, refl, sym, ap, ◌∙◌, arith, slice_index, inl, inr, nat_tests, zip2_splat, zip2_splat_left, bitmask_splat, length-chunk, none_from_empty_mask, list_all, is_plain, ltb, chunk, zip2, mask_l, top, w8}
+use Rattle.std.proofs.lemmas.List.{get_or-append-add, get_or-take}
 
 abbrev mark : (ℕ → ℕ → Bool) → ℕ → ℕ → ℕ
 mark t a b = cond (t a b) 255 0
@@ -40,3 +41,12 @@ all_plain (c ∷ rest) each = rw (each 0 (omega arith)) (all_plain rest (λ k le
 -- bytes that are plain in front of one place and from another on, which is not behind it
 pub both_plain : (xs : List ℕ) (m n : ℕ) → ((k : ℕ) → k < m → is_plain (slice_index xs k) ≡ true) → ((k : ℕ) → n ≤ k → k < length xs → is_plain (slice_index xs k) ≡ true) → n ≤ m → list_all is_plain xs ≡ true
 both_plain xs m n front back meet = all_plain xs (λ k less. elim (cases_lt k m) [ inl before ↦ front k before | inr behind ↦ back k (omega (arith, behind, meet)) less ])
+
+-- a string of sixteen bytes at most, where the sixteen from its first on are plain
+pub laid_plain : (new front t : List ℕ) (at next : ℕ) → take next new ≡ front ++ t → length front ≡ at → next ≡ at + length t
+    → length t ≤ 16 → ((k : ℕ) → at ≤ k → k < at + 16 → is_plain (slice_index new k) ≡ true) → list_all is_plain t ≡ true
+laid_plain new front t at next is long place few each = all_plain t (λ k less.
+    let same : get_or t k 0 ≡ get_or new (at + k) 0 =
+    sym (get_or-append-add front t k 0) ∙ ap (λ n. get_or (front ++ t) (n + k) 0) long ∙ ap (λ l. get_or l (at + k) 0) (sym is)
+    ∙ get_or-take next new (at + k) 0 (omega (arith, place, less)) in
+    ap is_plain same ∙ each (at + k) (omega arith) (omega (arith, less, few)))

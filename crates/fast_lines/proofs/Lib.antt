@@ -5,3 +5,5 @@ mod Nested
 mod LineRows
 mod Laid
 mod Decimals
+mod HexPairs
+mod Units

@@ -5,8 +5,8 @@ ghost use Rattle.fast_lines.specs.declared.form.Form.TheVariants.{Text, Json};
 use crate::bytes::{push, push_byte, push_hex, push_unsigned};
 use crate::digits::lay_unsigned;
 use crate::signs::{Escape, Signs};
-use crate::strings::{lay_quoted, push_quoted, stands};
-use crate::tail::{LONGEST, lay_byte, lay_hex, lay_hex_pair, lay_if, lay_text};
+use crate::strings::{lay_quoted, lay_text_unit, push_quoted};
+use crate::tail::{LONGEST, lay_byte, lay_hex, lay_hex_pair, lay_if, lay_short, lay_text};
 use std::alloc::AllocError;
 
 /// How a message is written as a line.
@@ -31,12 +31,7 @@ impl Escape for TextSigns {
 
     #[inline(always)]
     fn lay_unit(self, byte: u8, bytes: &mut [u8], at: usize) -> usize {
-        if stands(byte) {
-            return lay_byte(bytes, at, byte);
-        }
-        let at = lay_byte(bytes, at, b'\\');
-        let at = lay_byte(bytes, at, b'x');
-        lay_hex_pair(bytes, at, byte)
+        lay_text_unit(byte, bytes, at)
     }
 }
 
@@ -80,13 +75,11 @@ impl Signs for TextSigns {
 
     #[inline(always)]
     fn lay_label(self, led: bool, name: &str, bytes: &mut [u8], at: usize) -> Option<usize> {
-        let name = name.as_bytes();
-        if name.len() > LONGEST {
-            return None;
-        }
         let at = lay_if(bytes, at, b' ', led);
-        let at = lay_text(bytes, at, name);
-        Some(lay_byte(bytes, at, b'='))
+        match lay_short(bytes, at, name.as_bytes()) {
+            Some(at) => Some(lay_byte(bytes, at, b'=')),
+            None => None,
+        }
     }
 
     #[inline(always)]
@@ -183,7 +176,15 @@ impl Signs for JsonSigns {
     }
 
     #[inline(always)]
-    fn lay_head(self, _id: u32, _name: &str, _bytes: &mut [u8], _at: usize) -> Option<usize> {
-        None
+    fn lay_head(self, id: u32, name: &str, bytes: &mut [u8], at: usize) -> Option<usize> {
+        let at = lay_text(bytes, at, b"{\"template\":");
+        match lay_quoted(self, name.as_bytes(), bytes, at) {
+            Some(at) => {
+                let at = lay_text(bytes, at, b",\"id\":");
+                let at = lay_unsigned(bytes, at, u64::from(id));
+                Some(lay_text(bytes, at, b",\"fields\":{"))
+            }
+            None => None,
+        }
     }
 }

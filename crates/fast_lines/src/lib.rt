@@ -17,6 +17,6 @@ mod tail;
 
 pub use form::{Form, JsonSigns, TextSigns};
 pub use lines::{ShowFault, push_line, push_ok_line, push_scalar};
-pub use page::Page;
+pub use page::{Page, Put};
 pub use signs::{Escape, Signs};
 pub use strings::{UNITS, all_stand, push_quoted};

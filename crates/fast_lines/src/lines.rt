@@ -1,12 +1,13 @@
 //! Messages of any template set as lines, and what a check says.
 
 ghost use Rattle.std.specs.Prelude.{◌≡◌, ◌++◌, ◌≤◌, ◌+◌, [], Some, None, IfSome, map, length, take};
+ghost use Rattle.std.specs.Fmt.{signed_decimal};
 ghost use Rattle.std.specs.Option.{option_copied};
 ghost use Rattle.fast_template.specs.Resolved.{instruction_of, list_of, resolved_of};
 ghost use Rattle.fast_stream.specs.Nodes.{single, item_of, items_in, elements_of, content_of};
 ghost use Rattle.fast_lines.specs.declared.form.Form.{Form as FormOf};
-ghost use Rattle.fast_lines.specs.Lines.{absent_text, braced, elements_text, field_text, group_text, sequence_text, label, line_by, line_in, member_text, members_text, scalar_text, ok_text, said_text};
-ghost use Rattle.fast_lines.specs.Signs.{label_text};
+ghost use Rattle.fast_lines.specs.Lines.{absent_text, braced, decimal_text, elements_text, field_text, group_text, sequence_text, label, line_by, line_in, member_text, members_text, scalar_text, ok_text, said_text};
+ghost use Rattle.fast_lines.specs.Signs.{label_text, quoted, vector_text};
 ghost use Rattle.fast_lines.specs.Written.{Writes, Shows};
 ghost use Rattle.fast_lines.specs.declared.lines.ShowFault.TheVariants as fault;
 
@@ -62,6 +63,50 @@ pub fn push_scalar<S: Signs>(signs: S, value: &Scalar, out: &mut Vec<u8>) -> Res
     }
 }
 
+// The arms of `lay_scalar` that are long or seldom met are calls: so it is small, and a number with no sign, which most values
+// are, is laid where it is told.
+#[inline(never)]
+fn lay_string<S: Signs>(signs: S, text: &[u8], bytes: &mut [u8], at: usize) -> Option<usize>
+    requires { at + 66 ≤ length bytes.old }
+    ensures place { IfSome result (λ next. (at ≤ next) × (next ≤ at + 66)) }
+    ensures laid { IfSome result (λ next. take next bytes.new ≡ take at bytes.old ++ quoted S.form text.now) }
+    ensures before { take at bytes.new ≡ take at bytes.old }
+    ensures length { length bytes.new ≡ length bytes.old }
+{
+    lay_quoted(signs, text, bytes, at)
+}
+
+#[inline(never)]
+fn lay_bytes<S: Signs>(signs: S, vector: &[u8], bytes: &mut [u8], at: usize) -> Option<usize>
+    requires { at + 66 ≤ length bytes.old }
+    ensures place { IfSome result (λ next. (at ≤ next) × (next ≤ at + 66)) }
+    ensures laid { IfSome result (λ next. take next bytes.new ≡ take at bytes.old ++ vector_text S.form vector.now) }
+    ensures before { take at bytes.new ≡ take at bytes.old }
+    ensures length { length bytes.new ≡ length bytes.old }
+{
+    signs.lay_vector(vector, bytes, at)
+}
+
+#[inline(never)]
+fn lay_parts(bytes: &mut [u8], at: usize, mantissa: i64, exponent: i32) -> usize
+    requires { at + 43 ≤ length bytes.old }
+    ensures place { (at ≤ result) × (result ≤ at + 43) }
+    ensures laid { take result bytes.new ≡ take at bytes.old ++ decimal_text mantissa exponent }
+    ensures length { length bytes.new ≡ length bytes.old }
+{
+    lay_decimal(bytes, at, mantissa, exponent)
+}
+
+#[inline(never)]
+fn lay_number(bytes: &mut [u8], at: usize, number: i64) -> usize
+    requires { at + 21 ≤ length bytes.old }
+    ensures place { (at ≤ result) × (result ≤ at + 21) }
+    ensures laid { take result bytes.new ≡ take at bytes.old ++ signed_decimal number }
+    ensures length { length bytes.new ≡ length bytes.old }
+{
+    lay_signed(bytes, at, number)
+}
+
 /// Lays a value of any type, or what stands for none, at a place, and answers the place behind it; none where the value is
 /// not short.
 #[inline(always)]
@@ -80,16 +125,16 @@ pub(crate) fn lay_scalar<S: Signs>(
 {
     match value {
         None => Some(lay_text(bytes, at, signs.absent())),
-        Some(Scalar::U32(number)) => Some(lay_unsigned(bytes, at, u64::from(*number))),
-        Some(Scalar::I32(number)) => Some(lay_signed(bytes, at, i64::from(*number))),
+        Some(Scalar::U32(number)) => Some(lay_number(bytes, at, i64::from(*number))),
+        Some(Scalar::I32(number)) => Some(lay_number(bytes, at, i64::from(*number))),
         Some(Scalar::U64(number)) => Some(lay_unsigned(bytes, at, *number)),
-        Some(Scalar::I64(number)) => Some(lay_signed(bytes, at, *number)),
+        Some(Scalar::I64(number)) => Some(lay_number(bytes, at, *number)),
         Some(Scalar::Decimal { exponent, mantissa }) => {
-            Some(lay_decimal(bytes, at, *mantissa, *exponent))
+            Some(lay_parts(bytes, at, *mantissa, *exponent))
         }
-        Some(Scalar::Ascii(text)) => lay_quoted(signs, text.as_slice(), bytes, at),
-        Some(Scalar::Unicode(text)) => lay_quoted(signs, text.as_bytes(), bytes, at),
-        Some(Scalar::Bytes(vector)) => signs.lay_vector(vector.as_slice(), bytes, at),
+        Some(Scalar::Ascii(text)) => lay_string(signs, text.as_slice(), bytes, at),
+        Some(Scalar::Unicode(text)) => lay_string(signs, text.as_bytes(), bytes, at),
+        Some(Scalar::Bytes(vector)) => lay_bytes(signs, vector.as_slice(), bytes, at),
     }
 }
 

@@ -1,16 +1,17 @@
 //! The text of a line that is open, with room behind it.
 
-ghost use Rattle.std.specs.Prelude.{◌≡◌, ◌≤◌, ◌+◌, ◌++◌, [], ℕ, List, true, false, length, take, OnOk, OnErr};
+ghost use Rattle.std.specs.Prelude.{◌≡◌, ◌≤◌, ◌+◌, ◌-◌, ◌++◌, [], ℕ, List, true, false, length, take, OnOk, OnErr};
 ghost use Rattle.std.specs.List.{flat_map};
 ghost use Rattle.std.specs.Option.{option_copied};
 ghost use Rattle.fast_lines.specs.Lines.{decimal_text, said_text};
-ghost use Rattle.fast_lines.specs.Signs.{head_text, label_text, lead, unit_text};
+ghost use Rattle.fast_lines.specs.Signs.{head_text, label_text, lead, quoted, unit_text};
 ghost use Rattle.fast_lines.specs.Written.{Writes};
+ghost use Rattle.fast_lines.specs.declared.page.Put.TheVariants as put;
 
 use crate::digits::lay_decimal;
 use crate::lines::lay_scalar;
 use crate::signs::{Escape, Signs};
-use crate::strings::lay_units;
+use crate::strings::{lay_quoted, lay_units};
 use fast_template::Scalar;
 use std::alloc::{AllocError, Global};
 use std::marker::Model;
@@ -21,6 +22,8 @@ use std::marker::Model;
 pub struct Page {
     bytes: Vec<u8>,
     end: usize,
+    // behind each place in front of it stand `ROOM` bytes, which is known by one test
+    near: usize,
 }
 
 impl Model for Page {
@@ -28,7 +31,18 @@ impl Model for Page {
 
     ghost view = { λ p. take p.end p.bytes.items };
 
-    ghost invariant = { λ p. p.end ≤ length p.bytes.items };
+    ghost invariant = { λ p. (p.end ≤ length p.bytes.items) × (p.near ≤ length p.bytes.items - 135) };
+}
+
+/// What was appended of a field at once.
+#[derive(Clone, Copy, Debug, PartialEq, Eq)]
+pub enum Put {
+    /// Nothing.
+    Nothing,
+    /// Its label.
+    Label,
+    /// Its label and its value.
+    Field,
 }
 
 /// Lengthens bytes until so many more stand behind a place; refused, they stay as they are.
@@ -37,6 +51,7 @@ fn lengthen(bytes: &mut Vec<u8>, end: usize, count: usize) -> Result<(), AllocEr
     requires { end ≤ length bytes.old.items }
     ensures same { take end bytes.new.items ≡ take end bytes.old.items }
     ensures room { OnOk result (end + count ≤ length bytes.new.items) }
+    ensures grows { length bytes.old.items ≤ length bytes.new.items }
     ensures refused { OnErr result (bytes.new.items ≡ bytes.old.items) }
 {
     let wanted = match end.checked_add(count) {
@@ -53,7 +68,7 @@ fn make_room(bytes: &mut Vec<u8>, end: usize, count: usize) -> Result<(), AllocE
     requires { end ≤ length bytes.old.items }
     ensures same { take end bytes.new.items ≡ take end bytes.old.items }
     ensures room { OnOk result (end + count ≤ length bytes.new.items) }
-    ensures within { end ≤ length bytes.new.items }
+    ensures grows { length bytes.old.items ≤ length bytes.new.items }
 {
     if bytes.len() - end < count {
         lengthen(bytes, end, count)
@@ -74,6 +89,7 @@ impl Page {
         Page {
             bytes: Vec::new(alloc),
             end: 0,
+            near: 0,
         }
     }
 
@@ -126,7 +142,9 @@ impl Page {
     pub fn see_room(&mut self) -> Result<(), AllocError>
         ensures { self.new ≡ self.old }
     {
-        make_room(&mut self.bytes, self.end, ROOM)
+        make_room(&mut self.bytes, self.end, ROOM)?;
+        self.near = self.bytes.len().saturating_sub(ROOM - 1);
+        Ok(())
     }
 
     /// Appends the label of a name, behind what stands between two where that is due, and a value or what stands for none;
@@ -144,16 +162,45 @@ impl Page {
             ++ ((lead S.form led ++ label_text S.form name.now) ++ said_text S.form (option_copied value.entry)) }
         ensures left { result ≡ false → self.new ≡ self.old }
     {
-        if self.bytes.len() - self.end < ROOM {
+        if self.end >= self.near {
             return false;
         }
-        match signs.lay_label(led, name, &mut self.bytes, self.end) {
+        let bytes = self.bytes.as_mut_slice();
+        match signs.lay_label(led, name, bytes, self.end) {
             None => false,
-            Some(at) => match lay_scalar(signs, value, &mut self.bytes, at) {
+            Some(at) => match lay_scalar(signs, value, bytes, at) {
                 None => false,
                 Some(end) => {
                     self.end = end;
                     true
+                }
+            },
+        }
+    }
+
+    /// Appends the label of a name and a string in its quotes, or the label alone where the string is not short or does not
+    /// stand as it is; answers which, and nothing where the name is not short, or there is too little room.
+    #[inline(always)]
+    pub fn put_text<S: Signs>(&mut self, signs: S, led: bool, name: &str, text: &[u8]) -> Put
+        ensures field { result ≡ put.Field → self.new ≡ self.old
+            ++ ((lead S.form led ++ label_text S.form name.now) ++ quoted S.form text.now) }
+        ensures label { result ≡ put.Label → self.new ≡ self.old ++ (lead S.form led ++ label_text S.form name.now) }
+        ensures nothing { result ≡ put.Nothing → self.new ≡ self.old }
+    {
+        if self.end >= self.near {
+            return Put::Nothing;
+        }
+        let bytes = self.bytes.as_mut_slice();
+        match signs.lay_label(led, name, bytes, self.end) {
+            None => Put::Nothing,
+            Some(at) => match lay_quoted(signs, text, bytes, at) {
+                None => {
+                    self.end = at;
+                    Put::Label
+                }
+                Some(end) => {
+                    self.end = end;
+                    Put::Field
                 }
             },
         }
@@ -165,7 +212,7 @@ impl Page {
         ensures done { result ≡ true → self.new ≡ self.old ++ (lead S.form led ++ label_text S.form name.now) }
         ensures left { result ≡ false → self.new ≡ self.old }
     {
-        if self.bytes.len() - self.end < ROOM {
+        if self.end >= self.near {
             return false;
         }
         match signs.lay_label(led, name, &mut self.bytes, self.end) {
@@ -183,7 +230,7 @@ impl Page {
         ensures done { result ≡ true → self.new ≡ self.old ++ head_text S.form id name.now }
         ensures left { result ≡ false → self.new ≡ self.old }
     {
-        if self.bytes.len() - self.end < ROOM {
+        if self.end >= self.near {
             return false;
         }
         match signs.lay_head(id, name, &mut self.bytes, self.end) {

@@ -83,8 +83,8 @@ pub trait Signs: Escape {
 
     /// Lays the same at a place, and answers the place behind it; none where it is not short.
     fn lay_head(self, id: u32, name: &str, bytes: &mut [u8], at: usize) -> Option<usize>
-        requires { at + 85 ≤ length bytes.old }
-        ensures place { IfSome result (λ next. (at ≤ next) × (next ≤ at + 85)) }
+        requires { at + 115 ≤ length bytes.old }
+        ensures place { IfSome result (λ next. (at ≤ next) × (next ≤ at + 115)) }
         ensures laid { IfSome result (λ next. take next bytes.new
             ≡ take at bytes.old ++ head_text Self.form id name.now) }
         ensures before { take at bytes.new ≡ take at bytes.old }

@@ -34,12 +34,13 @@ pub(crate) fn lay_if(bytes: &mut [u8], at: usize, byte: u8, due: bool) -> usize
     ensures laid { take result bytes.new ≡ take at bytes.old ++ (if due then byte ∷ [] else []) }
     ensures length { length bytes.new ≡ length bytes.old }
 {
-    if due { lay_byte(bytes, at, byte) } else { at }
+    bytes[at] = byte;
+    at + usize::from(due)
 }
 
 /// Puts the first so many bytes of a text at a place, in one word.
 #[inline(always)]
-fn put_word<const N: usize>(bytes: &mut [u8], at: usize, text: &[u8])
+pub(crate) fn put_word<const N: usize>(bytes: &mut [u8], at: usize, text: &[u8])
     requires { (at + N ≤ length bytes.old) × (N ≤ length text.now) }
     ensures { bytes.new ≡ put_chunk at bytes.old (chunk 0 N text.now) }
 {
@@ -61,6 +62,38 @@ fn lay_ends<const N: usize>(bytes: &mut [u8], at: usize, text: &[u8]) -> usize
     at + text.len()
 }
 
+/// Puts sixteen bytes that stand as they are at a place.
+#[inline(always)]
+pub(crate) fn fill(bytes: &mut [u8], at: usize)
+    requires { at + 16 ≤ length bytes.old }
+    ensures before { take at bytes.new ≡ take at bytes.old }
+    ensures length { length bytes.new ≡ length bytes.old }
+{
+    Simd::<u8, 16>::splat(b' ').copy_to_slice(&mut bytes[at..]);
+}
+
+/// Lays a text of sixteen bytes at most, in words; answers the place behind it.
+#[inline(always)]
+pub(crate) fn lay_few(bytes: &mut [u8], at: usize, text: &[u8]) -> usize
+    requires count { length text.now ≤ 16 }
+    requires room { at + length text.now ≤ length bytes.old }
+    ensures place { result ≡ at + length text.now }
+    ensures laid { take result bytes.new ≡ take at bytes.old ++ text.now }
+    ensures length { length bytes.new ≡ length bytes.old }
+{
+    if text.len() >= 8 {
+        lay_ends::<8>(bytes, at, text)
+    } else if text.len() >= 4 {
+        lay_ends::<4>(bytes, at, text)
+    } else if text.len() >= 2 {
+        lay_ends::<2>(bytes, at, text)
+    } else if text.len() == 1 {
+        lay_byte(bytes, at, text[0])
+    } else {
+        at
+    }
+}
+
 /// Lays a short text, in words; answers the place behind it.
 #[inline(always)]
 pub(crate) fn lay_text(bytes: &mut [u8], at: usize, text: &[u8]) -> usize
@@ -72,19 +105,32 @@ pub(crate) fn lay_text(bytes: &mut [u8], at: usize, text: &[u8]) -> usize
 {
     if text.len() > 32 {
         lay_ends::<32>(bytes, at, text)
-    } else if text.len() >= 16 {
+    } else if text.len() > 16 {
         lay_ends::<16>(bytes, at, text)
-    } else if text.len() >= 8 {
-        lay_ends::<8>(bytes, at, text)
-    } else if text.len() >= 4 {
-        lay_ends::<4>(bytes, at, text)
-    } else if text.len() >= 2 {
-        lay_ends::<2>(bytes, at, text)
-    } else if text.len() == 1 {
-        lay_byte(bytes, at, text[0])
     } else {
-        at
+        lay_few(bytes, at, text)
     }
+}
+
+/// Lays a text that is a name, mostly of eight bytes to sixteen; none where it is not short.
+#[inline(always)]
+pub(crate) fn lay_short(bytes: &mut [u8], at: usize, text: &[u8]) -> Option<usize>
+    requires { at + 64 ≤ length bytes.old }
+    ensures place { IfSome result (λ next. (at ≤ next) × (next ≤ at + 64)) }
+    ensures laid { IfSome result (λ next. take next bytes.new ≡ take at bytes.old ++ text.now) }
+    ensures before { take at bytes.new ≡ take at bytes.old }
+    ensures length { length bytes.new ≡ length bytes.old }
+{
+    if text.len() >= 8 && text.len() <= 16 {
+        return Some(lay_ends::<8>(bytes, at, text));
+    }
+    if text.len() < 8 {
+        return Some(lay_few(bytes, at, text));
+    }
+    if text.len() > LONGEST {
+        return None;
+    }
+    Some(lay_text(bytes, at, text))
 }
 
 /// Lays two hex digits.

@@ -3,7 +3,7 @@
 ghost use Rattle.std.specs.Prelude.{◌≤◌, length};
 
 use fast_gaps::{Gaps, Rest};
-use fast_lines::{Page, Signs, UNITS, all_stand, push_scalar};
+use fast_lines::{Page, Put, Signs, UNITS, all_stand, push_scalar};
 use fast_template::{FieldPart, Name, Scalar};
 use std::alloc::{AllocError, Global};
 
@@ -12,6 +12,9 @@ const LONG: usize = 1_048_576;
 
 /// A name of no more bytes than these is written nevertheless: the gap would take as many.
 const SHORT_NAME: usize = 80;
+
+/// A number of more digits than eight is no less.
+const FEW_DIGITS: u64 = 100_000_000;
 
 /// What is written of the line of a message, and the gaps in it.
 #[derive(Drop)]
@@ -32,6 +35,8 @@ impl Line {
     ghost use Rattle.fast_show.specs.Told.{Appends, PutsIn, Says, line_now, written_of};
     ghost use Rattle.fast_lines.specs.Lines.{decimal_text, said_text, scalar_text};
     ghost use Rattle.std.specs.List.{flat_map};
+    ghost use Rattle.fast_value.specs.declared.scalar.Scalar.TheVariants as scalar;
+    ghost use Rattle.fast_lines.specs.declared.page.Put.TheVariants as put;
     ghost use Rattle.fast_lines.specs.Signs.{ending, head_text, is_led, label_text, lead, quoted, unit_text};
     ghost use Rattle.fast_lines.specs.declared.form.Form.{Form};
 
@@ -200,6 +205,23 @@ impl Line {
         true
     }
 
+    // The same of a string; where it is not short or does not stand as it is, the label alone.
+    #[tactic(auto, using(fast_gaps::proofs::Filled::filled_behind))]
+    #[inline(always)]
+    fn put_text<S: Signs>(&mut self, signs: S, name: &Name, text: &[u8]) -> Put
+        ensures field { result ≡ put.Field → PutsIn S.form ((lead S.form self.old.led ++ label_text S.form name.now)
+            ++ quoted S.form text.now) true self.old self.new }
+        ensures label { result ≡ put.Label → PutsIn S.form (lead S.form self.old.led ++ label_text S.form name.now) true self.old self.new }
+        ensures nothing { result ≡ put.Nothing → line_now S.form self.new ≡ line_now S.form self.old }
+    {
+        let put = self.text.put_text(signs, self.led, name.as_str(), text);
+        match put {
+            Put::Nothing => {}
+            Put::Label | Put::Field => self.led = true,
+        }
+        put
+    }
+
     // Appends a string of few bytes without its quotes.
     #[tactic(auto, using(fast_gaps::proofs::Filled::filled_behind))]
     #[inline(always)]
@@ -239,8 +261,9 @@ impl Line {
         self.put_long()
     }
 
-    /// Appends the label of a field and its value, or what stands for one that is absent.
-    #[inline(never)]
+    /// Appends the label of a field and its value, or what stands for one that is absent. Most values are numbers of 32 bits,
+    /// and go where they are told with no table of types between.
+    #[inline(always)]
     pub(crate) fn tell<S: Signs>(
         &mut self,
         signs: S,
@@ -250,10 +273,208 @@ impl Line {
     ) -> Result<(), AllocError>
         ensures { OnOk result (Says S.form name.now (option_copied value.entry) self.old self.new) }
     {
-        if self.put_field(signs, name, value) {
+        match value {
+            None => self.tell_absent(signs, name),
+            Some(Scalar::U32(number)) => self.tell_unsigned(signs, name, u64::from(*number)),
+            Some(value) => self.tell_value(signs, name, part, value),
+        }
+    }
+
+    // The same of a value. Each type has a function of its own, which is called last, so that none saves registers for another.
+    #[inline(never)]
+    fn tell_value<S: Signs>(
+        &mut self,
+        signs: S,
+        name: &Name,
+        part: &FieldPart,
+        value: &Scalar,
+    ) -> Result<(), AllocError>
+        ensures { OnOk result (Says S.form name.now (Some value.now) self.old self.new) }
+    {
+        match value {
+            Scalar::U32(number) => self.tell_unsigned(signs, name, u64::from(*number)),
+            Scalar::I32(number) => self.tell_signed(signs, name, i64::from(*number)),
+            Scalar::U64(number) => self.tell_unsigned(signs, name, *number),
+            Scalar::I64(number) => self.tell_signed(signs, name, *number),
+            Scalar::Decimal { exponent, mantissa } => {
+                self.tell_decimal(signs, name, *mantissa, *exponent)
+            }
+            Scalar::Ascii(text) => self.tell_string(signs, name, part, value, text.as_slice()),
+            Scalar::Unicode(text) => self.tell_string(signs, name, part, value, text.as_bytes()),
+            Scalar::Bytes(_) => self.tell_vector(signs, name, part, value),
+        }
+    }
+
+    // Appends the label of a field and a number.
+    #[inline(never)]
+    fn tell_unsigned<S: Signs>(
+        &mut self,
+        signs: S,
+        name: &Name,
+        number: u64,
+    ) -> Result<(), AllocError>
+        ensures { OnOk result (Says S.form name.now (Some (scalar.U64 number)) self.old self.new) }
+    {
+        if number >= FEW_DIGITS {
+            return self.tell_large(signs, name, number);
+        }
+        if self.put_field(signs, name, Some(&Scalar::U64(number))) {
             return Ok(());
         }
-        self.tell_long(signs, name, part, value)
+        self.tell_whole(signs, name, &Scalar::U64(number))
+    }
+
+    // The same of one of more than eight digits.
+    #[inline(never)]
+    fn tell_large<S: Signs>(&mut self, signs: S, name: &Name, number: u64) -> Result<(), AllocError>
+        ensures { OnOk result (Says S.form name.now (Some (scalar.U64 number)) self.old self.new) }
+    {
+        if self.put_field(signs, name, Some(&Scalar::U64(number))) {
+            return Ok(());
+        }
+        self.tell_whole(signs, name, &Scalar::U64(number))
+    }
+
+    // The same of a number with a sign.
+    #[inline(never)]
+    fn tell_signed<S: Signs>(
+        &mut self,
+        signs: S,
+        name: &Name,
+        number: i64,
+    ) -> Result<(), AllocError>
+        ensures { OnOk result (Says S.form name.now (Some (scalar.I64 number)) self.old self.new) }
+    {
+        if number >= 0 {
+            return self.tell_unsigned(signs, name, number.unsigned_abs());
+        }
+        self.tell_negative(signs, name, number)
+    }
+
+    // The same of one behind a minus.
+    #[inline(never)]
+    fn tell_negative<S: Signs>(
+        &mut self,
+        signs: S,
+        name: &Name,
+        number: i64,
+    ) -> Result<(), AllocError>
+        ensures { OnOk result (Says S.form name.now (Some (scalar.I64 number)) self.old self.new) }
+    {
+        if self.put_field(signs, name, Some(&Scalar::I64(number))) {
+            return Ok(());
+        }
+        self.tell_whole(signs, name, &Scalar::I64(number))
+    }
+
+    // The same of a decimal.
+    #[inline(never)]
+    fn tell_decimal<S: Signs>(
+        &mut self,
+        signs: S,
+        name: &Name,
+        mantissa: i64,
+        exponent: i32,
+    ) -> Result<(), AllocError>
+        ensures { OnOk result (Says S.form name.now (Some (scalar.Decimal exponent mantissa)) self.old self.new) }
+    {
+        let value = Scalar::Decimal { exponent, mantissa };
+        if self.put_field(signs, name, Some(&value)) {
+            return Ok(());
+        }
+        self.tell_whole(signs, name, &value)
+    }
+
+    // The same of a value that is never left out, under a name of any length, and where there was too little room.
+    #[inline(never)]
+    fn tell_whole<S: Signs>(
+        &mut self,
+        signs: S,
+        name: &Name,
+        value: &Scalar,
+    ) -> Result<(), AllocError>
+        ensures { OnOk result (Says S.form name.now (Some value.now) self.old self.new) }
+    {
+        self.text.see_room()?;
+        self.label(signs, name)?;
+        self.push_value(signs, value)
+    }
+
+    // The same of a string.
+    #[inline(always)]
+    fn tell_string<S: Signs>(
+        &mut self,
+        signs: S,
+        name: &Name,
+        part: &FieldPart,
+        value: &Scalar,
+        text: &[u8],
+    ) -> Result<(), AllocError>
+        requires { scalar_text S.form value.now ≡ quoted S.form text.now }
+        ensures { OnOk result (Says S.form name.now (Some value.now) self.old self.new) }
+    {
+        match text {
+            [byte] => self.tell_character(signs, name, value, *byte),
+            _ => self.tell_text(signs, name, part, value, text),
+        }
+    }
+
+    // The same of a string of one byte, which is never left out.
+    #[tactic(auto, using(fast_gaps::proofs::Filled::filled_behind))]
+    #[inline(never)]
+    fn tell_character<S: Signs>(
+        &mut self,
+        signs: S,
+        name: &Name,
+        value: &Scalar,
+        byte: u8,
+    ) -> Result<(), AllocError>
+        requires { scalar_text S.form value.now ≡ quoted S.form (byte ∷ []) }
+        ensures { OnOk result (Says S.form name.now (Some value.now) self.old self.new) }
+    {
+        match self.put_text(signs, name, &[byte]) {
+            Put::Field => Ok(()),
+            Put::Label => self.push_value(signs, value),
+            Put::Nothing => self.tell_whole(signs, name, value),
+        }
+    }
+
+    // The same of any string.
+    #[tactic(auto, using(fast_gaps::proofs::Filled::filled_behind))]
+    #[inline(never)]
+    fn tell_text<S: Signs>(
+        &mut self,
+        signs: S,
+        name: &Name,
+        part: &FieldPart,
+        value: &Scalar,
+        text: &[u8],
+    ) -> Result<(), AllocError>
+        requires { scalar_text S.form value.now ≡ quoted S.form text.now }
+        ensures { OnOk result (Says S.form name.now (Some value.now) self.old self.new) }
+    {
+        match self.put_text(signs, name, text) {
+            Put::Field => Ok(()),
+            Put::Label => self.value_long(signs, part, value),
+            Put::Nothing => self.tell_long(signs, name, part, Some(value)),
+        }
+    }
+
+    // The same of a byte vector.
+    #[inline(never)]
+    fn tell_vector<S: Signs>(
+        &mut self,
+        signs: S,
+        name: &Name,
+        part: &FieldPart,
+        value: &Scalar,
+    ) -> Result<(), AllocError>
+        ensures { OnOk result (Says S.form name.now (Some value.now) self.old self.new) }
+    {
+        if self.put_field(signs, name, Some(value)) {
+            return Ok(());
+        }
+        self.tell_long(signs, name, part, Some(value))
     }
 
     // The same of any length, one after the other, and where there was too little room.
@@ -276,6 +497,7 @@ impl Line {
     }
 
     // Appends a value; in a line that is long a text is left out.
+    #[inline(never)]
     fn value_long<S: Signs>(
         &mut self,
         signs: S,
@@ -291,12 +513,18 @@ impl Line {
         match value {
             Scalar::Ascii(text) => self.put_quoted(signs, text.as_slice()),
             Scalar::Unicode(text) => self.put_quoted(signs, text.as_bytes()),
-            _ => {
-                self.long.clear();
-                push_scalar(signs, value, &mut self.long)?;
-                self.put_long()
-            }
+            _ => self.push_value(signs, value),
         }
+    }
+
+    // Appends a value as it is, however long it is.
+    fn push_value<S: Signs>(&mut self, signs: S, value: &Scalar) -> Result<(), AllocError>
+        ensures text { OnOk result (Appends S.form self.old (scalar_text S.form value.now) self.new) }
+        ensures led { self.new.led ≡ self.old.led }
+    {
+        self.long.clear();
+        push_scalar(signs, value, &mut self.long)?;
+        self.put_long()
     }
 
     // Appends a string in its quotes.
@@ -306,7 +534,7 @@ impl Line {
         ensures led { self.new.led ≡ self.old.led }
     {
         self.put(b"\"")?;
-        self.put_text(signs, text)?;
+        self.put_inside(signs, text)?;
         self.put(b"\"")?;
         Ok(())
     }
@@ -314,7 +542,7 @@ impl Line {
     // Appends a string without its quotes; where it stands as it is, at once.
     #[tactic(auto, using(fast_lines::proofs::Written::plain_text))]
     #[inline(always)]
-    fn put_text<S: Signs>(&mut self, signs: S, text: &[u8]) -> Result<(), AllocError>
+    fn put_inside<S: Signs>(&mut self, signs: S, text: &[u8]) -> Result<(), AllocError>
         ensures text { OnOk result (Appends S.form self.old (flat_map (unit_text S.form) text.now) self.new) }
         ensures led { self.new.led ≡ self.old.led }
     {
@@ -342,6 +570,17 @@ impl Line {
     /// Appends the label of what is absent, and what stands for it.
     #[inline(never)]
     pub(crate) fn tell_absent<S: Signs>(&mut self, signs: S, name: &Name) -> Result<(), AllocError>
+        ensures { OnOk result (Says S.form name.now None self.old self.new) }
+    {
+        if self.put_field(signs, name, None) {
+            return Ok(());
+        }
+        self.absent_long(signs, name)
+    }
+
+    // The same under a name of any length, and where there was too little room.
+    #[inline(never)]
+    fn absent_long<S: Signs>(&mut self, signs: S, name: &Name) -> Result<(), AllocError>
         ensures { OnOk result (Says S.form name.now None self.old self.new) }
     {
         self.label(signs, name)?;
