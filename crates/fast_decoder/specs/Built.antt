@@ -39,4 +39,4 @@ pub record IsBuilt (b : Builder) (o : Received) : Type 0 where
 
 -- with other messages in place of those that are finished
 abbrev pub with_whole : Builder → Vec Message → Builder
-with_whole b messages = record { template = b.template; nodes = b.nodes; exponent = b.exponent; elements = b.elements; outer = b.outer; whole = messages; aside = b.aside }
+with_whole b messages = record { template = b.template; nodes = b.nodes; exponent = b.exponent; elements = b.elements; outer = b.outer; whole = messages; usual = b.usual; aside = b.aside }

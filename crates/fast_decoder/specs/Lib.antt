@@ -1,3 +1,4 @@
 pub mod Built
 pub mod Calls
 pub mod Inputs
+pub mod Taken

@@ -1,17 +1,20 @@
 //! Builds the nodes of messages.
 
-ghost use Rattle.std.specs.Prelude.{◌≡◌, map, Option, Some, None, true};
-ghost use Rattle.fast_stream.specs.Nodes.{item_of, single};
+ghost use Rattle.std.specs.Prelude.{◌≡◌, map, true};
 
+use crate::taken::put_field;
 use fast_dictionary::Entries;
 use fast_field::FieldFault;
 use fast_stream::{Message, Node};
 use fast_take::Aside;
 use fast_template::{FieldPart, Name, Presence, Scalar};
-use fast_walk::{Receiver, take_exponent, take_identifier, take_length, take_mantissa, take_part};
+use fast_walk::{Receiver, take_exponent, take_identifier, take_length, take_mantissa};
 use fast_wire::Level;
 use std::alloc::{AllocError, Global};
 use std::mem;
+
+/// For how many elements of a sequence there is room at once, whatever its length says.
+const SEVERAL: usize = 16;
 
 /// What is built of a body that waits for the segment inside it: its nodes, and the elements of the sequence where
 /// the segment is one.
@@ -34,18 +37,10 @@ pub struct Builder {
     // of the bodies around
     outer: Vec<Outer>,
     whole: Vec<Message>,
+    // how many nodes the message had that was finished last, for which the next one has room at once
+    usual: usize,
     // of the field that was taken last
     aside: Aside,
-}
-
-// A value, or none, as a node.
-fn node_of(value: Option<Scalar>) -> Node
-    ensures { item_of result ≡ single value }
-{
-    match value {
-        None => Node::Absent,
-        Some(value) => Node::Value(value),
-    }
 }
 
 impl Builder {
@@ -68,6 +63,7 @@ impl Builder {
             elements: Vec::new(alloc),
             outer: Vec::new(alloc),
             whole: Vec::new(alloc),
+            usual: 0,
             aside: Aside::new(alloc),
         }
     }
@@ -137,13 +133,14 @@ impl Receiver for Builder {
         let aside = &mut self.aside;
         let (id, next) = take_identifier(entries, identifier, bit, level, bytes, at, aside)?;
         self.template = id;
-        self.nodes = Vec::new(alloc);
-        self.outer = Vec::new(alloc);
+        self.nodes = Vec::with_capacity(alloc, self.usual).map_err(|_| FieldFault::Memory)?;
+        self.outer.clear();
         Ok((id, next))
     }
 
     fn finish(&mut self, alloc: Global) -> Result<(), AllocError> {
         let fields = mem::replace(&mut self.nodes, Vec::new(alloc));
+        self.usual = fields.len();
         self.whole.push(Message {
             template: self.template,
             fields,
@@ -162,6 +159,7 @@ impl Receiver for Builder {
         self.outer = Vec::new(alloc);
     }
 
+    #[inline(always)]
     fn field<E: Entries>(
         &mut self,
         alloc: Global,
@@ -174,12 +172,8 @@ impl Receiver for Builder {
         bytes: &[u8],
         at: usize,
     ) -> Result<usize, FieldFault> {
-        let aside = &mut self.aside;
-        let (value, next) = take_part(alloc, entries, part, bit, level, bytes, at, aside)?;
-        self.nodes
-            .push(node_of(value))
-            .map_err(|_| FieldFault::Memory)?;
-        Ok(next)
+        let (aside, nodes) = (&mut self.aside, &mut self.nodes);
+        put_field(alloc, entries, part, bit, level, bytes, at, aside, nodes)
     }
 
     fn exponent<E: Entries>(
@@ -247,7 +241,8 @@ impl Receiver for Builder {
                 Ok((None, next))
             }
             (Some(length), next) => {
-                self.elements = Vec::new(alloc);
+                let room = (length as usize).min(SEVERAL);
+                self.elements = Vec::with_capacity(alloc, room).map_err(|_| FieldFault::Memory)?;
                 Ok((Some(length), next))
             }
         }
@@ -308,6 +303,27 @@ impl Receiver for Builder {
                 let inner = mem::replace(&mut self.nodes, nodes);
                 self.elements = elements;
                 self.elements.push(inner)?;
+                Ok(())
+            }
+        }
+    }
+
+    fn next_element(
+        &mut self,
+        alloc: Global,
+        _number: u32,
+        _map: &[u8],
+        size: usize,
+    ) -> Result<(), AllocError> {
+        match self.outer.pop() {
+            // (no element is open)
+            None => Ok(()),
+            Some(Outer { nodes, elements }) => {
+                let inner = Vec::with_capacity(alloc, size)?;
+                let element = mem::replace(&mut self.nodes, inner);
+                let mut elements = elements;
+                elements.push(element)?;
+                self.outer.push(Outer { nodes, elements })?;
                 Ok(())
             }
         }

@@ -2,13 +2,14 @@
 //!
 //! What a stream carries, where it has no reading, and the machine that goes over its pieces stand in `fast_stream` and
 //! `fast_machine`, and what a caller needs of them can be named here too. [`Builder`] is the receiver that keeps the nodes of the
-//! message that is open, and the messages that have ended (`specs/Built`). `specs/Inputs` says what a reader gave and what the
-//! stream of messages answered.
+//! message that is open, and the messages that have ended (`specs/Built`); `specs/Taken` says what it makes of a field.
+//! `specs/Inputs` says what a reader gave and what the stream of messages answered.
 #![tactic(auto)]
 
 mod builder;
 mod decoder;
 mod input;
+mod taken;
 
 pub use builder::{Builder, Outer};
 pub use decoder::Decoder;

@@ -1,6 +1,16 @@
-use Rattle.fast_value.specs.declared.kind.Part.{Part}
-use Rattle.fast_walk.proofs.Telling.{told_part}
+use Rattle.fast_decoder.proofs.Common.{IfOk-weaker, ap, sym, ◌∙◌, List, [], ◌∷◌, ◌++◌, Item, single}
 use Rattle.fast_decoder.proofs.builder.BuilderReceiver.field.Goals as goal
 
-pub take_part-requires-clause-part : goal.take_part-requires-clause-part
-take_part-requires-clause-part g c = told_part Part.Whole c.args.part.now.kind c.args.part.now tt c.requires.told
+pub returns-clause-goes : goal.returns-clause-goes
+returns-clause-goes g c = IfOk-weaker c.put_field.result _ _
+    (λ n r. (
+      r.0,
+      r.1,
+      λ number is o next first has. record {
+        before = has.before;
+        template = has.template;
+        next = tt;
+        done = ap (λ (xs : List Item). xs ++ single r.0 ∷ []) has.done ∙ sym r.2;
+        around = has.around;
+      },
+    )) c.put_field.ensures.put
