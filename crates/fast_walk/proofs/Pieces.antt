@@ -1,9 +1,10 @@
 -- How a walk takes a piece, and where it stops at one.
-use Rattle.fast_walk.proofs.Common.{◌≡◌, ◌≢◌, ◌≤◌, ◌<◌, ◌-◌, ◌++◌, ◌+◌, ◌*◌, ◌∷◌, [], ℕ, Bool, List, Option, Ok, Err, drop, length, get_or, map, refl, sym, ap, ◌∙◌, arith, Vec, IsTrue, Key, Kind, Part, Presence, Scalar, FieldPart, Flat, fold_out-Flat, Field, Parts, Group, Sequence, outs-Field, outs-Parts, outs-Group, outs-Sequence, Instruction, Instructions, flat_step, instruction_of, whole_field, field_in_parts, group_of, sequence_of, then_instruction, list_of, part_needs_bit, Dictionary, IsKindOfPart, FieldFault, Level, after_bit, bit_for, Stop, cause_of_field, Item, Cursor, field_part_at, node_at, piece_at, stopped, Cause, Inside, Next, all_around, at_instruction, cursor, top_on, CanWalk, Holds, Reaches, Stops, IsTold, KeepScalars, CarriesOpen, Faults, Having, Received, Took, moved, StillAwaits, AwaitsBehind, left_around, AreAllServed, AreServed, At, Begins, HaltsAs, IsBehind, IsNextServed, IsOpened, IsServed, IsWaitingServed, Moves, bare_next, frame_of, next_of, rank_of, reads_on, weight_of, Halt, Frame as FrameNow, Walk as WalkNow, bytes_from, IsBytes}
+use Rattle.fast_walk.proofs.Common.{◌≡◌, ◌≢◌, ◌≤◌, ◌<◌, ◌-◌, ◌++◌, ◌+◌, ◌*◌, ◌∷◌, [], ℕ, Bool, List, Option, Ok, Err, drop, length, get_or, map, refl, sym, ap, ◌∙◌, arith, Vec, IsTrue, Key, Kind, Part, Presence, Scalar, FieldPart, Flat, fold_out-Flat, Field, Parts, Group, Sequence, outs-Field, outs-Parts, outs-Group, outs-Sequence, Instruction, Instructions, flat_step, instruction_of, whole_field, field_in_parts, group_of, sequence_of, then_instruction, list_of, part_needs_bit, Dictionary, IsKindOfPart, FieldFault, Level, after_bit, bit_for, Stop, cause_of_field, Item, Cursor, field_part_at, node_at, piece_at, stopped, Cause, Inside, Next, all_around, at_instruction, cursor, top_on, CanWalk, Holds, Reaches, Stops, IsTold, KeepScalars, CarriesOpen, Faults, Having, Received, Took, moved, StillAwaits, AwaitsBehind, left_around, AreAllServed, AreServed, At, Begins, HaltsAs, IsBehind, IsNextServed, IsOpened, IsServed, IsWaitingServed, Moves, bare_next, frame_of, next_of, rank_of, reads_on, weight_of, Halt, Frame as FrameNow, Walk as WalkNow, bytes_from, IsBytes, own_map_at, IsOwnMap, IsMapped, slice_range, at_element, in_element, fewer, in_sequence, sequel_of, Sequel}
 use Rattle.fast_walk.specs.declared.walk.Next.{Next as NextNow}
+use Rattle.fast_walk.specs.declared.walk.Sequel.{Sequel as SequelNow}
 use Rattle.fast_walk.proofs.Steps.{count_goes, items_on, part_goes, part_stops}
 use Rattle.fast_walk.proofs.Telling.{asked_for, taken_keeps, told_part}
-use Rattle.fast_walk.proofs.Walking.{goes_on, is_instruction, left_last, piece_on, piece_stops_on, served_push}
+use Rattle.fast_walk.proofs.Walking.{at_element_of, enters, goes_on, is_instruction, left_last, mapped, piece_on, piece_stops_on, served_push}
 
 -- ---- the instruction that is next
 
@@ -150,6 +151,29 @@ module _ {R : Type 0} {level : Level} {Has : Having R} {Awaits : R → List (Lis
     },
     less_behind some end,
   )
+
+-- the first element of a sequence
+module _ {R : Type 0} {level : Level} {Has : Having R} {Awaits : R → List (List Bool) → List Bool → Bool} {serves : Key → Bool} {w v : WalkNow} {r s : R} {d : Dictionary} {bytes : List ℕ} {at n : ℕ} where
+  pub element_taken : {x : SequelNow} {own : List Bool} → CanWalk serves d (Awaits r) w → w.next ≡ NextNow.Element x → 0 < x.left → 0 < w.spare → (at ≤ n) × (n ≤ length bytes)
+      → IsOpened w.around.items w.bits w.spare x.number (list_of x.members.now) (list_of w.rest.now) (in_sequence (fewer (sequel_of x))) own v
+      → ((more : List ℕ) → own_map_at level x.number x.own_map (cursor d w.bits (w.spare - 1) (drop at bytes ++ more)) ≡ Ok (cursor d own (w.spare - 1) (drop n bytes ++ more)))
+      → IsOwnMap x.own_map (slice_range bytes at n) own
+      → ((q : Sequel) (bits : List Bool) (o : Received) → o.next ≡ at_element q → x.number ≡ q.number → IsMapped q.own_map (slice_range bytes at n) → 0 < q.left → Has r o d → Has s (in_element o bits q) d)
+      → ((around : List (List Bool)) (has : Bool) (b bits : List Bool) → IsOwnMap has (slice_range bytes at n) bits → IsTrue (Awaits r around b) → IsTrue (Awaits s (around ++ b ∷ []) bits))
+      → Reaches level Has Awaits serves w r d v s d bytes at n × (rank_of v < rank_of w)
+  element_taken {x} {own} can is some spare place end goes map has awaits =
+      let members = rw is at can.ready.next in (
+        record {
+          from = place.0;
+          within = place.1;
+          goes = λ o was.
+              let a = at_element_of o was.0 is in
+              enters level Has w s d o o (drop at bytes) (drop n bytes) a (record { set = refl; before = refl; template = refl; members = refl; start = refl }) (λ b. refl)
+              some spare end goes (λ same left. has a.sequel w.bits o a.next (sym (ap (λ (q : Sequel). q.number) a.same)) (mapped _ _ _ _ same map) left was.1);
+          on = opened_on end members (can.ready.rest, members) can.ready.around can.kept (awaits _ x.own_map w.bits _ map can.awaited);
+        },
+        less_opened w.next spare end,
+      )
 
 -- ---- one place behind the other
 

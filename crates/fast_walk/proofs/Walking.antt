@@ -1,5 +1,5 @@
 -- How reading goes on, whatever was received.
-use Rattle.fast_walk.proofs.Common.{◌≡◌, ◌<◌, ◌-◌, ℕ, zero, suc, ℤ, Bool, true, List, [], ◌∷◌, ◌++◌, length, map, slice_index_or, slice_set, Option, Some, None, Ok, Err, refl, sym, ap, ◌∙◌, arith, map_push, Key, Scalar, I32, I64, Decimal, Presence, FieldPart, Instruction, Instructions, whole_field, field_in_parts, no_instructions, then_instruction, list_of, IsLeftClear, some_set, Level, Strict, R8, Dictionary, single, Elements, Items, items_of, sequence_elements, elements_of, Stop, Cursor, Reads, node_at, field_part_at, own_map_at, piece_at, stopped, Body, Sequel, Waiting, Inside, in_group, in_sequence, Next, at_instruction, at_mantissa, at_element, with_item, with_element, cursor, fewer, under_bits, body_on, mantissa_on, top_on, behind_inside, all_around, Having, Received, left_of, Same, Goes, after_sequence, in_element, behind_last, closed_in, ended_in, left_around, At, IsAt, IsOpened, bare_inside, bare, bare_next, bare_sequel, frame_of, inside_of, next_of, reads_on, sequel_of, AreAllServed, IsLast, IsWaitingServed, Frame as FrameNow, Walk as WalkNow, get_or-append_seam, set-append_seam, length-append}
+use Rattle.fast_walk.proofs.Common.{◌≡◌, ◌<◌, ◌-◌, ℕ, zero, suc, ℤ, Bool, true, List, [], ◌∷◌, ◌++◌, length, map, slice_index_or, slice_set, Option, Some, None, Ok, Err, refl, sym, ap, ◌∙◌, arith, map_push, Key, Scalar, I32, I64, Decimal, Presence, FieldPart, Instruction, Instructions, whole_field, field_in_parts, no_instructions, then_instruction, list_of, IsLeftClear, some_set, Level, Strict, R8, Dictionary, single, Elements, Items, items_of, sequence_elements, elements_of, Stop, Cursor, Reads, node_at, field_part_at, own_map_at, piece_at, stopped, Body, Sequel, Waiting, Inside, in_group, in_sequence, Next, at_instruction, at_mantissa, at_element, with_item, with_element, cursor, fewer, under_bits, body_on, mantissa_on, top_on, behind_inside, all_around, Having, Received, left_of, Same, Goes, after_sequence, in_element, behind_last, closed_in, ended_in, left_around, At, IsAt, IsOpened, bare_inside, bare, bare_next, bare_sequel, frame_of, inside_of, next_of, reads_on, sequel_of, AreAllServed, IsLast, IsWaitingServed, Frame as FrameNow, Walk as WalkNow, get_or-append_seam, set-append_seam, length-append, IsOwnMap, IsMapped}
 use Rattle.std.proofs.lemmas.List.{same_from_push}
 use Rattle.fast_walk.specs.declared.walk.Next.TheVariants as next
 use Rattle.fast_walk.specs.declared.walk.Sequel.{Sequel as SequelNow}
@@ -42,6 +42,10 @@ at_element_of o {s = s} at is =
 pub is_element_of : (i : Inside) (t : Sequel) → bare_inside i ≡ in_sequence t → (s : Sequel) × (i ≡ in_sequence s) × (bare_sequel s ≡ t)
 is_element_of in_group t h = absurd cc
 is_element_of (in_sequence s) t h = (s, refl, cc)
+
+-- the map of an element, as its sequence has one
+pub mapped : (own has : Bool) (bytes : List ℕ) (bits : List Bool) → own ≡ has → IsOwnMap own bytes bits → IsMapped has bytes
+mapped own has bytes bits same is = (bits, rw same at is)
 
 -- ---- an element
 

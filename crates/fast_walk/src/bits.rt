@@ -49,6 +49,14 @@ fn is_short_map(bytes: &[u8], at: usize) -> bool
     bytes[at] >= 128 || (bytes.len() - at > 1 && bytes[at + 1] > 128)
 }
 
+/// Whether a map of one group stands here, as most are.
+#[inline(always)]
+pub(crate) fn is_one_group(bytes: &[u8], at: usize) -> bool
+    requires { at ≤ length bytes.now }
+{
+    at < bytes.len() && bytes[at] >= 128
+}
+
 /// Judges the map that begins at `at`, at the strict level: whether it is there and has no more groups than reach its
 /// last 1.
 #[inline(always)]

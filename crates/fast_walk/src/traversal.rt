@@ -238,10 +238,9 @@ impl<'a> Traversal<'a> {
         }
     }
 
-    // Reads the next message from its map on, or from its identifier on where that is next.
-    #[tactic(auto, using(crate::proofs::Messages::map_can, crate::proofs::Messages::read_behind_map))]
-    #[inline(always)]
-    fn begin<R: Receiver, E: Entries>(
+    // The same where the bytes before ended behind the map. (A call of its own, as `from_body`: they are seldom wanted.)
+    #[inline(never)]
+    fn from_identifier<R: Receiver, E: Entries>(
         &mut self,
         receiver: &mut R,
         entries: &mut E,
@@ -249,23 +248,59 @@ impl<'a> Traversal<'a> {
         at: usize,
     ) -> Result<usize, (usize, Halt)>
         requires place { at ≤ length bytes.now }
-        requires outside { self.now.stage ≢ Stage.Body }
+        requires stage { self.now.stage ≡ Stage.Identifier }
         requires served { ServesAll (E.serves entries.now) self.now.set.now }
         requires can { CanRead R.Receiver E.Entries self.now receiver.now entries.now }
         ensures reads { ReadsMessage R.Receiver E.Entries self.old receiver.old entries.old bytes.now at result
             self.new receiver.new entries.new }
         ensures same { IsSameSet E.Entries self.old entries.old self.new entries.new }
     {
-        match self.stage {
-            Stage::Map => match self.map(bytes, at) {
-                Err(halt) => Err((at, halt)),
-                Ok(next) => match receiver.open(&bytes[at..next]) {
-                    Err(error) => Err((next, Halt::from(error))),
-                    Ok(()) => self.behind_map(receiver, entries, bytes, next),
-                },
+        self.behind_map(receiver, entries, bytes, at)
+    }
+
+    // Reads what is left of a message's body where the bytes before ended in it.
+    #[inline(never)]
+    fn from_body<R: Receiver, E: Entries>(
+        &mut self,
+        receiver: &mut R,
+        entries: &mut E,
+        bytes: &[u8],
+        at: usize,
+    ) -> Result<usize, (usize, Halt)>
+        requires place { at ≤ length bytes.now }
+        requires stage { self.now.stage ≡ Stage.Body }
+        requires can { CanRead R.Receiver E.Entries self.now receiver.now entries.now }
+        ensures reads { ReadsMessage R.Receiver E.Entries self.old receiver.old entries.old bytes.now at result
+            self.new receiver.new entries.new }
+        ensures same { IsSameSet E.Entries self.old entries.old self.new entries.new }
+    {
+        self.body(receiver, entries, bytes, at)
+    }
+
+    // Reads the next message from its map on.
+    #[tactic(auto, using(crate::proofs::Messages::map_can, crate::proofs::Messages::read_behind_map))]
+    #[inline(always)]
+    fn from_map<R: Receiver, E: Entries>(
+        &mut self,
+        receiver: &mut R,
+        entries: &mut E,
+        bytes: &[u8],
+        at: usize,
+    ) -> Result<usize, (usize, Halt)>
+        requires place { at ≤ length bytes.now }
+        requires stage { self.now.stage ≡ Stage.Map }
+        requires served { ServesAll (E.serves entries.now) self.now.set.now }
+        requires can { CanRead R.Receiver E.Entries self.now receiver.now entries.now }
+        ensures reads { ReadsMessage R.Receiver E.Entries self.old receiver.old entries.old bytes.now at result
+            self.new receiver.new entries.new }
+        ensures same { IsSameSet E.Entries self.old entries.old self.new entries.new }
+    {
+        match self.map(bytes, at) {
+            Err(halt) => Err((at, halt)),
+            Ok(next) => match receiver.open(&bytes[at..next]) {
+                Err(error) => Err((next, Halt::from(error))),
+                Ok(()) => self.behind_map(receiver, entries, bytes, next),
             },
-            Stage::Identifier => self.behind_map(receiver, entries, bytes, at),
-            Stage::Body => unreachable!(),
         }
     }
 
@@ -292,8 +327,9 @@ impl<'a> Traversal<'a> {
         ensures same { IsSameSet E.Entries self.old entries.old self.new entries.new }
     {
         match self.stage {
-            Stage::Body => self.body(receiver, entries, bytes, at),
-            Stage::Map | Stage::Identifier => self.begin(receiver, entries, bytes, at),
+            Stage::Map => self.from_map(receiver, entries, bytes, at),
+            Stage::Identifier => self.from_identifier(receiver, entries, bytes, at),
+            Stage::Body => self.from_body(receiver, entries, bytes, at),
         }
     }
 }

@@ -1,21 +1,21 @@
 //! A walk through the open segments of a message, without its items.
 
-ghost use Rattle.std.specs.Prelude.{◌≡◌, ◌≢◌, ◌≤◌, ◌<◌, ◌++◌, ◌∷◌, ◌-◌, ◌+◌, [], ℕ, Bool, true, false, List, Option, IsSome, ◌⊎◌, IfOk, IfErr, IfSome, MatchResult, OnErr, OnOk, length, map, vec_capacity, vec_len};
+ghost use Rattle.std.specs.Prelude.{◌≡◌, ◌≢◌, ◌≤◌, ◌<◌, ◌++◌, ◌∷◌, ◌-◌, ◌+◌, [], ℕ, Bool, true, false, List, Option, Ok, IsSome, ◌⊎◌, IfOk, IfErr, IfSome, MatchResult, OnErr, OnOk, length, drop, map, slice_range, vec_capacity, vec_len};
 ghost use Rattle.fast_value.specs.declared.key.Key as key_type;
 ghost use Rattle.fast_template.specs.Resolved.{instruction_of, list_of, no_instructions, is_optional as is_optional_of};
 ghost use Rattle.fast_dictionary.specs.Dictionary.{Dictionary};
 ghost use Rattle.fast_stream.specs.Bits.{after_bit};
 ghost use Rattle.fast_wire.specs.Level.{IsLeftClear, some_set};
 ghost use Rattle.fast_stream.specs.Faults.{cause_of_field};
-ghost use Rattle.fast_stream.specs.Reading.{node_at, stopped};
+ghost use Rattle.fast_stream.specs.Reading.{node_at, own_map_at, stopped};
 ghost use Rattle.fast_walk.specs.OpenSegments.{Waiting, at_instruction, cursor, fewer, in_sequence};
 ghost use Rattle.fast_walk.specs.Received.{Received, Carries, closed_in};
 ghost use Rattle.fast_walk.specs.Passing.{next_behind};
 ghost use Rattle.fast_walk.specs.Walks.{next_of, weight_of};
-ghost use Rattle.fast_walk.specs.Awaited.{IsAwaited, AwaitsInside, AwaitsOutside};
+ghost use Rattle.fast_walk.specs.Awaited.{IsAwaited, IsOwnMap, AwaitsInside, AwaitsOutside};
 ghost use Rattle.fast_walk.specs.Pieces.{CanWalk, IsTaken, Reaches, Runs};
 
-use crate::bits::{first_for, read_own_map, take_for};
+use crate::bits::{first_for, is_one_group, read_own_map, take_for};
 use crate::halt::{Halt, HaltedBy, field_cause};
 use crate::leveled::{Leveled, Strictly, Usually};
 use crate::receiver::Receiver;
@@ -140,6 +140,7 @@ impl<'a> Walk<'a> {
     }
 
     /// Begins a message's body, where its identifier has taken a bit where it needs one.
+    #[inline(always)]
     pub(crate) fn open_message(&mut self, needs: bool, members: &'a [Flat])
         ensures bits { self.new.bits ≡ after_bit needs self.old.bits }
         ensures spare { self.new.spare ≡ self.old.spare }
@@ -150,7 +151,10 @@ impl<'a> Walk<'a> {
         take_for(&mut self.bits, needs);
         self.next = Next::Instruction;
         self.rest = members;
-        self.around.clear();
+        // (mostly it is empty, and to clear it would be a call)
+        if !self.around.is_empty() {
+            self.around.clear();
+        }
     }
 
     // Whether one node more may come.
@@ -218,6 +222,62 @@ impl<'a> Walk<'a> {
                 Ok(())
             }
         }
+    }
+
+    // The map of a first element that is entered with its sequence, as most are: it is of one group. None says nothing.
+    #[inline(always)]
+    fn first_map(
+        &self,
+        alloc: Global,
+        number: u32,
+        own_map: bool,
+        level: Level,
+        bytes: &[u8],
+        at: usize,
+    ) -> Option<(Bits, usize)>
+        requires place { at ≤ length bytes.now }
+        ensures spare { IfSome result (λ x. 1 < self.now.spare) }
+        ensures place { IfSome result (λ x. (at ≤ x.1) × (x.1 ≤ length bytes.now)) }
+        ensures map { IfSome result (λ x. IsOwnMap own_map (slice_range bytes.now at x.1) x.0) }
+        ensures goes { IfSome result (λ x. (d : Dictionary) (bits : List Bool) (spare : ℕ) (more : List ℕ)
+            → own_map_at level number own_map (cursor d bits spare (drop at bytes.now ++ more))
+            ≡ Ok (cursor d x.0 spare (drop x.1 bytes.now ++ more))) }
+    {
+        if self.spare > 1
+            && own_map
+            && is_one_group(bytes, at)
+            && let Ok(map) = read_own_map(alloc, number, own_map, level, bytes, at)
+        {
+            return Some(map);
+        }
+        None
+    }
+
+    // Opens the first element of a sequence behind its length: a node is counted for each, and the length's bit taken.
+    #[inline(always)]
+    fn open_first(
+        &mut self,
+        needs: bool,
+        others: &'a [Flat],
+        elements: Sequel<'a>,
+        bits: Bits,
+    ) -> Result<(), Halt>
+        requires spare { 1 < self.now.spare }
+        requires next { self.now.next ≡ Next.Instruction }
+        requires left { 0 < elements.left }
+        ensures opened { MatchResult result (λ u. IsOpened self.old.around.items (after_bit needs self.old.bits) (self.old.spare - 1)
+            elements.entry.number (list_of elements.entry.members.now) (list_of others.now)
+            (in_sequence (fewer (sequel_of elements.entry))) bits self.new) (λ h. h.cause ≡ Cause.Memory) }
+    {
+        take_for(&mut self.bits, needs);
+        self.spare -= 1;
+        let later = Sequel {
+            number: elements.number,
+            own_map: elements.own_map,
+            members: elements.members,
+            left: elements.left - 1,
+        };
+        self.open(elements.members, others, bits, Inside::Element(later))
     }
 
     // Takes the next instruction, or the first part of it: the rest is a piece of its own.
@@ -339,8 +399,19 @@ impl<'a> Walk<'a> {
                                 members,
                                 left,
                             };
-                            self.pass(needs, others, Next::Element(elements));
-                            Ok(next)
+                            match self.first_map(alloc, *number, own_map, level, bytes, next) {
+                                Some((bits, behind)) => {
+                                    let map = &bytes[next..behind];
+                                    let size = members.len();
+                                    receiver.enter_element(alloc, *number, map, size)?;
+                                    self.open_first(needs, others, elements, bits)?;
+                                    Ok(behind)
+                                }
+                                None => {
+                                    self.pass(needs, others, Next::Element(elements));
+                                    Ok(next)
+                                }
+                            }
                         }
                     },
                 }
@@ -419,6 +490,63 @@ impl<'a> Walk<'a> {
                 Inside::Group(_) => unreachable!(),
             },
         }
+    }
+
+    // Enters the next element of a sequence in place of the one that is open, whose instructions are all taken.
+    #[inline(always)]
+    fn next_element<L: Leveled, R: Receiver, E: Entries>(
+        &mut self,
+        level: L,
+        alloc: Global,
+        receiver: &mut R,
+        _entries: &E,
+        sequel: Sequel<'a>,
+        bytes: &[u8],
+        at: usize,
+    ) -> Result<usize, Halt>
+        requires place { at ≤ length bytes.now }
+        requires next { self.now.next ≡ Next.Instruction }
+        requires rest { self.now.rest.now ≡ [] }
+        requires left { 0 < sequel.left }
+        requires last { IsLast self.now sequel }
+        requires clear { IsLeftClear L.at self.now.bits }
+        requires walk { CanWalk (E.serves _entries.now) (E.contents _entries.now) (R.awaits receiver.now) self.now }
+        ensures piece { IsTaken L.at R.Receiver E.Entries self.old receiver.old _entries.now self.new receiver.new _entries.now bytes.now at result }
+        ensures keeps { Carries (R.keeps receiver.old) (R.keeps receiver.new) }
+    {
+        let level = level.level();
+        let number = sequel.number;
+        self.count(number)?;
+        let (bits, next) = read_own_map(alloc, number, sequel.own_map, level, bytes, at)?;
+        let map = &bytes[at..next];
+        receiver.next_element(alloc, number, map, sequel.members.len())?;
+        self.go_on(sequel, bits);
+        Ok(next)
+    }
+
+    // The same of one whose map is not of one group. (A call of its own, so that the other way is short.)
+    #[inline(never)]
+    fn any_element<L: Leveled, R: Receiver, E: Entries>(
+        &mut self,
+        level: L,
+        alloc: Global,
+        receiver: &mut R,
+        _entries: &E,
+        sequel: Sequel<'a>,
+        bytes: &[u8],
+        at: usize,
+    ) -> Result<usize, Halt>
+        requires place { at ≤ length bytes.now }
+        requires next { self.now.next ≡ Next.Instruction }
+        requires rest { self.now.rest.now ≡ [] }
+        requires left { 0 < sequel.left }
+        requires last { IsLast self.now sequel }
+        requires clear { IsLeftClear L.at self.now.bits }
+        requires walk { CanWalk (E.serves _entries.now) (E.contents _entries.now) (R.awaits receiver.now) self.now }
+        ensures piece { IsTaken L.at R.Receiver E.Entries self.old receiver.old _entries.now self.new receiver.new _entries.now bytes.now at result }
+        ensures keeps { Carries (R.keeps receiver.old) (R.keeps receiver.new) }
+    {
+        self.next_element(level, alloc, receiver, _entries, sequel, bytes, at)
     }
 
     // Takes up what the segment that ends was to the body around it: behind a last element the sequence ends.
@@ -537,17 +665,13 @@ impl<'a> Walk<'a> {
                     self.judge_end(level.level())?;
                     match self.next_sequel() {
                         Some(sequel) => {
-                            let strictness = level.level();
-                            let number = sequel.number;
-                            let own_map = sequel.own_map;
-                            self.count(number)?;
-                            let (bits, next) = read_own_map(
-                                alloc, number, own_map, strictness, bytes, at,
-                            )?;
-                            let map = &bytes[at..next];
-                            receiver.next_element(alloc, number, map, sequel.members.len())?;
-                            self.go_on(sequel, bits);
-                            Ok(next)
+                            if is_one_group(bytes, at) && sequel.own_map {
+                                self.next_element(
+                                    level, alloc, receiver, entries, sequel, bytes, at,
+                                )
+                            } else {
+                                self.any_element(level, alloc, receiver, entries, sequel, bytes, at)
+                            }
                         }
                         None => match self.around.pop() {
                             None => unreachable!(),
@@ -620,27 +744,27 @@ impl<'a> Walk<'a> {
         ensures keeps { Carries (R.keeps receiver.old) (R.keeps receiver.new) }
         ensures same_keys { E.serves entries.new ≡ E.serves entries.old }
     {
-        let mut place = match self.fields(level, alloc, receiver, entries, bytes, at) {
-            Err(error) => return Err((at, Halt::from(error))),
-            Ok(next) => next,
-        };
-        'pieces: while !self.is_whole() {
+        let mut place = at;
+        'pieces: loop {
+            // the fields that are next, and behind them a piece
+            match self.fields(level, alloc, receiver, entries, bytes, place) {
+                Err(error) => return Err((place, Halt::from(error))),
+                Ok(next) => place = next,
+            }
+            if self.is_whole() {
+                return Ok(place);
+            }
             // (where no byte is left, a field that wants one is not tried)
             if place == bytes.len()
                 && let Some(number) = self.wants_byte()
             {
                 return Err((place, Halt::new(Cause::Truncated, number)));
             }
-            // a piece, and then the fields behind it
             match self.step(level, alloc, receiver, entries, bytes, place) {
                 Err(halt) => return Err((place, halt)),
-                Ok(next) => match self.fields(level, alloc, receiver, entries, bytes, next) {
-                    Err(error) => return Err((place, Halt::from(error))),
-                    Ok(behind) => place = behind,
-                },
+                Ok(next) => place = next,
             }
         }
-        Ok(place)
     }
 
     /// Takes what is left of the message, up to its end. The level is asked for once, here.
@@ -660,6 +784,10 @@ impl<'a> Walk<'a> {
         ensures keeps { Carries (R.keeps receiver.old) (R.keeps receiver.new) }
         ensures same_keys { E.serves entries.new ≡ E.serves entries.old }
     {
+        // (nothing is left of a message without fields)
+        if self.is_whole() {
+            return Ok(at);
+        }
         match level {
             Level::Usual => self.run_leveled(Usually, alloc, receiver, entries, bytes, at),
             Level::Strict => self.run_leveled(Strictly, alloc, receiver, entries, bytes, at),

@@ -1,4 +1,4 @@
-use Rattle.fast_walk.proofs.Common.{◌≡◌, ◌≢◌, ◌++◌, ℕ, true, part_needs_bit, List, Ok, Option, drop, map, refl, sym, ap, ◌∙◌, arith, rules, Some, option_map, FlatTemplate, list_of, Instructions, templates_in, D9, Memory, Truncated, cause_of_field, message_of, opened, next_of, reads_on, frame_of, field_at, entry_at, node_limit, identifier, Kind, Part, U32, Stage}
+use Rattle.fast_walk.proofs.Common.{◌≡◌, ◌≢◌, ◌++◌, ℕ, true, part_needs_bit, List, Ok, Option, drop, map, refl, sym, ap, ◌∙◌, arith, Some, option_map, FlatTemplate, list_of, Instructions, templates_in, D9, Memory, Truncated, cause_of_field, message_of, opened, next_of, reads_on, frame_of, field_at, entry_at, node_limit, identifier, Kind, Part, U32, Stage}
 use Rattle.fast_field.specs.declared.fault.FieldFault.TheVariants.{Memory as FieldMemory}
 use Rattle.fast_walk.proofs.Heads.{identifier_goes, own_bit}
 use Rattle.fast_walk.proofs.Steps.{part_goes, part_stops, with_none}

@@ -1,13 +1,9 @@
-use Rattle.fast_walk.proofs.Common.{◌≡◌, ◌++◌, ◌-◌, ◌∷◌, [], ℕ, Bool, IsMapped, IsOwnMap, List, Some, length, length-append, drop, map, refl, sym, ap, ◌∙◌, arith, rules, map_push, nil_from_length, option_to_list, Option, Decimal, list_of, bytes_from, single, Sequel, Waiting, cursor, in_sequence, after_sequence, closed_in, ended_in, passed, left_around, bare, frame_of, inside_of, next_of, weight_of, Frame as FrameNow}
+use Rattle.fast_walk.proofs.Common.{◌≡◌, ◌++◌, ◌-◌, [], Some, drop, map, refl, ap, ◌∙◌, arith, rules, map_push, nil_from_length, option_to_list, Option, Decimal, list_of, bytes_from, single, Sequel, Waiting, cursor, after_sequence, closed_in, passed, left_around, bare, frame_of, next_of, weight_of, Frame as FrameNow}
 use Rattle.fast_walk.proofs.Steps.{exit_is}
-use Rattle.fast_walk.proofs.Pieces.{fault_stops, less_opened, opened_on, part_on, part_took, stops_here}
+use Rattle.fast_walk.proofs.Pieces.{element_taken, fault_stops, part_on, part_took, stops_here}
 use Rattle.fast_walk.proofs.Steps.{count_goes}
-use Rattle.fast_walk.proofs.Walking.{at_element_of, closed_on, closed_same, end_on_stops, ended_at, enters, has_next, is_instruction, is_mantissa, last_frames, last_of, left_last, mantissa_on_goes, mantissa_on_stops, no_map_on, no_more_on, no_node_on, none_mapped, sequel_on, served_pop}
+use Rattle.fast_walk.proofs.Walking.{at_element_of, closed_on, closed_same, end_on_stops, is_instruction, is_mantissa, last_of, left_last, mantissa_on_goes, mantissa_on_stops, no_map_on, no_more_on, no_node_on, none_mapped, served_pop}
 use Rattle.fast_walk.proofs.walk.Walk.step.Goals as goal
-
--- the map of an element, as its sequence has one
-mapped : (own has : Bool) (bytes : List ℕ) (bits : List Bool) → own ≡ has → IsOwnMap own bytes bits → IsMapped has bytes
-mapped own has bytes bits same is = (bits, rw same at is)
 
 pub returns-in-Err-clause-piece : goal.returns-in-Err-clause-piece
 returns-in-Err-clause-piece g c =
@@ -67,68 +63,11 @@ returns-in_err-bits-in-Element-clause-piece g c =
 
 pub returns-in_ok-open-in-Element-clause-piece : goal.returns-in_ok-open-in-Element-clause-piece
 returns-in_ok-open-in-Element-clause-piece g c =
-    let can = c.requires.walk in
     let old = c.args.self.now in
-    let d = g.E.Entries.contents c.args.entries.now in
-    let bits = c.in_ok-bits-in-Element in
-    let end = c.in_ok-open-in-Element.ensures.opened in
+    let bits = c.in_ok-bits-in-Element.ensures in
     let enter = c.in_ok-enter_element-in-Element.ensures in
-    let members = rw (c.in-Element.is) at can.ready.next in (
-      record {
-        from = bits.ensures.place.0;
-        within = bits.ensures.place.1;
-        goes = λ o at.
-            let a = at_element_of o at.0 c.in-Element.is in
-            enters g.L.Leveled.at g.R.Receiver.has old c.enter_element.new.self d o o (drop c.args.at c.args.bytes.now) (drop bits.next c.args.bytes.now) a (record { set = refl; before = refl; template = refl; members = refl; start = refl }) (λ b. refl)
-            (omega (arith, c.if-sequel-eq0.false)) c.in_ok-count-in-Element.ensures end (rw (c.level-level.ensures) at bits.ensures.goes d old.bits (old.spare - 1)) (λ own some. enter.has a.sequel old.bits o d a.next (sym (ap (λ (s : Sequel). s.number) a.same)) (mapped _ _ _ _ own bits.ensures.map) some at.1);
-        on = opened_on end members (can.ready.rest, members) can.ready.around can.kept (enter.awaits _ c.in-Element.sequel.own_map old.bits _ bits.ensures.map can.awaited);
-      },
-      less_opened old.next c.in_ok-count-in-Element.ensures end,
-    )
-
-pub returns-in_err-count-in-Some-next_sequel-clause-piece : goal.returns-in_err-count-in-Some-next_sequel-clause-piece
-returns-in_err-count-in-Some-next_sequel-clause-piece g c =
-    let empty = nil_from_length c.args.self.now.rest.now c.in-None.ensures.cases in
-    rw (exit_is c.from_residual-in_err-count-in-Some-next_sequel.result c.from_residual-in_err-count-in-Some-next_sequel.ensures.1) (λ other. stops_here c.requires.walk (λ o at.
-    let n = has_next o.around at.around c.in-Some-next_sequel.ensures.1 in
-    sequel_on g.L.Leveled.at o _ _ n _ (rw (c.level-in-None.ensures) at c.in_ok-judge_end-in-None.ensures.clear) (is_instruction o.next (at.next ∙ ap next_of c.in-Instruction.is)) (at.rest ∙ ap list_of empty)
-    ∙ no_node_on g.L.Leveled.at _ _ (ended_at o _ _ n) c.in-Some-next_sequel.ensures.0 (c.in_err-count-in-Some-next_sequel.ensures _ _ _)))
-
-pub returns-in_err-bits-in-Some-next_sequel-clause-piece : goal.returns-in_err-bits-in-Some-next_sequel-clause-piece
-returns-in_err-bits-in-Some-next_sequel-clause-piece g c =
-    let empty = nil_from_length c.args.self.now.rest.now c.in-None.ensures.cases in
-    rw (exit_is c.from_residual-in_err-bits-in-Some-next_sequel.result c.from_residual-in_err-bits-in-Some-next_sequel.ensures.1) (λ other. stops_here c.requires.walk (λ o at.
-    let n = has_next o.around at.around c.in-Some-next_sequel.ensures.1 in
-    sequel_on g.L.Leveled.at o _ _ n _ (rw (c.level-in-None.ensures) at c.in_ok-judge_end-in-None.ensures.clear) (is_instruction o.next (at.next ∙ ap next_of c.in-Instruction.is)) (at.rest ∙ ap list_of empty)
-    ∙ no_map_on g.L.Leveled.at _ _ (ended_at o _ _ n) c.in-Some-next_sequel.ensures.0 (count_goes _ _ _ _ _ c.in_ok-count-in-Some-next_sequel.ensures) (rw (c.level-strictness.ensures) at c.in_err-bits-in-Some-next_sequel.ensures.stops other _ _ _)))
-
-pub returns-in_ok-next_element-in-Some-next_sequel-clause-piece : goal.returns-in_ok-next_element-in-Some-next_sequel-clause-piece
-returns-in_ok-next_element-in-Some-next_sequel-clause-piece g c =
-    let can = c.requires.walk in
-    let old = c.args.self.now in
-    let d = g.E.Entries.contents c.args.entries.now in
-    let empty = nil_from_length c.args.self.now.rest.now c.in-None.ensures.cases in
-    let l = c.in-Some-next_sequel.ensures.1 in
-    let bits = c.in_ok-bits-in-Some-next_sequel in
-    let end = c.go_on.ensures l.fore l.frame l.frames in
-    let enter = c.in_ok-next_element-in-Some-next_sequel.ensures in
-    let served = served_pop (g.E.Entries.serves c.args.entries.now) (map frame_of l.fore) (frame_of l.frame) (rw (last_frames l) at can.ready.around) in
-    let members = rw (ap inside_of l.inside) at served.1.1 in
-    let less = less_opened old.next c.in_ok-count-in-Some-next_sequel.ensures end in (
-      record {
-        from = bits.ensures.place.0;
-        within = bits.ensures.place.1;
-        goes = λ o at.
-            let next = is_instruction o.next (at.0.next ∙ ap next_of c.in-Instruction.is) in
-            let rest = at.0.rest ∙ ap list_of empty in
-            let n = has_next o.around at.0.around l in
-            enters g.L.Leveled.at g.R.Receiver.has old c.next_element.new.self d o (ended_in o n.last.before n.last.last.body (in_sequence n.sequel)) (drop c.args.at c.args.bytes.now) (drop bits.next c.args.bytes.now) (ended_at o _ _ n) (record { set = refl; before = refl; template = refl; members = refl; start = refl })
-            (λ b. sequel_on g.L.Leveled.at o _ _ n (cursor d old.bits old.spare b) (rw (c.level-in-None.ensures) at c.in_ok-judge_end-in-None.ensures.clear) next rest)
-            c.in-Some-next_sequel.ensures.0 c.in_ok-count-in-Some-next_sequel.ensures end (rw (c.level-strictness.ensures) at bits.ensures.goes d l.frame.bits (old.spare - 1)) (λ own some. enter.has o d n.last.before n.last.last n.sequel l.frame.bits next rest n.last.is n.is (sym (ap (λ (s : Sequel). s.number) n.same)) (mapped _ _ _ _ own bits.ensures.map) some at.1);
-        on = opened_on end members (served.1.0, members) served.0 can.kept (enter.awaits (left_around (map frame_of l.fore)) c.in-Some-next_sequel.sequel.own_map l.frame.bits old.bits bits.bits bits.ensures.map (rw (left_last _ _ _ (last_frames l)) at can.awaited));
-      },
-      omega (arith, less, ap (λ (fs : List FrameNow). length fs) l.frames ∙ length-append l.fore (l.frame ∷ [])),
-    )
+    element_taken c.requires.walk c.in-Element.is (omega (arith, c.if-sequel-eq0.false)) c.in_ok-count-in-Element.ensures bits.place c.in_ok-open-in-Element.ensures.opened
+    (rw (c.level-level.ensures) at bits.goes _ old.bits (old.spare - 1)) bits.map (λ q b o. enter.has q b o _) enter.awaits
 
 pub returns-in_err-judge_end-in-None-clause-piece : goal.returns-in_err-judge_end-in-None-clause-piece
 returns-in_err-judge_end-in-None-clause-piece g c =
