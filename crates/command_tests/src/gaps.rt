@@ -215,13 +215,8 @@ const EVERY: &[&[(&[u8], usize)]] = rows! {
     &[(b"\xC0\x85\x92\xF0", 1), (b"\x41", 65_534), (b"\xC1\x85", 1), (b"\x42", 16), (b"\xC2", 1), (b"\x80", 17)];
 };
 
-fn is_shown_as_told(
-    rt: &impl Abort,
-    on: &Loaded,
-    form: Form,
-    pieces: &[(&[u8], usize)],
-) -> Result<(), Fail> {
-    let stream = stream_of(on.alloc, pieces)?;
+fn is_told(rt: &impl Abort, on: &Loaded, form: Form, parts: &[(&[u8], usize)]) -> Result<(), Fail> {
+    let stream = stream_of(on.alloc, parts)?;
     let line = lines_of(on, form, &stream)?;
     same(rt, line.len() > 1_048_576, true);
     let mut given = plainly(&stream, 4096);
@@ -235,8 +230,8 @@ fn is_shown_as_told(
 fn long_texts_of_each_kind(rt: HostRuntime) -> Result<(), Fail> {
     let on = loaded(&rt, rt.alloc(), GAPPED)?;
     for pieces in EVERY {
-        is_shown_as_told(&rt, &on, Form::Text, pieces)?;
-        is_shown_as_told(&rt, &on, Form::Json, pieces)?;
+        is_told(&rt, &on, Form::Text, pieces)?;
+        is_told(&rt, &on, Form::Json, pieces)?;
     }
     Ok(())
 }

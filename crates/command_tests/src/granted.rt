@@ -17,18 +17,12 @@ pub(crate) fn may_be_refused(answer: Answer) -> bool {
 }
 
 /// A command answered this and wrote this. Where memory was refused, what it wrote is a front of it, and the test ends.
-pub(crate) fn answers(
-    rt: &impl Abort,
-    given: Answer,
-    wanted: Answer,
-    out: &[u8],
-    written: &[u8],
-) -> Tried {
-    if may_be_refused(given) && (given != wanted || out != written) {
-        same(rt, written.starts_with(out), true);
+pub(crate) fn answers(rt: &impl Abort, got: Answer, want: Answer, out: &[u8], all: &[u8]) -> Tried {
+    if may_be_refused(got) && (got != want || out != all) {
+        same(rt, all.starts_with(out), true);
         return Err(AllocError);
     }
-    same(rt, given, wanted);
-    same(rt, out, written);
+    same(rt, got, want);
+    same(rt, out, all);
     Ok(())
 }

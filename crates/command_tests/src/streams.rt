@@ -142,15 +142,9 @@ fn gives_into(
 }
 
 /// A command writes this of a stream, and answers this.
-pub(crate) fn gives(
-    rt: &impl Abort,
-    on: &Loaded,
-    given: Given,
-    out: &[u8],
-    answer: Answer,
-) -> Tried {
+pub(crate) fn gives(rt: &impl Abort, on: &Loaded, given: Given, out: &[u8], want: Answer) -> Tried {
     let writer = ScriptOutput::new(on.alloc, 1_000_000, false, false);
-    gives_into(rt, on, given, writer, out, answer)
+    gives_into(rt, on, given, writer, out, want)
 }
 
 /// What the commands write of a stream and answer: its lines, what is told, and its canonical bytes.

@@ -3,7 +3,7 @@
 ghost use Rattle.std.specs.Prelude.{◌≤◌};
 
 use fast_build::LoadCause;
-use fast_io::{Counted, ScriptInput, ScriptOutput};
+use fast_io::{Counted, ScriptInput, ScriptOutput as Script};
 use fast_lines::Form;
 use fast_recording::{
     PacketFault, PacketMode, RecordingFault, RecordingSummary, canonicalise_packets, check_packets,
@@ -90,13 +90,7 @@ pub(crate) fn going_on(bytes: &[u8]) -> Given<'_> {
 pub(crate) type Answer = Result<RecordingSummary, RecordingFault>;
 
 /// Runs a call.
-fn run(
-    on: &Loaded,
-    call: Call,
-    given: Given,
-    out: &mut ScriptOutput,
-    told: &mut ScriptOutput,
-) -> Answer {
+fn run(on: &Loaded, call: Call, given: Given, out: &mut Script, told: &mut Script) -> Answer {
     let (alloc, set, mode) = (on.alloc, &on.set, given.mode);
     let turns = given.turns.min(100_000);
     let mut reader = Counted::new(ScriptInput::new(given.bytes, given.step.max(1), given.failing));
@@ -130,8 +124,8 @@ pub(crate) fn gives(
     written: &[u8],
     lines: &str,
 ) -> Tried {
-    let mut out = ScriptOutput::new(on.alloc, 10_000_000, false, false);
-    let mut told = ScriptOutput::new(on.alloc, 10_000_000, false, false);
+    let mut out = Script::new(on.alloc, 10_000_000, false, false);
+    let mut told = Script::new(on.alloc, 10_000_000, false, false);
     let answer = run(on, call, given, &mut out, &mut told);
     if is_refused_memory(answer) && answer != wanted {
         return Err(AllocError);

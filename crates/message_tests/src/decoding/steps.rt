@@ -117,15 +117,10 @@ fn fulfils_or_resets<E: Entries>(fed: &mut Fed<E>, task: Task) -> Tried<bool> {
 }
 
 // The messages of a decoder over these entries, where it does.
-fn fulfils_over<E: Entries>(
-    on: &Loaded,
-    mode: Mode,
-    entries: E,
-    task: Task,
-) -> Tried<Option<Vec<Message>>>
-    requires { ServesAll (E.serves entries) on.now.set }
+fn run_over<E: Entries>(on: &Loaded, mode: Mode, kept: E, task: Task) -> Tried<Option<Vec<Message>>>
+    requires { ServesAll (E.serves kept) on.now.set }
 {
-    let decoder = Decoder::new(on.alloc, &on.set, mode, entries);
+    let decoder = Decoder::new(on.alloc, &on.set, mode, kept);
     let out = Vec::new(on.alloc);
     let mut fed = Fed { decoder, out };
     let done = fulfils_or_resets(&mut fed, task)?;
@@ -135,10 +130,10 @@ fn fulfils_over<E: Entries>(
 // Whether decoders over both kinds of entries do.
 pub(crate) fn both_fulfil(on: &Loaded, mode: Mode, task: Task) -> Tried<bool> {
     let map = MapEntries::new(on.alloc);
-    if fulfils_over(on, mode, map, task)?.is_none() {
+    if run_over(on, mode, map, task)?.is_none() {
         return Ok(false);
     }
-    Ok(fulfils_over(on, mode, slots_of(on)?, task)?.is_some())
+    Ok(run_over(on, mode, slots_of(on)?, task)?.is_some())
 }
 
 // The messages of a decoder that answers all steps so.
@@ -151,7 +146,7 @@ pub(crate) fn follow<E: Entries>(
 ) -> Tried<Vec<Message>>
     requires { ServesAll (E.serves entries) on.now.set }
 {
-    match fulfils_over(on, mode, entries, Task::Follow(steps))? {
+    match run_over(on, mode, entries, Task::Follow(steps))? {
         Some(messages) => Ok(messages),
         None => panic!(rt; "not so"),
     }

@@ -64,16 +64,10 @@ fn gives<E: Entries>(input: &mut Input<E>, given: Given) -> Tried<bool> {
 struct Script<'a>(&'a [u8], usize, u64, u64);
 
 // Whether a reader with this script gives this over these entries.
-fn reads<E: Entries>(
-    on: &Loaded,
-    mode: Mode,
-    entries: E,
-    script: Script,
-    given: Given,
-) -> Tried<bool>
+fn reads<E: Entries>(on: &Loaded, mode: Mode, entries: E, from: Script, given: Given) -> Tried<bool>
     requires { ServesAll (E.serves entries) on.now.set }
 {
-    let Script(stream, step, fails, turns) = script;
+    let Script(stream, step, fails, turns) = from;
     let reader = Counted::new(ScriptInput::new(stream, step.max(1), fails));
     let turns = turns.min(1_000_000);
     let mut input = MessageInputStream::new(on.alloc, reader, &on.set, mode, entries, turns);

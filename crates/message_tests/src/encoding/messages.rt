@@ -5,7 +5,7 @@ ghost use Rattle.fast_walk.specs.Traversals.{ServesAll};
 use crate::base::*;
 use crate::encoding::relaying::STREAMS;
 use fast_encoder::{EncodeCause, EncodeFault, Encoder, MessageOutputStream};
-use fast_io::{ByteOutput, Counted, ScriptOutput};
+use fast_io::{ByteOutput, Counted, ScriptOutput as Script};
 use fast_template::UnicodeText;
 use std::str::from_utf8;
 use stream_rows::sent::text;
@@ -117,14 +117,9 @@ pub(crate) fn both_fulfil(rt: &impl Abort, on: &Loaded, task: &Task) -> Tried {
 }
 
 // The messages of a stream have these canonical bytes.
-pub(crate) fn has_canonical(
-    rt: &impl Abort,
-    on: &Loaded,
-    stream: &[u8],
-    canonical: &[u8],
-) -> Tried {
+pub(crate) fn has_canonical(rt: &impl Abort, on: &Loaded, stream: &[u8], wanted: &[u8]) -> Tried {
     let messages = decoded(rt, on, stream)?;
-    both_fulfil(rt, on, &Task::Encode(&messages, canonical))
+    both_fulfil(rt, on, &Task::Encode(&messages, wanted))
 }
 
 #[test]
@@ -284,7 +279,7 @@ const WRITE: EncodeFault = EncodeFault {
 };
 
 // A stream of messages over a script.
-type Output<'a, 'o> = MessageOutputStream<'a, Counted<&'o mut ScriptOutput>, MapEntries>;
+type Output<'a, 'o> = MessageOutputStream<'a, Counted<&'o mut Script>, MapEntries>;
 
 // Whether a write fails.
 fn fails(stream: &mut Output, first: &Message) -> Tried<bool> {
@@ -337,20 +332,14 @@ fn meets(stream: &mut Output, writer: Writer) -> Tried<bool> {
 }
 
 // Whether a stream of messages that is new meets it.
-fn writes_to(on: &Loaded, writer: Writer, out: &mut ScriptOutput) -> Tried<bool> {
+fn writes_to(on: &Loaded, writer: Writer, out: &mut Script) -> Tried<bool> {
     let (counted, map) = (Counted::new(out), MapEntries::new(on.alloc));
     let mut stream = MessageOutputStream::new(on.alloc, counted, &on.set, map);
     meets(&mut stream, writer)
 }
 
 // A writer keeps failing, and has taken these bytes, or a front of them where its own memory was refused.
-fn fails_behind(
-    rt: &impl Abort,
-    on: &Loaded,
-    first: &Message,
-    mut out: ScriptOutput,
-    taken: &[u8],
-) -> Tried {
+fn fails_on(rt: &impl Abort, on: &Loaded, first: &Message, mut out: Script, taken: &[u8]) -> Tried {
     same(rt, writes_to(on, Writer::Fails(first), &mut out)?, true);
     same(rt, taken.starts_with(out.bytes()), true);
     if out.bytes() != taken {
@@ -365,10 +354,10 @@ fn a_writer_that_fails(rt: HostRuntime) -> Tried {
     let messages = decoded(&rt, &on, b"\xf0\x81\x81\x41\xc2\xfe\x00\xe4")?;
     match messages.first() {
         Some(first) => {
-            let full = ScriptOutput::new(rt.alloc(), 3, false, false);
-            fails_behind(&rt, &on, first, full, &[0xf0, 0x81, 0x81])?;
-            let none = ScriptOutput::new(rt.alloc(), 0, true, false);
-            fails_behind(&rt, &on, first, none, &[])
+            let full = Script::new(rt.alloc(), 3, false, false);
+            fails_on(&rt, &on, first, full, &[0xf0, 0x81, 0x81])?;
+            let none = Script::new(rt.alloc(), 0, true, false);
+            fails_on(&rt, &on, first, none, &[])
         }
         None => panic!(rt; "no message"),
     }
@@ -381,7 +370,7 @@ fn a_writer_that_takes_all(rt: HostRuntime) -> Tried {
         b"\xf0\x81\x81\x41\xc2\xfe\x00\xe4\x80\x80\x81\xf0\x81\x81\x41\xc2\xfe\x00\xe4";
     let on = worked(&rt, rt.alloc())?;
     let two = decoded(&rt, &on, TWO)?;
-    let mut out = ScriptOutput::new(rt.alloc(), 100, false, false);
+    let mut out = Script::new(rt.alloc(), 100, false, false);
     let written = writes_to(&on, Writer::Takes(&two), &mut out);
     // also where memory was refused
     same(&rt, WANT.starts_with(out.bytes()), true);

@@ -462,14 +462,9 @@ fn process_words(rt: HostRuntime) -> Tried {
 }
 
 // Serves so many blanks as templates, or as hex text.
-fn long_text(
-    rt: &impl Abort,
-    alloc: Global,
-    (count, is_templates): (usize, bool),
-    case: &Case,
-) -> Tried {
+fn long_text(rt: &impl Abort, alloc: Global, (count, is_set): (usize, bool), case: &Case) -> Tried {
     let text = vec![in alloc; b' '; count]?;
-    if is_templates {
+    if is_set {
         let templates = Templates::Text(from_utf8(&text).unwrap_or(""));
         return served(rt, alloc, &Case { templates, ..*case });
     }
