@@ -5,10 +5,13 @@ usage: bench/load.py [PROGRAM]
 
 PROGRAM is crates/fastcat/out/fastcat if left out (`rt run` in crates/fastcat builds it), which checks a stream of no
 bytes. Each text is made anew, loaded three times, and answered by one line of a table: the text's size, what the
-program says, the least processor time and the greatest memory. The status is 1 where an answer is not the one expected.
+program says, the least processor time and the greatest memory. A last line has the instructions, by valgrind, that 200
+templates of 19 fields take. The status is 1 where an answer is not the one expected, or more is taken than is said here
+to be enough.
 """
 import json
 import os
+import re
 import subprocess
 import sys
 import tempfile
@@ -56,6 +59,16 @@ def long_text():
 def long_value():
     return template("S", {"kind": "string", "name": "C", "operator": "constant", "value": "c" * MOST})
 
+
+def usual():
+    return [template(f"T{n}", *(field(f"F{m}", operator="copy") for m in range(19))) for n in range(200)]
+
+
+# How many instructions are enough for 200 templates of 19 fields, with all that the program does before and after.
+ENOUGH_INSTRUCTIONS = 31_000_000
+
+# The memory in MB that is enough, where it is bounded.
+ENOUGH_MEMORY = {"65,535 templates of one field": 120, "2,390,000 objects that are no templates": 1000}
 
 CASES = [
     ("no template", lambda: [], ACCEPTED),
@@ -105,6 +118,13 @@ def run(program, path):
     return said, used.ru_utime + used.ru_stime, used.ru_maxrss / 1024
 
 
+def instructions(program, path):
+    """The instructions that loading a file takes."""
+    run = ["valgrind", "--tool=callgrind", "--callgrind-out-file=/dev/null", program, "check", "--templates", path]
+    ran = subprocess.run(run, stdin=subprocess.DEVNULL, capture_output=True, text=True, check=True)
+    return int(re.search(r"refs:\s+([\d,]+)", ran.stderr).group(1).replace(",", ""))
+
+
 def main():
     here = os.path.dirname(os.path.abspath(__file__))
     default = os.path.join(here, "../crates/fastcat/out/fastcat")
@@ -119,9 +139,19 @@ def main():
             said = runs[0][0]
             wrong += said != expected
             size = os.path.getsize(path) / 1e6
-            print(f"| {name} | {size:.1f} | {said} | {min(r[1] for r in runs):.2f} | {max(r[2] for r in runs):.0f} |")
+            memory = max(r[2] for r in runs)
+            print(f"| {name} | {size:.1f} | {said} | {min(r[1] for r in runs):.2f} | {memory:.0f} |")
             if said != expected:
                 print(f"{name}: expected {expected}", file=sys.stderr)
+            if memory > ENOUGH_MEMORY.get(name, memory):
+                print(f"{name}: more than {ENOUGH_MEMORY[name]} MB", file=sys.stderr)
+                wrong += 1
+        write(path, usual)
+        counted = instructions(program, path)
+        print(f"\n200 templates of 19 fields: {counted / 1e6:.1f} million instructions")
+        if counted > ENOUGH_INSTRUCTIONS:
+            print(f"200 templates of 19 fields: more than {ENOUGH_INSTRUCTIONS:,} instructions", file=sys.stderr)
+            wrong += 1
     return 1 if wrong else 0
 
 
