@@ -14,6 +14,8 @@ use Rattle.fast_template.specs.contracts.set.TemplateSet as Set
 use Rattle.fast_wire.proofs.presence_map.Bits.TheSendSync as bits
 use Rattle.fast_wire.proofs.level.Level.TheSendSync as level
 use Rattle.fast_walk.proofs.traversal.Stage.TheSendSync as stage
+use Rattle.fast_walk.specs.contracts.last.Found as Found
+use Rattle.fast_walk.specs.contracts.last.Last as Last
 use Rattle.fast_walk.specs.contracts.walk.Frame as Frame
 use Rattle.fast_walk.specs.contracts.walk.Inside as Inside
 use Rattle.fast_walk.specs.contracts.walk.Next as Next
@@ -72,8 +74,14 @@ frame_send κ = search (sendable, bits.the_send, flat_sync, inside_send) depth 1
 walk_send : (κ : NamedLft) → IsSend (Walk.the_field κ).row
 walk_send κ = search (sendable, crosses, flat_sync, bits.the_send, next_send, frame_send) depth 20 fits 20000
 
+found_send : (κ : NamedLft) → IsSend (Found.the_field κ).row
+found_send κ = search (sendable, crosses, flat_sync, name.the_sync) depth 20
+
+last_send : (κ : NamedLft) → IsSend (Last.the_field κ).row
+last_send κ = search (sendable, crosses, found_send) depth 20
+
 traversal_send : (κ : NamedLft) → IsSend (Traversal.the_field κ).row
-traversal_send κ = search (sendable, crosses, set_sync, walk_send, parts, level.the_field_send, stage.the_field_send) depth 20 fits 20000
+traversal_send κ = search (sendable, crosses, set_sync, last_send, walk_send, parts, level.the_field_send, stage.the_field_send) depth 20 fits 20000
 
 -- ---- readers and writers
 

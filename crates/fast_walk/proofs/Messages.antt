@@ -1,10 +1,19 @@
 -- Reading a message piece by piece: a step in front of what is read behind it, and where nothing is read.
 use Rattle.fast_walk.proofs.Common.{◌≡◌, ◌≢◌, ◌≤◌, ◌++◌, ℕ, Bool, true, IsTrue, List, [], Result, Ok, Err, length, drop, map, refl, sym, ap, subst, ◌∙◌, inl, inr, arith, slice_range, IsWholeMap, list_of, no_instructions, templates_in, IsLeftClear, some_set, Strict, Dictionary, Ghosts, Truncated, Memory, R8, Content, Items, items_of, Reads, message_at, identifier, CanRead, IsStep, LeftOf, MapRead, MessageRead, MessageStops, ReadsMessage, Reading, at_instruction, cursor, message_of, Holds, Carries, Completes, KeepScalars, ContinuesAt, IsOpen, identifier_on, stop_of, IsWhole, Moves, bare, frame_of, next_of, reads_on, Halt, Stage, Traversal as TraversalNow, Walk as WalkNow}
 use Rattle.fast_walk.specs.declared.receiver.Receiver.{Ghosts as Receiving}
+use Rattle.fast_walk.specs.Found.{AreFound}
 use Rattle.fast_walk.proofs.Heads.{content_fails, content_goes, content_stops}
 use Rattle.fast_walk.proofs.ShortWalks.{behind_few, identifier_few_at, map_few_at, walk_few, want_of_bytes}
 use Rattle.fast_walk.proofs.Steps.{with_none}
 use Rattle.fast_walk.proofs.Walking.{all_read, is_instruction, none_mapped}
+
+-- it is as it was, whatever its set was asked for last
+pub record IsSameBut (t u : TraversalNow) : Type 0 where
+  pub stage : u.stage ≡ t.stage
+  pub template : u.template ≡ t.template
+  pub walk : u.walk ≡ t.walk
+  pub set : u.set ≡ t.set
+  pub level : u.level ≡ t.level
 
 -- a message whose body has ended
 record IsReceived {R E : Type 0} (receiver : Receiving R) (entries : Ghosts E) (t : TraversalNow) (r : R) (d : E) (before : List Content) (start : Dictionary) (read : List ℕ → Reading) : Type 0 where
@@ -101,33 +110,35 @@ module _ {R E : Type 0} {receiver : Receiving R} {entries : Ghosts E} {t : Trave
   })
 
   -- a message's identifier is not read
-  pub identifier_stops : {h : Halt} {s : R} {e : E} → t.stage ≡ Stage.Identifier → at ≤ length bytes → CanRead receiver entries t r d → entries.serves e ≡ entries.serves d → Carries (receiver.stands r) (receiver.keeps s)
+  pub identifier_stops : {u : TraversalNow} {h : Halt} {s : R} {e : E} → IsSameBut t u → t.stage ≡ Stage.Identifier → at ≤ length bytes → CanRead receiver entries t r d → entries.serves e ≡ entries.serves d
+      → Carries (receiver.stands r) (receiver.keeps s)
       → (h.cause ≢ Memory → identifier_on t.level (templates_in t.set.now) (entries.contents d) t.walk.bits (drop at bytes) ≡ Err (stop_of 0 h (drop at bytes)))
       → (h.cause ≡ Truncated → (entries.contents e ≡ entries.contents d) × Carries (receiver.stands r) (receiver.stands s) × ((bits : List Bool) → IsTrue (receiver.begun r bits) → IsTrue (receiver.begun s bits)))
-      → MessageStops receiver entries t r d bytes at (at, h) t s e
-  identifier_stops {h = h} at_identifier place can keys keeps stops waits =
+      → MessageStops receiver entries t r d bytes at (at, h) u s e
+  identifier_stops {h = h} same at_identifier place can keys keeps stops waits =
       let set = templates_in t.set.now in
       let now_at = rw at_identifier at can.ready in
+      let still = same.stage ∙ at_identifier in
       record {
         place = (omega arith, place);
-        keeps = λ before start now was. let s = rw at_identifier at was in rw (s.start_is) (inl (keeps set before (entries.contents d) s.stands));
-        stops = λ other before start now was. let s = rw at_identifier at was in rw (now_at.0) (s.reads (drop at bytes) ∙ stops other);
+        keeps = λ before start now was. let s = rw at_identifier at was in rw (same.set, s.start_is) (inl (keeps set before (entries.contents d) s.stands));
+        stops = λ other before start now was. let s = rw at_identifier at was in rw (same.template, now_at.0) (s.reads (drop at bytes) ∙ stops other);
         waits = λ wanted. let w = waits wanted in record {
           leaves = λ before start now was. let s = rw at_identifier at was in
-              (now, rw (at_identifier, w.0) (record { stands = w.1 set before (entries.contents d) s.stands; start_is = s.start_is; reads = s.reads }), λ more. refl);
-          between = λ map. (map, refl);
-          begun = λ map begun. absurd (begun map);
+              (now, rw (still, same.set, same.level, same.walk, w.0) (record { stands = w.1 set before (entries.contents d) s.stands; start_is = s.start_is; reads = s.reads }), λ more. refl);
+          between = λ map. (sym same.stage ∙ map, refl);
+          begun = λ map begun. absurd (begun (same.stage ∙ map));
           few = behind_few bytes at (identifier_few_at t.level set (entries.contents d) t.walk.bits (drop at bytes) h (stops (want_of_bytes h.cause wanted)) wanted);
-          can = record { ready = rw at_identifier now_at; kept = rw (w.0) can.kept; awaited = rw at_identifier (w.2 t.walk.bits (rw at_identifier at can.awaited)) };
+          can = record { ready = rw (still, same.template, same.walk) now_at; kept = rw (w.0) can.kept; awaited = rw (still, same.walk) (w.2 t.walk.bits (rw at_identifier at can.awaited)) };
         };
       }
 
   -- ---- the body
 
   -- it is read on
-  pub walk_step : {m : ℕ} {w : WalkNow} {s : R} {e : E} (is : t.identifier ≡ identifier) → t.stage ≡ Stage.Body → (at ≤ m) × (m ≤ length bytes) → Carries (receiver.keeps r) (receiver.keeps s)
-      → Moves t.level receiver.has t.walk r (entries.contents d) w s (entries.contents e) (drop at bytes) (drop m bytes) → IsStep receiver entries t r d bytes at m (record t { walk = w; identifier_is = is }) s e
-  walk_step {w = w} {e = e} is at_body place carries goes = record {
+  pub walk_step : {m : ℕ} {w : WalkNow} {s : R} {e : E} (is : t.identifier ≡ identifier) (found : AreFound t.set.now t.last.found) → t.stage ≡ Stage.Body → (at ≤ m) × (m ≤ length bytes) → Carries (receiver.keeps r) (receiver.keeps s)
+      → Moves t.level receiver.has t.walk r (entries.contents d) w s (entries.contents e) (drop at bytes) (drop m bytes) → IsStep receiver entries t r d bytes at m (record t { walk = w; identifier_is = is; found = found }) s e
+  walk_step {w = w} {e = e} is found at_body place carries goes = record {
     place = place;
     took = λ map. let k : Stage.Body ≡ Stage.Map = sym at_body ∙ map in absurd cc;
     inside = λ map. let k : Stage.Body ≡ Stage.Map = sym at_body ∙ map in absurd cc;
@@ -151,18 +162,18 @@ module _ {R E : Type 0} {receiver : Receiving R} {entries : Ghosts E} {t : Trave
   }
 
   -- it is read on to a place, and stops there
-  pub walk_halts : {w : WalkNow} {s : R} {e : E} {x : ℕ × Halt} (is : t.identifier ≡ identifier) → t.stage ≡ Stage.Body → (at ≤ x.0) × (x.0 ≤ length bytes) → Carries (receiver.keeps r) (receiver.keeps s)
+  pub walk_halts : {w : WalkNow} {s : R} {e : E} {x : ℕ × Halt} (is : t.identifier ≡ identifier) (found : AreFound t.set.now t.last.found) → t.stage ≡ Stage.Body → (at ≤ x.0) × (x.0 ≤ length bytes) → Carries (receiver.keeps r) (receiver.keeps s)
       → ((x.1).cause ≢ Memory → Holds t.level receiver.has receiver.awaits (entries.serves e) t.walk r (entries.contents d) w s (entries.contents e) (drop at bytes) (drop x.0 bytes) x.1)
-      → MessageStops receiver entries t r d bytes at x (record t { walk = w; identifier_is = is }) s e
-  walk_halts {w = w} {s = s} {e = e} {x = x} is at_body place carries holds =
+      → MessageStops receiver entries t r d bytes at x (record t { walk = w; identifier_is = is; found = found }) s e
+  walk_halts {w = w} {s = s} {e = e} {x = x} is found at_body place carries holds =
       let rest = drop x.0 bytes in
-      let goes = λ (other : (x.1).cause ≢ Memory). (walk_step {w = w} is at_body place carries (holds other).goes).leaves in
+      let goes = λ (other : (x.1).cause ≢ Memory). (walk_step {w = w} is found at_body place carries (holds other).goes).leaves in
       record {
         place = place;
         keeps = λ before start now was. let o = rw at_body at was in inl (carries (templates_in t.set.now) before start o.keeps);
         stops = λ other before start now was.
             let l = goes other before start now was in
-            let o = open_now receiver entries (record t { walk = w; identifier_is = is }) s e at_body before start l.0 l.1 in
+            let o = open_now receiver entries (record t { walk = w; identifier_is = is; found = found }) s e at_body before start l.0 l.1 in
             with_none now l.0 (drop at bytes) rest l.2 ∙ o.reads rest
             ∙ ap (λ (r : Reads Items). message_of t.level t.template r) ((holds other).halts o.received o.at) ∙ content_fails t.level t.template _;
         waits = λ wanted.

@@ -12,3 +12,4 @@ pub mod ShortMaps
 pub mod Pieces
 pub mod Messages
 pub mod PartTaking
+pub mod Found

@@ -1,4 +1,4 @@
--- Maps that show by their first bytes that they reach no further than their last 1. (Own.)
+-- Maps that show by their first bytes where they end, or that they reach no further than their last 1. (Own.)
 use Rattle.std.specs.Prelude.{◌≤◌, ◌<◌, ◌⊎◌, ℕ, List, [], ◌∷◌}
 
 -- the first byte ends the map, or the second, which is not empty
@@ -6,3 +6,8 @@ abbrev pub BeginsShortMap : List ℕ → Type 0
 BeginsShortMap [] = ⊥
 BeginsShortMap (b ∷ []) = 128 ≤ b
 BeginsShortMap (b ∷ c ∷ bs) = (128 ≤ b) ⊎ ((128 < c) × (c < 256))
+
+-- the first byte ends the map
+abbrev pub BeginsOneGroup : List ℕ → Type 0
+BeginsOneGroup [] = ⊥
+BeginsOneGroup (b ∷ bs) = 128 ≤ b

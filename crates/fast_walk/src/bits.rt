@@ -4,7 +4,7 @@ ghost use Rattle.std.specs.Prelude.{◌≡◌, ◌≢◌, ◌≤◌, ◌<◌, �
 ghost use Rattle.fast_dictionary.specs.Dictionary.{Dictionary};
 ghost use Rattle.fast_stream.specs.Bits.{after_bit, bit_for};
 ghost use Rattle.fast_walk.specs.OpenSegments.{cursor};
-ghost use Rattle.fast_walk.specs.ShortMaps.{BeginsShortMap};
+ghost use Rattle.fast_walk.specs.ShortMaps.{BeginsOneGroup, BeginsShortMap};
 ghost use Rattle.fast_stream.specs.Faults.{cause_of_wire};
 ghost use Rattle.fast_stream.specs.Reading.{own_map_at, stopped};
 ghost use Rattle.fast_wire.specs.Level.{judge, overlong_map as overlong_map_of};
@@ -53,6 +53,7 @@ fn is_short_map(bytes: &[u8], at: usize) -> bool
 #[inline(always)]
 pub(crate) fn is_one_group(bytes: &[u8], at: usize) -> bool
     requires { at ≤ length bytes.now }
+    ensures { result ≡ true → BeginsOneGroup (drop at bytes.now) }
 {
     at < bytes.len() && bytes[at] >= 128
 }

@@ -6,14 +6,14 @@
 //! receiver has (`Received`), and what a walk and a traversal answer (`Walks`, `Traversals`).
 //! The calls of a traversal are for `fast_machine`, which runs one over a stream that comes in chunks.
 //!
-//! The walk looks at no value. A receiver that keeps what it is handed takes the value of a part from the bytes by
-//! [`take_part`], and of an identifier, a length, an exponent or a mantissa the number that it is ([`take_identifier`] and its
-//! kin; `specs/PartTaking`).
+//! The walk looks at no value. A receiver that keeps what it is handed takes of an identifier, a length, an exponent or a
+//! mantissa the number that it is from the bytes ([`take_identifier`] and its kin; `specs/PartTaking`).
 #![tactic(auto)]
 
 mod bits;
 mod halt;
 mod lack;
+mod last;
 mod leveled;
 mod output;
 mod part;
@@ -26,7 +26,7 @@ pub use halt::{Halt, HaltedBy, wire_cause};
 pub use lack::{Lack, has_stop};
 pub use leveled::{Leveled, Strictly, Usually};
 pub use output::{MANY, Output};
-pub use part::{take_exponent, take_identifier, take_length, take_mantissa, take_part};
+pub use part::{take_exponent, take_identifier, take_length, take_mantissa};
 pub use receiver::{Fields, Receiver};
 pub use traversal::{Stage, Traversal};
 pub use walk::{Frame, Inside, Next, Sequel, Walk};

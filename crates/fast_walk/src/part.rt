@@ -1,4 +1,4 @@
-//! Taking the value of a part from the bytes.
+//! Taking the number of a part from the bytes.
 
 ghost use Rattle.std.specs.Prelude.{◌≡◌, ◌≢◌, ◌≤◌, false, true, IfOk, IsTrue, None, Some, length};
 ghost use Rattle.fast_value.specs.declared.kind.Kind.TheVariants.{Int32, Int64, UInt32};
@@ -17,62 +17,8 @@ ghost use Rattle.fast_walk.specs.Told.{IsTold, KeepScalars};
 use fast_dictionary::{Entries, Entry};
 use fast_field::FieldFault;
 use fast_take::{Aside, take};
-use fast_template::{FieldPart, Scalar};
+use fast_template::FieldPart;
 use fast_wire::Level;
-use std::alloc::Global;
-
-/// Takes a part's value, and makes its entry the one afterwards.
-#[inline(always)]
-fn take_value(
-    alloc: Global,
-    part: &FieldPart,
-    entry: &mut Entry,
-    bit: bool,
-    level: Level,
-    bytes: &[u8],
-    at: usize,
-    aside: &mut Aside,
-) -> Result<(Option<Scalar>, usize), FieldFault>
-    requires place { at ≤ length bytes.now }
-    requires bit { IsBitOf part.now bit }
-    requires part { IsFieldPart part.now }
-    requires entry { HoldsScalar entry.old }
-    ensures { TakesFrom (λ value. value) level part.now bit bytes.now at entry.old entry.new result }
-{
-    let took = take(part, entry, bit, level, bytes, at, aside)?;
-    let value = aside.copied_value(alloc, took, part, entry, bit, bytes)?;
-    Ok((value, took.place()))
-}
-
-/// Takes the value of a part from the bytes at `at`, and makes its entry the one afterwards where it lies; answers
-/// the value, none where it is absent, and the place behind it.
-///
-/// # Errors
-///
-/// The first fault of the part, and the entries are as they were. Memory: a growth was refused.
-#[inline(always)]
-pub fn take_part<E: Entries>(
-    alloc: Global,
-    entries: &mut E,
-    part: &FieldPart,
-    bit: bool,
-    level: Level,
-    bytes: &[u8],
-    at: usize,
-    aside: &mut Aside,
-) -> Result<(Option<Scalar>, usize), FieldFault>
-    requires place { at ≤ length bytes.now }
-    requires bit { IsBitOf part.now bit }
-    requires part { IsFieldPart part.now }
-    requires served { IsTrue (E.serves entries.now part.now.key) }
-    requires kept { KeepScalars (E.contents entries.now) }
-    ensures takes { Takes (λ value. value) level part.now bit bytes.now at (E.contents entries.old)
-        (E.contents entries.new) result }
-    ensures same_keys { E.serves entries.new ≡ E.serves entries.old }
-{
-    let entry = entries.entry_mut(&part.key)?;
-    take_value(alloc, part, entry, bit, level, bytes, at, aside)
-}
 
 /// Takes a number without sign of 32 bits, and makes its entry the one afterwards.
 #[inline(always)]
@@ -146,7 +92,7 @@ fn take_mantissa_of(
 ///
 /// # Errors
 ///
-/// As `take_part`.
+/// The first fault of the part, and the entries are as they were. Memory: a growth was refused.
 #[inline(always)]
 pub fn take_identifier<E: Entries>(
     entries: &mut E,
@@ -177,7 +123,7 @@ pub fn take_identifier<E: Entries>(
 ///
 /// # Errors
 ///
-/// As `take_part`.
+/// As `take_identifier`.
 #[inline(always)]
 pub fn take_length<E: Entries>(
     entries: &mut E,
@@ -205,7 +151,7 @@ pub fn take_length<E: Entries>(
 ///
 /// # Errors
 ///
-/// As `take_part`.
+/// As `take_identifier`.
 #[inline(always)]
 pub fn take_exponent<E: Entries>(
     entries: &mut E,
@@ -233,7 +179,7 @@ pub fn take_exponent<E: Entries>(
 ///
 /// # Errors
 ///
-/// As `take_part`.
+/// As `take_identifier`.
 #[inline(always)]
 pub fn take_mantissa<E: Entries>(
     entries: &mut E,

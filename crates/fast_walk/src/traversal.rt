@@ -1,6 +1,10 @@
 //! The one traversal of a stream, message by message.
 
 ghost use Rattle.std.specs.Prelude.{◌≡◌, ◌≢◌, ◌≤◌, ◌<◌, true, OnErr, IfErr, MatchResult, OnOk, Err, length, drop};
+ghost use Rattle.std.proofs.Props.{props};
+ghost use Rattle.std.specs.Coded.{codes};
+ghost use Rattle.std.specs.List.{AllByRecursion-prop};
+ghost use Rattle.fast_template.specs.contracts.resolved.Flat as flat;
 ghost use Rattle.fast_template.specs.TemplateSets.{IsSound, templates_in};
 ghost use Rattle.fast_dictionary.specs.Dictionary.{Dictionary};
 ghost use Rattle.fast_stream.specs.Streams.{identifier as identifier_part};
@@ -8,10 +12,12 @@ ghost use Rattle.fast_stream.specs.Reading.{message_at};
 ghost use Rattle.fast_wire.specs.Level.{IsLeftClear, some_set};
 ghost use Rattle.fast_walk.specs.Walks.{IsWhole};
 ghost use Rattle.fast_walk.specs.Received.{Carries, Completes};
+ghost use Rattle.fast_walk.specs.Found.{AreFound};
 ghost use Rattle.fast_walk.specs.Awaited.{IsAwaited};
 
 use crate::bits::{first_for, read_own_map};
 use crate::halt::Halt;
+use crate::last::Last;
 use crate::receiver::Receiver;
 use crate::walk::{Walk, part_halt};
 use fast_dictionary::Entries;
@@ -44,8 +50,10 @@ pub struct Traversal<'a> {
     pub(crate) stage: Stage,
     // 0 until the identifier is known
     template: u32,
+    last: Last<'a>,
     pub(crate) walk: Walk<'a>,
     ghost identifier_is: { identifier ≡ identifier_part },
+    ghost found: { AreFound set.now last.found } by { AllByRecursion-prop _ (λ f. Prim.hlevel (props, codes, flat.the_row.coded)) last.found },
 }
 
 impl<'a> Traversal<'a> {
@@ -79,6 +87,7 @@ impl<'a> Traversal<'a> {
             },
             stage: Stage::Map,
             template: 0,
+            last: Last::new(set),
             walk: Walk::new(alloc, &[], Bits::none(alloc), 0),
         }
     }
@@ -169,7 +178,7 @@ impl<'a> Traversal<'a> {
         let level = self.level();
         match receiver.begin(self.alloc, entries, &self.identifier, bit, level, bytes, at) {
             Err(fault) => Err(part_halt(&self.identifier, fault)),
-            Ok((id, next)) => match self.set.find(id) {
+            Ok((id, next)) => match self.last.find(self.set, id) {
                 None => Err(Halt::new(Cause::D9, 0)),
                 Some(template) => {
                     self.set_is_sound();
@@ -238,7 +247,7 @@ impl<'a> Traversal<'a> {
         }
     }
 
-    // The same where the bytes before ended behind the map. (A call of its own, as `from_body`: they are seldom wanted.)
+    // The same where the bytes before ended behind the map. (A call of its own, since it is seldom wanted.)
     #[inline(never)]
     fn from_identifier<R: Receiver, E: Entries>(
         &mut self,
@@ -256,25 +265,6 @@ impl<'a> Traversal<'a> {
         ensures same { IsSameSet E.Entries self.old entries.old self.new entries.new }
     {
         self.behind_map(receiver, entries, bytes, at)
-    }
-
-    // Reads what is left of a message's body where the bytes before ended in it.
-    #[inline(never)]
-    fn from_body<R: Receiver, E: Entries>(
-        &mut self,
-        receiver: &mut R,
-        entries: &mut E,
-        bytes: &[u8],
-        at: usize,
-    ) -> Result<usize, (usize, Halt)>
-        requires place { at ≤ length bytes.now }
-        requires stage { self.now.stage ≡ Stage.Body }
-        requires can { CanRead R.Receiver E.Entries self.now receiver.now entries.now }
-        ensures reads { ReadsMessage R.Receiver E.Entries self.old receiver.old entries.old bytes.now at result
-            self.new receiver.new entries.new }
-        ensures same { IsSameSet E.Entries self.old entries.old self.new entries.new }
-    {
-        self.body(receiver, entries, bytes, at)
     }
 
     // Reads the next message from its map on.
@@ -329,7 +319,7 @@ impl<'a> Traversal<'a> {
         match self.stage {
             Stage::Map => self.from_map(receiver, entries, bytes, at),
             Stage::Identifier => self.from_identifier(receiver, entries, bytes, at),
-            Stage::Body => self.from_body(receiver, entries, bytes, at),
+            Stage::Body => self.body(receiver, entries, bytes, at),
         }
     }
 }

@@ -214,70 +214,16 @@ impl<'a> Walk<'a> {
             rest: others,
             inside,
         };
-        match self.around.push(frame) {
+        // (mostly there is room, and a push would be a call)
+        match self.around.reserve(1) {
             Err(_) => Err(Halt::new(Cause::Memory, 0)),
             Ok(()) => {
+                self.around.push_reserved(frame);
                 self.spare -= 1;
                 self.rest = members;
                 Ok(())
             }
         }
-    }
-
-    // The map of a first element that is entered with its sequence, as most are: it is of one group. None says nothing.
-    #[inline(always)]
-    fn first_map(
-        &self,
-        alloc: Global,
-        number: u32,
-        own_map: bool,
-        level: Level,
-        bytes: &[u8],
-        at: usize,
-    ) -> Option<(Bits, usize)>
-        requires place { at ≤ length bytes.now }
-        ensures spare { IfSome result (λ x. 1 < self.now.spare) }
-        ensures place { IfSome result (λ x. (at ≤ x.1) × (x.1 ≤ length bytes.now)) }
-        ensures map { IfSome result (λ x. IsOwnMap own_map (slice_range bytes.now at x.1) x.0) }
-        ensures goes { IfSome result (λ x. (d : Dictionary) (bits : List Bool) (spare : ℕ) (more : List ℕ)
-            → own_map_at level number own_map (cursor d bits spare (drop at bytes.now ++ more))
-            ≡ Ok (cursor d x.0 spare (drop x.1 bytes.now ++ more))) }
-    {
-        if self.spare > 1
-            && own_map
-            && is_one_group(bytes, at)
-            && let Ok(map) = read_own_map(alloc, number, own_map, level, bytes, at)
-        {
-            return Some(map);
-        }
-        None
-    }
-
-    // Opens the first element of a sequence behind its length: a node is counted for each, and the length's bit taken.
-    #[inline(always)]
-    fn open_first(
-        &mut self,
-        needs: bool,
-        others: &'a [Flat],
-        elements: Sequel<'a>,
-        bits: Bits,
-    ) -> Result<(), Halt>
-        requires spare { 1 < self.now.spare }
-        requires next { self.now.next ≡ Next.Instruction }
-        requires left { 0 < elements.left }
-        ensures opened { MatchResult result (λ u. IsOpened self.old.around.items (after_bit needs self.old.bits) (self.old.spare - 1)
-            elements.entry.number (list_of elements.entry.members.now) (list_of others.now)
-            (in_sequence (fewer (sequel_of elements.entry))) bits self.new) (λ h. h.cause ≡ Cause.Memory) }
-    {
-        take_for(&mut self.bits, needs);
-        self.spare -= 1;
-        let later = Sequel {
-            number: elements.number,
-            own_map: elements.own_map,
-            members: elements.members,
-            left: elements.left - 1,
-        };
-        self.open(elements.members, others, bits, Inside::Element(later))
     }
 
     // Takes the next instruction, or the first part of it: the rest is a piece of its own.
@@ -399,19 +345,8 @@ impl<'a> Walk<'a> {
                                 members,
                                 left,
                             };
-                            match self.first_map(alloc, *number, own_map, level, bytes, next) {
-                                Some((bits, behind)) => {
-                                    let map = &bytes[next..behind];
-                                    let size = members.len();
-                                    receiver.enter_element(alloc, *number, map, size)?;
-                                    self.open_first(needs, others, elements, bits)?;
-                                    Ok(behind)
-                                }
-                                None => {
-                                    self.pass(needs, others, Next::Element(elements));
-                                    Ok(next)
-                                }
-                            }
+                            self.pass(needs, others, Next::Element(elements));
+                            Ok(next)
                         }
                     },
                 }

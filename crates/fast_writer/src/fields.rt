@@ -227,9 +227,7 @@ fn first_part(flat: &Flat) -> Option<(&FieldPart, Option<&FieldPart>)>
 }
 
 // Takes fields from the front of a body, up to what is no field, or goes by itself. Answers the instructions behind
-// them, and the mantissa that is next where only the exponent of the last one was taken. (A call of its own, so that the walk's
-// frames leave it the registers.)
-#[inline(never)]
+// them, and the mantissa that is next where only the exponent of the last one was taken.
 fn take_all<'a, L: Leveled, E: Entries>(
     rest: &'a [Flat],
     entries: &mut E,

@@ -17,7 +17,7 @@ returns-in-Err-clause-reads g c =
     let d = g.E.Entries.contents c.args.entries.now in
     let stops = c.in-Err.ensures.stops in
     let field = λ (other : c.part_halt.result.cause ≢ Memory) (e : c.in-Err.fault ≡ FieldMemory). other (c.part_halt.ensures.cause ∙ ap cause_of_field e) in
-    identifier_stops c.requires.stage c.requires.place c.requires.can c.begin.ensures.same_keys c.begin.ensures.keeps
+    identifier_stops (record { stage = refl; template = refl; walk = refl; set = refl; level = refl }) c.requires.stage c.requires.place c.requires.can c.begin.ensures.same_keys c.begin.ensures.keeps
     (λ other. rw (
       c.part_halt.ensures.cause,
       c.part_halt.ensures.number,
@@ -34,7 +34,7 @@ returns-in-None-clause-reads g c =
     let e = g.E.Entries.contents c.begin.new.entries in
     let took = rw (c.level-level.ensures, c.first_for-bit.ensures, old.identifier_is) at c.in-Ok.ensures.goes.0 in
     let none = found_members old.set.now c.in-Ok.id ∙ ap members_found (sym (rw (c.in-None.is) at c.find.ensures.value)) in
-    identifier_stops c.requires.stage c.requires.place c.requires.can c.begin.ensures.same_keys c.begin.ensures.keeps
+    identifier_stops (record { stage = refl; template = refl; walk = refl; set = refl; level = refl }) c.requires.stage c.requires.place c.requires.can c.begin.ensures.same_keys c.begin.ensures.keeps
     (λ other.
     let bytes = drop c.args.at c.args.bytes.now in
     let value = with_none (field_at old.level identifier (entry_at d identifier.key) (own_bit old.walk.bits)) (λ (rest : List ℕ). Ok (Some (U32 c.in-Ok.id), rest)) bytes (drop c.in-Ok.next c.args.bytes.now) took.value in

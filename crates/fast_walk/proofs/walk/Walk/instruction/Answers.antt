@@ -1,11 +1,8 @@
 use Rattle.fast_walk.proofs.Common.{◌≡◌, ◌++◌, ◌∷◌, ◌-◌, [], Bool, true, false, List, None, drop, map, refl, sym, ap, ◌∙◌, arith, map_push, list_of, has_map, is_optional, after_bit, bit_for, single, no_elements, sequence_elements, Sequel, Waiting, at_element, at_instruction, at_mantissa, in_group, all_around, cursor, entered, moved, left_around, bare, frame_of, next_of}
 use Rattle.fast_walk.proofs.Steps.{exit_is}
-use Rattle.fast_walk.proofs.Pieces.{begins_served, count_stops, element_taken, first_stops, halts_at, is_field, is_group, is_parts, is_sequence, less_behind, less_opened, moves_on, opened_on, part_takes, reaches_on, stops_here}
+use Rattle.fast_walk.proofs.Pieces.{begins_served, count_stops, first_stops, halts_at, is_field, is_group, is_parts, is_sequence, less_behind, less_opened, moves_on, opened_on, part_takes, stops_here}
 use Rattle.fast_walk.proofs.Steps.{all_around-more, count_goes, group_on, length_on}
 use Rattle.fast_walk.proofs.Walking.{is_instruction, piece_on}
-use Rattle.fast_walk.specs.declared.walk.Next.{Next as NextNow}
-use Rattle.fast_walk.specs.declared.walk.Sequel.{Sequel as SequelNow}
-use Rattle.fast_walk.specs.declared.walk.Walk.{Walk as WalkNow}
 use Rattle.fast_walk.proofs.walk.Walk.instruction.Goals as goal
 
 pub returns-in_err-count-in-Field-clause-piece : goal.returns-in_err-count-in-Field-clause-piece
@@ -178,35 +175,14 @@ returns-then-left-eq0-clause-piece g c =
     (λ o next first had. ended.has (moved o (at_element s) (record { rest = others; done = o.body.done }) o.around) _ s refl c.if-left-eq0.true (took.1 c.in-Sequence.number members others o next first had))
     (λ done b k l h m. rw (h, m, c.if-left-eq0.true) refl)
 
-pub returns-in-None-first_map-clause-piece : goal.returns-in-None-first_map-clause-piece
-returns-in-None-first_map-clause-piece g c =
+pub returns-else-left-eq0-clause-piece : goal.returns-else-left-eq0-clause-piece
+returns-else-left-eq0-clause-piece g c =
     let begins = rw (is_sequence c.in-Sequence.members c.in-Sequence.is) at c.requires.first in
     let ok = c.in-Ok-begin_sequence.ensures in
     let took = rw (c.in-Some.is) at ok.goes in
     let members = list_of c.in-Sequence.members.items in
     let others = list_of c.args.others.now in
     let s : Sequel = record { number = c.in-Sequence.number; own_map = has_map members; members = members; left = c.in-Some.left; done = [] } in
-    part_takes (at_element s) (λ done. done) c.requires.walk begins c.in_ok-count-in-Sequence.ensures c.pass-in-None-first_map.ensures (rw (c.has_map-own_map-in-Some.ensures, c.deref-in-Some.ensures.value, c.deref-in-Some-2.ensures.value) refl) c.level-level.ensures c.part_needs_bit-needs-in-Sequence.ensures c.first_for-bit-in-Sequence.ensures
+    part_takes (at_element s) (λ done. done) c.requires.walk begins c.in_ok-count-in-Sequence.ensures c.pass-in-Some.ensures (rw (c.has_map-own_map-in-Some.ensures, c.deref-in-Some.ensures.value, c.deref-in-Some-2.ensures.value) refl) c.level-level.ensures c.part_needs_bit-needs-in-Sequence.ensures c.first_for-bit-in-Sequence.ensures
     refl (begins_served c.requires.walk begins).0.0.0.1 (λ k. omega (arith, c.type_inv.bytes k)) took.0 ok.awaits (rw (c.deref-in-Some-2.ensures.value) (begins_served c.requires.walk begins).0.1) ok.place (took.1 c.in-Sequence.number members others)
     (λ done b k l h m. rw (h, m) (length_on g.L.Leveled.at c.in-Sequence.number members others c.in-Some.left done l))
-
-pub returns-in_ok-open_first-in-Some-first_map-clause-piece : goal.returns-in_ok-open_first-in-Some-first_map-clause-piece
-returns-in_ok-open_first-in-Some-first_map-clause-piece g c =
-    let begins = rw (is_sequence c.in-Sequence.members c.in-Sequence.is) at c.requires.first in
-    let ok = c.in-Ok-begin_sequence.ensures in
-    let took = rw (c.in-Some.is) at ok.goes in
-    let members = list_of c.in-Sequence.members.items in
-    let others = list_of c.args.others.now in
-    let old = c.args.self.now in
-    let map = c.in-Some-first_map.ensures in
-    let enter = c.in_ok-enter_element-in-Some-first_map.ensures in
-    let s : Sequel = record { number = c.in-Sequence.number; own_map = has_map members; members = members; left = c.in-Some.left; done = [] } in
-    let elements : SequelNow = record { number = c.in-Sequence.number; own_map = c.has_map-own_map-in-Some.result; members = c.deref-in-Some-2.result; left = c.in-Some.left } in
-    -- behind the length, in front of the element
-    let v : WalkNow = record old { bits = after_bit c.part_needs_bit-needs-in-Sequence.result old.bits; spare = old.spare - 1; next = NextNow.Element elements; rest = c.args.others } in
-    let one = part_takes {v = v} (at_element s) (λ done. done) c.requires.walk begins c.in_ok-count-in-Sequence.ensures (record { bits = refl; spare = refl; next = refl; rest = refl; around = refl }) (rw (c.has_map-own_map-in-Some.ensures, c.deref-in-Some.ensures.value, c.deref-in-Some-2.ensures.value) refl) c.level-level.ensures c.part_needs_bit-needs-in-Sequence.ensures c.first_for-bit-in-Sequence.ensures
-    refl (begins_served c.requires.walk begins).0.0.0.1 (λ k. omega (arith, c.type_inv.bytes k)) took.0 ok.awaits (rw (c.deref-in-Some-2.ensures.value) (begins_served c.requires.walk begins).0.1) ok.place (took.1 c.in-Sequence.number members others)
-    (λ done b k l h m. rw (h, m) (length_on g.L.Leveled.at c.in-Sequence.number members others c.in-Some.left done l)) in
-    let two = element_taken {w = v} one.0.on refl (omega (arith, c.if-left-eq0.false)) (omega (arith, map.spare)) map.place c.in_ok-open_first-in-Some-first_map.ensures.opened
-    (rw (c.level-level.ensures) at map.goes _ v.bits (v.spare - 1)) map.map (λ q b o. enter.has q b o _) enter.awaits in
-    (reaches_on one.0 two.0, omega (arith, one.1, two.1))

@@ -1,4 +1,4 @@
-use Rattle.fast_walk.proofs.Common.{◌≡◌, ◌++◌, ◌-◌, [], Some, drop, map, refl, ap, ◌∙◌, arith, rules, map_push, nil_from_length, option_to_list, Option, Decimal, list_of, bytes_from, single, Sequel, Waiting, cursor, after_sequence, closed_in, passed, left_around, bare, frame_of, next_of, weight_of, Frame as FrameNow}
+use Rattle.fast_walk.proofs.Common.{◌≡◌, ◌++◌, ◌-◌, Some, drop, map, refl, ap, ◌∙◌, arith, rules, map_push, nil_from_length, option_to_list, Option, Decimal, list_of, bytes_from, single, Sequel, Waiting, cursor, after_sequence, closed_in, passed, left_around, bare, frame_of, next_of, weight_of, Frame as FrameNow}
 use Rattle.fast_walk.proofs.Steps.{exit_is}
 use Rattle.fast_walk.proofs.Pieces.{element_taken, fault_stops, part_on, part_took, stops_here}
 use Rattle.fast_walk.proofs.Steps.{count_goes}
