@@ -9,7 +9,7 @@ use Rattle.fast_stream.specs.declared.place.Place.{Place}
 use Rattle.fast_stream.specs.Modes.{FirstFault, messages_at}
 use Rattle.fast_stream.specs.Readers.{IsNextReader}
 use Rattle.fast_stream.proofs.ModeStreams.{continues, fault_is_read}
-use Rattle.fast_decoder.specs.Inputs.{RefusedBy}
+use Rattle.fast_machine.specs.Inputs.{RefusedBy}
 use Rattle.fast_canon.specs.Headline.{Call, IsAboutStream, Accepts, Refuses, stream_of}
 use Rattle.fast_canon.proofs.StreamLaws.{canonical_in_mode, same_exactly, stays}
 

@@ -5,7 +5,7 @@ use Rattle.fast_template.specs.Resolved.{Resolved}
 use Rattle.fast_stream.specs.declared.fault.Fault.{Fault}
 use Rattle.fast_stream.specs.declared.mode.Mode.{Mode}
 use Rattle.fast_stream.specs.Nodes.{Content}
-use Rattle.fast_decoder.specs.Inputs.{EndsWith}
+use Rattle.fast_machine.specs.Inputs.{EndsWith}
 use Rattle.fast_writer.specs.Canonical.{IsCanonical}
 use Rattle.fast_pass.specs.declared.fault.CanonFault.{CanonFault}
 use Rattle.fast_pass.specs.declared.summary.Summary.{Summary}

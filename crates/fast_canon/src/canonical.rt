@@ -2,7 +2,7 @@
 
 ghost use Rattle.std.specs.Prelude.{◌≡◌, ◌≢◌, ◌≤◌, ◌^◌, ℕ, List, Err};
 ghost use Rattle.fast_template.specs.TemplateSets.{IsSound, templates_in};
-ghost use Rattle.fast_decoder.specs.Inputs.{Reads, told_by};
+ghost use Rattle.fast_machine.specs.Inputs.{Reads, told_by};
 ghost use Rattle.fast_pass.specs.Passed.{FlushesOnce, IsCausedBy, errors_after};
 ghost use Rattle.fast_canon.specs.Canonicalised.{Canonicalises, Checks};
 

@@ -1,7 +1,7 @@
 -- What a command writes of a recording of packets, and what its run answers (our own).
 use Rattle.std.specs.Prelude.{◌≡◌, ◌⊎◌, ℕ, nat_eq, if◌then◌else◌, List, [], ◌++◌, codes, decimal, Result, Ok, Err}
 use Rattle.std.specs.Io.KnownBytes.{Appends}
-use Rattle.fast_decoder.specs.Inputs.{Reader}
+use Rattle.fast_machine.specs.Inputs.{Reader}
 use Rattle.fast_template.specs.TemplateSets.{TemplateList}
 use Rattle.fast_lines.specs.declared.form.Form.{Form}
 use Rattle.fast_recording.specs.Calls.{CanonicalisesPackets, ChecksPackets, ShowsPackets}

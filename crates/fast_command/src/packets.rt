@@ -2,7 +2,7 @@
 
 ghost use Rattle.std.specs.Prelude.{◌≡◌, ◌≤◌, ◌^◌, IfOk};
 ghost use Rattle.std.specs.String.{string_bytes};
-ghost use Rattle.fast_decoder.specs.Inputs.{told_by};
+ghost use Rattle.fast_machine.specs.Inputs.{told_by};
 ghost use Rattle.fast_recording.specs.Recorded.{FlushesOnce, outputs, tells_failed, writes_failed};
 ghost use Rattle.fast_command.specs.RunPackets.{RunsPackets, TellsPackets, accepted_line as accepted_line_lem, packets_line as packets_line_lem, refused_line as refused_line_lem};
 

@@ -1,7 +1,7 @@
 -- How a stream of messages goes on from call to call.
 use Rattle.fast_decoder.proofs.Common.{◌≡◌, ◌+◌, ◌++◌, ◌∙◌, ℕ, [], refl, arith, append_assoc, append-nil, Ghosts, MessageInputStream, Reached, IsSameStream, ReadsOn}
 use Rattle.fast_io.specs.declared.input.ByteInput.{Ghosts as Giving}
-use Rattle.fast_decoder.proofs.Inputs.{causes_none, causes_on, more_read, none_read}
+use Rattle.fast_machine.proofs.Inputs.{causes_none, causes_on, more_read, none_read}
 
 module _ {R E : Type 0} {input : Giving R} {entries : Ghosts E} where
   pub same_as : (s : MessageInputStream R E input entries) → IsSameStream s s

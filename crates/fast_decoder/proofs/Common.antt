@@ -36,7 +36,8 @@ pub use Rattle.fast_machine.specs.Standing.{Carried}
 pub use Rattle.fast_decoder.specs.Built.{IsBuilt, IsNextBuilt, with_whole}
 pub use Rattle.fast_decoder.specs.declared.builder.Builder.{Builder}
 pub use Rattle.fast_decoder.specs.Calls.{IsSameStream, ReadsOn, reader_of}
-pub use Rattle.fast_decoder.specs.Inputs.{Causes, Follows, HasReached, IsCaused, IsFaultOf, OnFault, Reader, Reads, RefusedBy, Refuses, Repeats, Stands, told_by, waiting_in}
+pub use Rattle.fast_machine.specs.Inputs.{Causes, HasReached, IsCaused, IsFaultOf, OnFault, Reader, Reads, RefusedBy, Refuses, told_by}
+pub use Rattle.fast_decoder.specs.Inputs.{Follows, Repeats, Stands, waiting_in}
 pub use Rattle.fast_decoder.specs.declared.decoder.Decoder.{Decoder}
 pub use Rattle.fast_decoder.specs.declared.input.MessageInputStream.{MessageInputStream}
-pub use Rattle.fast_decoder.specs.declared.input.Reached.{Reached}
+pub use Rattle.fast_machine.specs.declared.reached.Reached.{Reached}

@@ -8,7 +8,8 @@ use Rattle.fast_stream.specs.declared.message.Message.{Message}
 use Rattle.fast_stream.specs.Nodes.{Content}
 use Rattle.fast_machine.specs.Following.{mode_of}
 use Rattle.fast_decoder.specs.declared.input.MessageInputStream.{MessageInputStream}
-use Rattle.fast_decoder.specs.Inputs.{Causes, Reader, Reads, Stands, Tells, told_by}
+use Rattle.fast_machine.specs.Inputs.{Causes, Reader, Reads, told_by}
+use Rattle.fast_decoder.specs.Inputs.{Stands, Tells}
 
 -- what its reader tells
 abbrev pub reader_of : {R E : Type 0} {input : Giving R} {entries : Ghosts E} → MessageInputStream R E input entries → Reader

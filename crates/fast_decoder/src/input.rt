@@ -7,27 +7,19 @@ ghost use Rattle.fast_template.specs.TemplateSets.{templates_in};
 ghost use Rattle.fast_stream.specs.Nodes.{Content};
 ghost use Rattle.fast_walk.specs.Traversals.{ServesAll};
 ghost use Rattle.fast_machine.specs.Following.{mode_of};
-ghost use Rattle.fast_decoder.specs.Inputs.{Causes, Follows, HasReached, IsFaultOf, OnFault, Reads, Repeats, Stands, Tells, answered_in, told_by, waiting_in};
+ghost use Rattle.fast_decoder.specs.Inputs.{Follows, Repeats, Stands, Tells, answered_in, waiting_in};
+ghost use Rattle.fast_machine.specs.Inputs.{Causes, HasReached, IsFaultOf, OnFault, Reads, told_by};
 
 use crate::decoder::Decoder;
 use fast_dictionary::Entries;
 use fast_io::{ByteInput, Failed};
+use fast_machine::Reached;
 use fast_stream::{Cause, Fault, Message, Mode};
 use fast_template::TemplateSet;
 use std::alloc::Global;
 
 /// The most bytes that one read takes.
 const CHUNK: usize = 4096;
-
-/// How far a stream came.
-#[derive(Clone, Copy)]
-pub enum Reached {
-    /// More bytes may come.
-    Open,
-    /// The reader has ended, behind a message.
-    End,
-    Fault(Fault),
-}
 
 /// Reads messages from a reader, with a bounded number of reads.
 #[derive(Drop)]

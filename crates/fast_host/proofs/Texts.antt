@@ -1,8 +1,8 @@
 -- A text that is read.
 use Rattle.std.proofs.Common.{◌≡◌, ◌≤◌, ◌+◌, ℕ, List, [], length, append-nil, subst}
 use Rattle.fast_io.specs.declared.input.ByteInput.{Ghosts}
-use Rattle.fast_decoder.specs.Inputs.{Reader, Reads, reader_by}
-use Rattle.fast_decoder.proofs.Inputs.{more_read}
+use Rattle.fast_machine.specs.Inputs.{Reader, Reads, reader_by}
+use Rattle.fast_machine.proofs.Inputs.{more_read}
 
 abbrev pub reader_of : {R : Type 0} (input : Ghosts R) → R → Reader
 reader_of input r = reader_by input.left input.calls input.errors input.ends r

@@ -1,7 +1,7 @@
 -- What a writer and a source of inputs tell of themselves, as the contracts of the program see it.
 use Rattle.std.specs.Prelude.{◌≡◌, ℕ, List, Option, None, Some}
 use Rattle.fast_io.specs.Counts.{counted, counted_by}
-use Rattle.fast_decoder.specs.Inputs.{Reader}
+use Rattle.fast_machine.specs.Inputs.{Reader}
 
 -- the bytes taken where they are told, how many calls failed, and how many were flushes
 pub record Writer : Type 0 where

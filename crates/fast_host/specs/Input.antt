@@ -2,7 +2,7 @@
 use Rattle.std.specs.Prelude.{◌≡◌, ℕ, ◌+◌, ◌≤◌, List, length, Option}
 use Rattle.std.specs.Io.KnownBytes.{IsAtEnd}
 use Rattle.fast_io.specs.Counts.{counted}
-use Rattle.fast_decoder.specs.Inputs.{Reader}
+use Rattle.fast_machine.specs.Inputs.{Reader}
 use Rattle.fast_host.specs.declared.input.TextFault.{TextFault}
 use Rattle.fast_host.specs.declared.input.TextFault.TheVariants.{TooLong, Read, Turns, Memory}
 

@@ -1,7 +1,7 @@
 //! Reading a text whole.
 
 ghost use Rattle.std.specs.Prelude.{◌≡◌, ◌≤◌, ℕ, List, IfErr, IfOk, OnOk};
-ghost use Rattle.fast_decoder.specs.Inputs.{Reads, reader_by};
+ghost use Rattle.fast_machine.specs.Inputs.{Reads, reader_by};
 ghost use Rattle.fast_host.specs.Input.{GivesNoText, IsText};
 
 use fast_io::{ByteInput, Failed};

@@ -10,3 +10,4 @@ pub mod Lackings
 pub mod Ends
 pub mod Calls
 pub mod Progress
+pub mod Inputs

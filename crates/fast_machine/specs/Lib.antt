@@ -6,3 +6,4 @@ pub mod OneProof
 pub mod Ends
 pub mod Calls
 pub mod Progress
+pub mod Inputs

@@ -23,9 +23,9 @@ pub use Rattle.fast_machine.specs.Calls.{FollowsTaken, IsSameStream}
 pub use Rattle.fast_machine.specs.Following.{Follows, mode_of}
 pub use Rattle.fast_machine.specs.Standing.{Carried}
 pub use Rattle.fast_machine.specs.declared.machine.Machine.{Machine}
-pub use Rattle.fast_decoder.proofs.Inputs.{caused_by_end, caused_by_feed, caused_by_read, caused_by_turns, causes_on, causes_weaker, empty_read, failed_read, more_read, none_read, of_bytes, one_read, reached_carried, reached_with, refused_by_bytes, refused_by_read, refused_by_turns}
-pub use Rattle.fast_decoder.specs.Inputs.{IsCaused, Reader, Reads, Refuses, told_by}
-pub use Rattle.fast_decoder.specs.declared.input.Reached.{Reached}
+pub use Rattle.fast_machine.proofs.Inputs.{caused_by_end, caused_by_feed, caused_by_read, caused_by_turns, causes_on, causes_weaker, empty_read, failed_read, more_read, none_read, of_bytes, one_read, reached_carried, reached_with, refused_by_bytes, refused_by_read, refused_by_turns}
+pub use Rattle.fast_machine.specs.Inputs.{IsCaused, Reader, Reads, Refuses, told_by}
+pub use Rattle.fast_machine.specs.declared.reached.Reached.{Reached}
 pub use Rattle.fast_pass.specs.Passed.{Passes, PassesBy, PassesFront}
 pub use Rattle.fast_pass.specs.Relays.{Break, Goes, GoesOn, HandsOn, HasMade, IsOfBytes, Making, Relays, StandsStill, Step, Way, answer_of, farther, handing, outset}
 pub use Rattle.fast_pass.specs.declared.fault.CanonFault.{CanonFault}

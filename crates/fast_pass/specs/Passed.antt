@@ -6,8 +6,8 @@ use Rattle.fast_stream.specs.declared.fault.Fault.{Fault}
 use Rattle.fast_stream.specs.declared.mode.Mode.{Mode}
 use Rattle.fast_stream.specs.Nodes.{Content}
 use Rattle.fast_io.specs.Counts.{counted, counted_by}
-use Rattle.fast_decoder.specs.declared.input.Reached.{Reached}
-use Rattle.fast_decoder.specs.Inputs.{EndsWith, IsCaused, Reader, Reads, Refuses}
+use Rattle.fast_machine.specs.declared.reached.Reached.{Reached}
+use Rattle.fast_machine.specs.Inputs.{EndsWith, IsCaused, Reader, Reads, Refuses}
 use Rattle.fast_machine.specs.Standing.{Carried}
 use Rattle.fast_pass.specs.declared.fault.CanonFault.{CanonFault}
 use Rattle.fast_pass.specs.declared.summary.Summary.{Summary}

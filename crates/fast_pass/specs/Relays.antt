@@ -7,7 +7,7 @@ use Rattle.fast_template.specs.Resolved.{Resolved}
 use Rattle.fast_template.specs.TemplateSets.{templates_in}
 use Rattle.fast_dictionary.specs.Dictionary.{Dictionary}
 use Rattle.fast_dictionary.specs.declared.entries.Entries.{Ghosts}
-use Rattle.fast_decoder.specs.declared.input.Reached.{Reached}
+use Rattle.fast_machine.specs.declared.reached.Reached.{Reached}
 use Rattle.fast_machine.specs.declared.machine.Machine.{Machine}
 use Rattle.fast_walk.specs.declared.receiver.Receiver.{Ghosts as Receiving}
 use Rattle.fast_stream.specs.Nodes.{Content}
@@ -17,7 +17,7 @@ use Rattle.fast_stream.specs.declared.mode.Mode.{Mode}
 use Rattle.fast_machine.specs.Calls.{IsSameStream}
 use Rattle.fast_machine.specs.Following.{Counts, Follows, mode_of}
 use Rattle.fast_machine.specs.Progress.{HasRefused}
-use Rattle.fast_decoder.specs.Inputs.{HasReached, OnFault}
+use Rattle.fast_machine.specs.Inputs.{HasReached, OnFault}
 use Rattle.fast_machine.specs.Standing.{Carried}
 use Rattle.fast_walk.specs.Received.{handed_on}
 use Rattle.fast_pass.specs.declared.fault.CanonFault.{CanonFault}

@@ -2,7 +2,7 @@
 use Rattle.std.proofs.Common.{Bool, false, List, ℕ, [], ◌∷◌, ◌++◌, ◌+◌, ◌≡◌, ◌≢◌, inl, inr, Option, Some, None, Result, Ok, Err, length, map, refl, sym, subst, append-nil}
 use Rattle.std.specs.Io.KnownBytes.{Keeps}
 use Rattle.fast_io.proofs.Outputs.{Appends-kept}
-use Rattle.fast_decoder.specs.Inputs.{Reader}
+use Rattle.fast_machine.specs.Inputs.{Reader}
 use Rattle.fast_wire.specs.declared.level.Level.{Level}
 use Rattle.fast_template.specs.Resolved.{Resolved}
 use Rattle.fast_stream.specs.declared.fault.Cause.{Cause}

@@ -19,7 +19,7 @@ use Rattle.fast_walk.specs.declared.receiver.Receiver.{Ghosts as Receiving}
 use Rattle.fast_machine.proofs.Followings.{has_kept}
 use Rattle.fast_machine.specs.Following.{Follows, mode_of}
 use Rattle.fast_machine.specs.declared.machine.Machine.{Machine}
-use Rattle.fast_decoder.specs.declared.input.Reached.{Reached}
+use Rattle.fast_machine.specs.declared.reached.Reached.{Reached}
 use Rattle.fast_pass.proofs.Relayings.{IsMade, goes_on}
 use Rattle.fast_pass.specs.Relays.{HandsOn, HasMade, Making, Relays, Way, outset}
 use Rattle.fast_pass.specs.declared.stop.Stop.{Stop}

@@ -1,7 +1,7 @@
 -- Lemmas on the reads of a recording.
 use Rattle.std.proofs.Common.{List, ℕ, ◌++◌, ◌+◌, ◌*◌, ◌<◌, ◌≤◌, ◌^◌, ◌≡◌, ◌≢◌, ◌⊎◌, inl, inr, length, sym, ap, subst, ◌∙◌, arith, length-append}
 use Rattle.fast_io.specs.Counts.{counted}
-use Rattle.fast_decoder.specs.Inputs.{Reader}
+use Rattle.fast_machine.specs.Inputs.{Reader}
 use Rattle.fast_stream.specs.declared.fault.Cause.{Cause}
 use Rattle.fast_recording.specs.Passing.{AreFew, IsEnd}
 use Rattle.fast_recording.specs.Recorded.{HasEnded, HasFailed, IsOpen}

@@ -14,7 +14,7 @@ use Rattle.fast_stream.specs.Faults.{place_between}
 use Rattle.fast_stream.specs.Modes.{Carries, EndsBetween, FirstFault, StreamReading, messages_at, plainly, stream_at}
 use Rattle.fast_stream.proofs.ModeStreams.{carried_is_read, continues, fault_is_read}
 use Rattle.fast_machine.specs.Standing.{Carried}
-use Rattle.fast_decoder.specs.Inputs.{RefusedBy, Refuses}
+use Rattle.fast_machine.specs.Inputs.{RefusedBy, Refuses}
 use Rattle.fast_packets.specs.Outcomes.{Stops}
 use Rattle.fast_packets.proofs.Readers.{packet_reader}
 use Rattle.fast_recording.specs.Packets.{FaultOf, IsMissing}

@@ -14,7 +14,7 @@ use Rattle.fast_walk.specs.declared.receiver.Receiver.{Ghosts as Receiving}
 use Rattle.fast_machine.specs.Calls.{IsSameStream}
 use Rattle.fast_machine.specs.Standing.{Carried}
 use Rattle.fast_machine.specs.declared.machine.Machine.{Machine}
-use Rattle.fast_decoder.specs.declared.input.Reached.{Reached}
+use Rattle.fast_machine.specs.declared.reached.Reached.{Reached}
 use Rattle.fast_pass.specs.Relays.{Making, Step, Way, outset}
 use Rattle.fast_stream.specs.Blocks.{at_start}
 use Rattle.fast_recording.specs.Handing.{BreakInLines, WritesFront}

@@ -1,7 +1,7 @@
 -- What is answered and written of a recording by each call.
 use Rattle.std.specs.Prelude.{◌≡◌, ◌≤◌, ◌⊎◌, ℕ, Bool, true, false, List, [], length, map, Option, Some, None, Result, Ok, Err}
 use Rattle.std.specs.Io.KnownBytes.{Appends}
-use Rattle.fast_decoder.specs.Inputs.{Reader, Reads}
+use Rattle.fast_machine.specs.Inputs.{Reader, Reads}
 use Rattle.fast_wire.specs.declared.level.Level.{Level}
 use Rattle.fast_template.specs.TemplateSets.{TemplateList, templates_in}
 use Rattle.fast_stream.specs.declared.fault.Cause.{Cause}

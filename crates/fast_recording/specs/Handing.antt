@@ -7,7 +7,7 @@ use Rattle.fast_dictionary.specs.declared.entries.Entries.{Ghosts}
 use Rattle.fast_walk.specs.declared.receiver.Receiver.{Ghosts as Receiving}
 use Rattle.fast_machine.specs.declared.machine.Machine.{Machine}
 use Rattle.fast_machine.specs.Following.{mode_of}
-use Rattle.fast_decoder.specs.declared.input.Reached.{Reached}
+use Rattle.fast_machine.specs.declared.reached.Reached.{Reached}
 use Rattle.fast_pass.specs.declared.stop.Stop.{Stop}
 use Rattle.fast_pass.specs.Relays.{Break, HandsOn, Making, Relays, Step, Way}
 use Rattle.fast_recording.specs.PacketLines.{Writes, written_by}

@@ -15,7 +15,7 @@ use Rattle.fast_stream.specs.Modes.{Carries, plainly}
 use Rattle.fast_walk.specs.declared.receiver.Receiver.{Ghosts as Receiving}
 use Rattle.fast_machine.specs.declared.machine.Machine.{Machine}
 use Rattle.fast_machine.specs.Standing.{Carried}
-use Rattle.fast_decoder.specs.declared.input.Reached.{Reached}
+use Rattle.fast_machine.specs.declared.reached.Reached.{Reached}
 use Rattle.fast_pass.specs.declared.stop.Stop.{Stop}
 use Rattle.fast_pass.specs.Relays.{HasMade, IsOfBytes, Making, Way, handing, outset}
 use Rattle.fast_packets.specs.Outcomes.{Stops}

@@ -2,7 +2,7 @@
 use Rattle.std.specs.Prelude.{◌≡◌, ◌≢◌, ◌≤◌, ◌<◌, ◌⊎◌, ◌^◌, ℕ, ◌+◌, Bool, true, false, List, [], ◌∷◌, ◌++◌, length, take, drop, Option, Some, None, Result, Ok, Err}
 use Rattle.std.specs.declared.alloc.AllocError.{AllocError}
 use Rattle.fast_io.specs.Counts.{counted}
-use Rattle.fast_decoder.specs.Inputs.{Reader, Reads}
+use Rattle.fast_machine.specs.Inputs.{Reader, Reads}
 use Rattle.fast_wire.specs.declared.level.Level.{Level}
 use Rattle.fast_template.specs.Resolved.{Resolved}
 use Rattle.fast_template.specs.TemplateSets.{IsSound}

@@ -10,7 +10,7 @@ use Rattle.fast_stream.specs.declared.place.Place.{Place}
 use Rattle.fast_stream.specs.Blocks.{IsSize}
 use Rattle.fast_stream.specs.Modes.{plainly}
 use Rattle.fast_io.specs.Counts.{counted, counted_by}
-use Rattle.fast_decoder.specs.Inputs.{Reader, Reads}
+use Rattle.fast_machine.specs.Inputs.{Reader, Reads}
 use Rattle.fast_machine.specs.Standing.{Carried}
 use Rattle.fast_packets.specs.Outcomes.{Outcome, Outcomes, accepted, refusal_in, refused, size_place, sizeless}
 use Rattle.fast_packets.specs.Recordings.{packet_limit}

@@ -1,7 +1,7 @@
 //! What is done with a recording.
 
 ghost use Rattle.std.specs.Prelude.{◌≡◌, ◌≢◌, ◌≤◌, ◌^◌, Err, IfOk};
-ghost use Rattle.fast_decoder.specs.Inputs.{told_by};
+ghost use Rattle.fast_machine.specs.Inputs.{told_by};
 ghost use Rattle.fast_template.specs.TemplateSets.{templates_in};
 ghost use Rattle.fast_recording.specs.Calls.{CanonicalisesPackets, ChecksPackets, ShowsPackets, WritesLines, is_numbered};
 ghost use Rattle.fast_recording.specs.Recorded.{FlushesOnce, RecordsBy, outputs, tells_failed, writes_failed};

@@ -6,10 +6,9 @@ ghost use Rattle.fast_machine.specs.Calls.{IsSameStream};
 ghost use Rattle.fast_recording.specs.Handing.{GoesInLines, HandsLines};
 
 use crate::packet_lines::PacketLines;
-use fast_decoder::Reached;
 use fast_dictionary::Entries;
 use fast_io::ByteOutput;
-use fast_machine::Machine;
+use fast_machine::{Machine, Reached};
 use fast_pass::Stop;
 use fast_walk::Output;
 use std::alloc::Global;

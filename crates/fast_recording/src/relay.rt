@@ -4,7 +4,7 @@ ghost use Rattle.std.specs.Prelude.{◌≡◌, ◌≢◌, ◌≤◌, ◌^◌, �
 ghost use Rattle.std.specs.FinMap as finite;
 ghost use Rattle.fast_template.specs.TemplateSets.{IsSound, templates_in};
 ghost use Rattle.fast_walk.specs.Received.{handed_on};
-ghost use Rattle.fast_decoder.specs.Inputs.{told_by};
+ghost use Rattle.fast_machine.specs.Inputs.{told_by};
 ghost use Rattle.fast_pass.specs.Relays.{errors_behind};
 ghost use Rattle.fast_machine.specs.Calls.{IsSameStream};
 ghost use Rattle.fast_recording.specs.Begins.{IsOpenAt, IsPacketAt, IsPartAt};

@@ -7,7 +7,7 @@ pub use Rattle.fast_io.specs.Counts.{counted, counted_by}
 pub use Rattle.fast_io.specs.Traffic.{CountsError, Taken}
 pub use Rattle.fast_io.specs.declared.input.Failed.{Failed}
 pub use Rattle.fast_stream.specs.declared.fault.Fault.{Fault}
-pub use Rattle.fast_decoder.specs.Inputs.{Reader, Reads, reader_by}
+pub use Rattle.fast_machine.specs.Inputs.{Reader, Reads, reader_by}
 pub use Rattle.fast_pass.specs.declared.fault.CanonFault.{CanonFault}
 pub use Rattle.fast_template.specs.TemplateSets.{TemplateList}
 pub use Rattle.fast_host.specs.Devices.{Inputs, IsReadFrom, IsUnopened, Writer, input_of, inputs_by, writer_by}

@@ -11,7 +11,7 @@ use Rattle.fast_load.specs.JsonLoads.{IsNoText, Loads}
 use Rattle.fast_written.specs.JsonTemplates.{templates_of}
 use Rattle.fast_template.specs.TemplateSets.{TemplateList}
 use Rattle.fast_written.specs.declared.fault.LoadFault.{LoadFault}
-use Rattle.fast_decoder.specs.Inputs.{Reader, Reads}
+use Rattle.fast_machine.specs.Inputs.{Reader, Reads}
 use Rattle.fast_pass.specs.Passed.{FlushesOnce, IsCausedBy, errors_after}
 use Rattle.fast_pass.specs.declared.fault.CanonFault.{CanonFault}
 use Rattle.fast_pass.specs.declared.summary.Summary.{Summary}

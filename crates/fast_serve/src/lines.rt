@@ -2,7 +2,7 @@
 
 ghost use Rattle.std.specs.Prelude.{◌≡◌, ◌≤◌, ◌^◌, IfOk};
 ghost use Rattle.std.specs.String.{string_bytes};
-ghost use Rattle.fast_decoder.specs.Inputs.{told_by};
+ghost use Rattle.fast_machine.specs.Inputs.{told_by};
 ghost use Rattle.fast_host.specs.Devices.{writer_by};
 ghost use Rattle.fast_serve.specs.Lines.{IsLineOrMemory, IsOfWriting, form_by as form_by_lem, line_cause_of, line_text_of, message_cause_of, message_text_of};
 ghost use Rattle.fast_serve.specs.Served.{RunsLines, RunsPacketLines};

@@ -2,7 +2,7 @@
 
 ghost use Rattle.std.specs.Prelude.{◌≡◌, ◌≤◌, ◌^◌, IfOk, Ok};
 ghost use Rattle.std.specs.String.{string_bytes};
-ghost use Rattle.fast_decoder.specs.Inputs.{told_by};
+ghost use Rattle.fast_machine.specs.Inputs.{told_by};
 ghost use Rattle.fast_host.specs.Devices.{writer_by};
 ghost use Rattle.fast_recording.specs.Told.{place_words_of, refused_line_of};
 ghost use Rattle.fast_serve.specs.Packets.{IsOfPacket, IsOfRecording, ended_of};

@@ -1,7 +1,7 @@
 //! The program as a call: from a command line, files and streams to the exit status.
 
 ghost use Rattle.std.specs.Prelude.{◌≡◌, ◌≢◌, ◌≤◌, ◌⊎◌, ◌^◌, ◌++◌, ℕ, List, None, Ok, Err, IfErr, IfOk, OnOk, map, option_map, string_bytes};
-ghost use Rattle.fast_decoder.specs.Inputs.{reader_by};
+ghost use Rattle.fast_machine.specs.Inputs.{reader_by};
 ghost use Rattle.fast_template.specs.TemplateSets.{TemplateList};
 ghost use Rattle.fast_host.specs.Devices.{Writer, input_of, inputs_by, writer_by};
 ghost use Rattle.fast_host.specs.Refusals.{status_of, text_of};

@@ -9,7 +9,7 @@ use Rattle.fast_stream.specs.declared.fault.Cause.{Cause}
 use Rattle.fast_stream.specs.declared.fault.Fault.{Fault}
 use Rattle.fast_stream.specs.declared.place.Place.{Place}
 use Rattle.fast_stream.specs.Nodes.{Content}
-use Rattle.fast_decoder.specs.Inputs.{Reader, Reads}
+use Rattle.fast_machine.specs.Inputs.{Reader, Reads}
 use Rattle.fast_packets.specs.Outcomes.{FirstRefusal, Outcome, Outcomes, accepted, refusal_in, refused, sizeless}
 use Rattle.fast_packets.specs.Recordings.{CarriesPackets}
 use Rattle.fast_stream.specs.Modes.{plainly}

@@ -16,7 +16,7 @@ use Rattle.fast_stream.proofs.ModeReaders.{next_reader}
 use Rattle.fast_stream.proofs.ModeStreams.{fault_stays}
 use Rattle.fast_machine.specs.Standing.{Carried}
 use Rattle.fast_machine.proofs.Followings.{all_carried}
-use Rattle.fast_decoder.specs.Inputs.{Reader, RefusedBy, Refuses}
+use Rattle.fast_machine.specs.Inputs.{Reader, RefusedBy, Refuses}
 use Rattle.fast_writer.specs.Canonical.{IsCanonical}
 use Rattle.fast_pass.specs.Passed.{IsCausedBy, Passes, PassesFront}
 use Rattle.fast_canon.specs.Canonicalised.{Canonicalises, Checks}

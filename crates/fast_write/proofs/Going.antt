@@ -13,8 +13,8 @@ use Rattle.fast_spelled.specs.declared.fault.LineCause.TheVariants.{Limit}
 use Rattle.fast_write.specs.declared.fault.WriteFault.{WriteFault}
 use Rattle.fast_write.specs.declared.fault.WriteFault.TheVariants as refusal
 use Rattle.fast_write.specs.declared.summary.WrittenSummary.{WrittenSummary}
-use Rattle.fast_decoder.specs.Inputs.{Reader, Reads}
-use Rattle.fast_decoder.proofs.Inputs.{more_read}
+use Rattle.fast_machine.specs.Inputs.{Reader, Reads}
+use Rattle.fast_machine.proofs.Inputs.{more_read}
 use Rattle.fast_write.specs.Written.{HasEnded, IsCauseOf, IsCausedBy, IsShort, MayFollow, is_no_feed, line_limit, size_of}
 use Rattle.fast_template.specs.TemplateSets.{TemplateList}
 use Rattle.fast_dictionary.specs.Dictionary.{Dictionary}

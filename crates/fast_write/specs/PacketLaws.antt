@@ -1,7 +1,7 @@
 -- The lines of packets, written again (our own).
 use Rattle.std.specs.Prelude.{◌≡◌, ◌<◌, ◌≤◌, ◌^◌, ◌+◌, ℕ, List, [], ◌∷◌, ◌++◌, length, Option, Some, Result, Ok}
 use Rattle.fast_template.specs.TemplateSets.{TemplateList, templates_in}
-use Rattle.fast_decoder.specs.Inputs.{Reader}
+use Rattle.fast_machine.specs.Inputs.{Reader}
 use Rattle.fast_stream.specs.Nodes.{Content}
 use Rattle.fast_lines.specs.declared.form.Form.TheVariants.{Json}
 use Rattle.fast_lines.specs.Lines.{lines_in}

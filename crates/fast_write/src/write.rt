@@ -2,7 +2,7 @@
 
 ghost use Rattle.std.specs.Prelude.{◌≡◌, ◌≤◌, ◌^◌, ℕ, Bool, List, Option, [], false};
 ghost use Rattle.fast_template.specs.TemplateSets.{TemplateList};
-ghost use Rattle.fast_decoder.specs.Inputs.{Reads, told_by};
+ghost use Rattle.fast_machine.specs.Inputs.{Reads, told_by};
 ghost use Rattle.fast_write.specs.Written.{FlushesOnce, IsCausedBy, Writes, errors_behind, errors_by};
 ghost use Rattle.fast_write.specs.declared.fault.WriteFault.TheVariants as refusal;
 ghost use Rattle.fast_write.specs.Packets.{FlushesIn, WritesPackets};

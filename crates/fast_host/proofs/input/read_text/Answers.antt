@@ -1,8 +1,8 @@
 use Rattle.std.proofs.Common.{◌<◌, ◌+◌, ◌++◌, ◌∙◌, List, ℕ, length, drop, take, ap, arith, length-append, length-take, refl, subst, sym}
 use Rattle.std.proofs.lemmas.List.{take-append-le}
 use Rattle.fast_io.specs.Counts.{counted}
-use Rattle.fast_decoder.specs.Inputs.{Reads}
-use Rattle.fast_decoder.proofs.Inputs.{empty_read, failed_read, more_read, none_read, one_read}
+use Rattle.fast_machine.specs.Inputs.{Reads}
+use Rattle.fast_machine.proofs.Inputs.{empty_read, failed_read, more_read, none_read, one_read}
 use Rattle.fast_host.proofs.Texts.{ended, reader_of}
 use Rattle.fast_host.proofs.input.read_text.Goals as goal
 

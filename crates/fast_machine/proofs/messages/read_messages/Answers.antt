@@ -51,7 +51,6 @@ messages-preserved g c =
     let other = c.if-at-bytes.false in
     let one = k.ensures.least none in
     let few = l.invariant.few in
-    let most = begun_most l.traversal.stage in
     record {
       place = place;
       some = inl (omega (arith, size, place, other));

@@ -1,5 +1,5 @@
 use Rattle.std.proofs.Common.{◌≡◌, ◌≤◌, ℕ, length, arith, sym}
-use Rattle.fast_decoder.specs.Inputs.{told_by}
+use Rattle.fast_machine.specs.Inputs.{told_by}
 use Rattle.fast_io.specs.Counts.{counted_by}
 use Rattle.fast_recording.specs.Recorded.{IsUsedUp, by_reader}
 use Rattle.fast_recording.proofs.Canonicals.{canonicalised_by}

@@ -1,5 +1,5 @@
 use Rattle.std.proofs.Common.{false}
-use Rattle.fast_decoder.specs.Inputs.{told_by}
+use Rattle.fast_machine.specs.Inputs.{told_by}
 use Rattle.fast_template.specs.TemplateSets.{templates_in}
 use Rattle.fast_recording.specs.Calls.{WritesLines, is_numbered}
 use Rattle.fast_recording.specs.Made.{WritesMade, numbering_of}

@@ -3,7 +3,7 @@ use Rattle.fast_template.specs.TemplateSets.{templates_in}
 use Rattle.fast_walk.specs.Received.{handed_on}
 use Rattle.fast_machine.specs.Following.{mode_of}
 use Rattle.fast_machine.proofs.Followings.{follows_behind}
-use Rattle.fast_decoder.proofs.Inputs.{reached_with}
+use Rattle.fast_machine.proofs.Inputs.{reached_with}
 use Rattle.fast_pass.specs.Relays.{GoesOn, handing}
 use Rattle.fast_recording.proofs.Handings.{front_fails}
 use Rattle.fast_recording.proofs.Labels.{part_of_all, writes_none, writes_on}

@@ -3,7 +3,7 @@ use Rattle.std.proofs.lemmas.List.{take_all, take_rest}
 use Rattle.std.proofs.lemmas.Result.{err_from_is_err_and}
 use Rattle.fast_walk.specs.Received.{handed_on}
 use Rattle.fast_machine.proofs.Calls.{same_on}
-use Rattle.fast_decoder.proofs.Inputs.{of_bytes, refused_by_bytes}
+use Rattle.fast_machine.proofs.Inputs.{of_bytes, refused_by_bytes}
 use Rattle.fast_pass.proofs.Relayings.{behind, breaks, feeds_on, hands_on, reads_on, stays, stops}
 use Rattle.fast_recording.proofs.Handings.{hands_at, would_hand}
 use Rattle.fast_recording.proofs.Labels.{part_on, writes_none, writes_on}

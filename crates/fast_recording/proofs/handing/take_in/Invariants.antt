@@ -1,5 +1,5 @@
 use Rattle.std.proofs.Common.{◌≡◌, ◌≤◌, ◌-◌, ◌+◌, ℕ, List, Option, None, Ok, length, take}
-use Rattle.fast_decoder.specs.declared.input.Reached.{Reached}
+use Rattle.fast_machine.specs.declared.reached.Reached.{Reached}
 use Rattle.fast_machine.specs.Calls.{IsSameStream}
 use Rattle.fast_pass.specs.Relays.{IsOfBytes}
 use Rattle.fast_recording.specs.Handing.{GoesInLines}

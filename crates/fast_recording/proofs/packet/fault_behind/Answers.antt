@@ -6,7 +6,7 @@ use Rattle.fast_stream.specs.declared.mode.Mode.{Mode}
 use Rattle.fast_stream.specs.Modes.{Carries, FirstFault, plainly}
 use Rattle.fast_walk.specs.Received.{handed_on}
 use Rattle.fast_machine.specs.Following.{IsCutAt, Refused}
-use Rattle.fast_decoder.specs.Inputs.{Refuses}
+use Rattle.fast_machine.specs.Inputs.{Refuses}
 use Rattle.fast_recording.proofs.Machines.{has_of, is_none, is_open, made_of, plain_mode}
 use Rattle.fast_recording.proofs.Streams.{fault_of_bytes, missing_of, stops_of}
 use Rattle.fast_recording.proofs.packet.fault_behind.Goals as goal

@@ -2,7 +2,7 @@ use Rattle.std.proofs.Common.{[], ◌∷◌, refl, sym, ◌∙◌}
 use Rattle.std.proofs.lemmas.Bool.{false≢true}
 use Rattle.std.proofs.lemmas.Result.{MatchResult-weaker}
 use Rattle.fast_walk.specs.Received.{handed_on}
-use Rattle.fast_decoder.proofs.Inputs.{of_bytes, refused_by_bytes}
+use Rattle.fast_machine.proofs.Inputs.{of_bytes, refused_by_bytes}
 use Rattle.fast_pass.proofs.Relayings.{goes_on, stops}
 use Rattle.fast_pass.specs.Relays.{farther, outset}
 use Rattle.fast_recording.proofs.Labels.{writes_none}

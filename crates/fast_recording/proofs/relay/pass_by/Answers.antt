@@ -1,5 +1,5 @@
 use Rattle.std.proofs.Common.{refl}
-use Rattle.fast_decoder.specs.Inputs.{told_by}
+use Rattle.fast_machine.specs.Inputs.{told_by}
 use Rattle.fast_template.specs.TemplateSets.{templates_in}
 use Rattle.fast_recording.specs.Made.{WritesMade, numbering_of}
 use Rattle.fast_recording.specs.Recorded.{IsUsedUp, by_reader, outputs}

@@ -1,6 +1,6 @@
 use Rattle.std.proofs.Common.{[], arith, inr}
 use Rattle.std.specs.FinMap as finite
-use Rattle.fast_decoder.proofs.Inputs.{none_read}
+use Rattle.fast_machine.proofs.Inputs.{none_read}
 use Rattle.fast_template.specs.TemplateSets.{templates_in}
 use Rattle.fast_pass.specs.Relays.{outset}
 use Rattle.fast_recording.specs.Made.{WritesMade, numbering_of}

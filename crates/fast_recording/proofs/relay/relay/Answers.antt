@@ -1,7 +1,7 @@
 use Rattle.std.proofs.Common.{◌≡◌, ◌++◌, ◌+◌, ◌≤◌, ◌∙◌, List, ℕ, Some, None, arith, drop, take, length, ap, sym, append-nil, append_assoc, take-append-drop}
 use Rattle.std.proofs.lemmas.Result.{err_from_is_err_and}
-use Rattle.fast_decoder.proofs.Inputs.{more_read}
-use Rattle.fast_decoder.specs.Inputs.{Reads, told_by}
+use Rattle.fast_machine.proofs.Inputs.{more_read}
+use Rattle.fast_machine.specs.Inputs.{Reads, told_by}
 use Rattle.fast_stream.specs.declared.fault.Cause.{Cause}
 use Rattle.fast_template.specs.TemplateSets.{templates_in}
 use Rattle.fast_machine.proofs.Calls.{same_on}

@@ -1,6 +1,6 @@
 use Rattle.std.proofs.Common.{◌≡◌, ◌≤◌, ◌-◌, ℕ, List, ◌++◌, length}
 use Rattle.fast_template.specs.TemplateSets.{templates_in}
-use Rattle.fast_decoder.specs.Inputs.{Reads, told_by}
+use Rattle.fast_machine.specs.Inputs.{Reads, told_by}
 use Rattle.fast_machine.specs.Calls.{IsSameStream}
 use Rattle.fast_recording.specs.Begins.{IsOpenAt}
 use Rattle.fast_recording.specs.Faults.{IsUntold}

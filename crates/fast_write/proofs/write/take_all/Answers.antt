@@ -1,6 +1,6 @@
 use Rattle.std.proofs.Common.{◌≡◌, ◌+◌, ◌<◌, ◌++◌, ◌∙◌, [], None, length, take, refl, ap, arith}
 use Rattle.fast_io.specs.Counts.{counted}
-use Rattle.fast_decoder.proofs.Inputs.{empty_read, failed_read, more_read, none_read, one_read}
+use Rattle.fast_machine.proofs.Inputs.{empty_read, failed_read, more_read, none_read, one_read}
 use Rattle.fast_write.specs.Ways.{Here, here}
 use Rattle.fast_write.proofs.Going.{caused_by_end, caused_by_line, goes_handed, more_none, read_stops, write_stops}
 use Rattle.fast_write.proofs.OneLine.{of_write}

@@ -1,5 +1,5 @@
 use Rattle.std.proofs.Common.{◌≡◌, ◌≤◌, ◌-◌, ℕ, List, [], Option, length}
-use Rattle.fast_decoder.specs.Inputs.{Reads, told_by}
+use Rattle.fast_machine.specs.Inputs.{Reads, told_by}
 use Rattle.fast_write.specs.Ways.{GoesOn, IsSameWay, here}
 use Rattle.fast_write.proofs.write.take_all.Given as goal
 

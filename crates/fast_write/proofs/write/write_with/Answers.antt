@@ -1,5 +1,5 @@
 use Rattle.std.proofs.Common.{[], Err, refl, arith, ◌∙◌, subst}
-use Rattle.fast_decoder.proofs.Inputs.{none_read}
+use Rattle.fast_machine.proofs.Inputs.{none_read}
 use Rattle.fast_write.specs.declared.fault.WriteFault.TheVariants as refusal
 use Rattle.fast_write.specs.Written.{FlushesOnce}
 use Rattle.fast_write.specs.Ways.{here}

@@ -1,5 +1,5 @@
 use Rattle.std.proofs.Common.{[], arith, append-nil}
-use Rattle.fast_decoder.proofs.Inputs.{refused_by_turns}
+use Rattle.fast_machine.proofs.Inputs.{refused_by_turns}
 use Rattle.fast_decoder.proofs.input.MessageInputStream.outcome.Goals as goal
 
 pub returns-in-End-clause-tells : goal.returns-in-End-clause-tells

@@ -1,6 +1,7 @@
 use Rattle.fast_decoder.proofs.Common.{◌≡◌, ◌++◌, ◌+◌, length, refl, sym, ap, ◌∙◌, rules, append-nil, nil_from_length}
 use Rattle.fast_decoder.proofs.Calls.{reads_none, reads_on, same_as, same_on}
-use Rattle.fast_decoder.proofs.Inputs.{causes_end, causes_weaker, stands_popped}
+use Rattle.fast_machine.proofs.Inputs.{causes_end, causes_weaker}
+use Rattle.fast_decoder.proofs.Inputs.{stands_popped}
 use Rattle.fast_decoder.proofs.input.MessageInputStream.read_message.Goals as goal
 
 pub reads-init : goal.reads-init

@@ -1,5 +1,6 @@
 use Rattle.fast_decoder.proofs.Common.{Reached, ℕ, ◌<◌, ◌++◌, [], take, refl, arith, append-nil, length-append, length-take, reader_of, told_by, waiting_in}
-use Rattle.fast_decoder.proofs.Inputs.{caused_by_end, caused_by_feed, caused_by_read, empty_read, failed_read, of_bytes, one_read, pushed_waits, refused_by_bytes, refused_by_read}
+use Rattle.fast_machine.proofs.Inputs.{caused_by_end, caused_by_feed, caused_by_read, empty_read, failed_read, of_bytes, one_read, refused_by_bytes, refused_by_read}
+use Rattle.fast_decoder.proofs.Inputs.{pushed_waits}
 use Rattle.fast_decoder.proofs.input.MessageInputStream.read_on.Goals as goal
 
 pub returns-in-Ok-finish-clause-reads : goal.returns-in-Ok-finish-clause-reads
